@@ -1,0 +1,6 @@
+pub mod NumberLemmas
+pub mod LengthLemmas
+pub mod FrontLemmas
+pub mod ReadingLemmas
+pub mod WritingLemmas
+pub mod MarksLemmas

@@ -1,0 +1,5 @@
+use Rattle.bac_tag.specs.HeadsLaws.{heads_end}
+use Rattle.bac_tag.proofs.laws.heads_end_themselves.Goals as goal
+
+pub returns : goal.returns
+returns c = heads_end

@@ -1,0 +1,5 @@
+use Rattle.bac_tag.specs.OctetsLaws.{NoGreater-append}
+use Rattle.bac_tag.proofs.laws.joining_keeps_no_greater.Goals as goal
+
+pub returns : goal.returns
+returns c = NoGreater-append

@@ -1,0 +1,5 @@
+use Rattle.bac_tag.specs.OctetsLaws.{NoGreater-antisym}
+use Rattle.bac_tag.proofs.laws.neither_is_greater.Goals as goal
+
+pub returns : goal.returns
+returns c = NoGreater-antisym

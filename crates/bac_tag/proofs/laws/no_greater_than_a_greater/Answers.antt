@@ -1,0 +1,5 @@
+use Rattle.bac_tag.specs.OctetsLaws.{NoGreater-trans}
+use Rattle.bac_tag.proofs.laws.no_greater_than_a_greater.Goals as goal
+
+pub returns : goal.returns
+returns c = NoGreater-trans

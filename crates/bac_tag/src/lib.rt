@@ -1,0 +1,25 @@
+//! Tag heads of BACnet (ANSI/ASHRAE 135, clause 20.2.1), and the words by which every layer above says
+//! what is spelled, what is least, and where an input stops to be hopeful.
+//!
+//! Nothing here takes memory.
+#![tactic(auto)]
+
+mod expecting;
+mod heads;
+pub mod laws;
+mod marks;
+mod numbers;
+mod reading;
+mod refusals;
+mod writing;
+
+pub use expecting::Expected;
+pub use heads::TagHead;
+pub use marks::{first_difference, mark_head};
+pub use numbers::{first_hopeless, number_of};
+pub use reading::{read_expected, read_head, read_one_of};
+pub use refusals::{OutOfMemory, Refusal, Why};
+pub use writing::write_head;
+
+#[cfg(test)]
+mod tests;

@@ -1,0 +1,111 @@
+//! Why and where an input is refused.
+
+ghost use Rattle.std.specs.Prelude.{◌≡◌};
+ghost use Rattle.bac_tag.specs.Refusals.{name_of, weight_of, farther_of};
+
+use std::alloc::{AllocError, AllocFailed};
+
+/// Why an input is refused.
+#[derive(Clone, Copy, Debug, PartialEq, Eq)]
+pub enum Why {
+    /// The input ends where more must come.
+    Short = 1,
+    /// The input goes on behind a whole value.
+    Trailing,
+    /// The version octet is not 1 (clause 6.2.1).
+    Version,
+    /// A source address of length 0 (clause 6.2.2).
+    Address,
+    /// A PDU type that is not used (clause 20.1).
+    PduType,
+    /// A window size that is not 1 to 127 (clause 20.1.2.8).
+    Window,
+    /// A tag that can not stand here.
+    Tag,
+    /// A length that can not stand here.
+    Length,
+    /// Contents that are of no value.
+    Content,
+    /// A group inside too many others.
+    Depth,
+    /// A spelling that is tolerated and not the canonical one. Strict calls alone tell it.
+    NotCanonical,
+    /// Memory was wanted and refused. The place is 0.
+    OutOfMemory,
+}
+
+impl Why {
+    /// The name of the reason, as the program prints it.
+    pub fn name(self) -> &'static str
+        ensures { result.now ≡ name_of self }
+    {
+        match self {
+            Why::Short => "Short",
+            Why::Trailing => "Trailing",
+            Why::Version => "Version",
+            Why::Address => "Address",
+            Why::PduType => "PduType",
+            Why::Window => "Window",
+            Why::Tag => "Tag",
+            Why::Length => "Length",
+            Why::Content => "Content",
+            Why::Depth => "Depth",
+            Why::NotCanonical => "NotCanonical",
+            Why::OutOfMemory => "OutOfMemory",
+        }
+    }
+}
+
+/// Where and why an input is refused.
+#[derive(Clone, Copy, Debug, PartialEq, Eq)]
+pub struct Refusal {
+    /// The place of the first octet with which no accepted input begins, counted from 0; the number of
+    /// octets where the input is only too short.
+    pub place: usize,
+    pub why: Why,
+}
+
+impl Why {
+    /// How telling the reason is, where several readings of an input come to one place.
+    fn weight(self) -> u8
+        ensures { result ≡ weight_of self }
+    {
+        match self {
+            Why::Depth => 2,
+            Why::Length => 1,
+            _ => 0,
+        }
+    }
+}
+
+impl Refusal {
+    /// Of two refusals of one input, by two readings of it, the one that came farther. At one place `Depth`
+    /// goes before `Length`, and `Length` before the other reasons.
+    pub fn farther(self, other: Refusal) -> Refusal
+        ensures { result ≡ farther_of self other }
+    {
+        let is_farther = self.place < other.place;
+        let is_telling = self.place == other.place && self.why.weight() < other.why.weight();
+        if is_farther || is_telling {
+            other
+        } else {
+            self
+        }
+    }
+}
+
+/// Memory was wanted and refused.
+#[derive(Clone, Copy, Debug, PartialEq, Eq)]
+pub struct OutOfMemory;
+
+impl From<AllocError> for OutOfMemory {
+    fn from(_error: AllocError) -> OutOfMemory {
+        OutOfMemory
+    }
+}
+
+impl<T: Drop> From<AllocFailed<T>> for OutOfMemory {
+    fn from(_error: AllocFailed<T>) -> OutOfMemory {
+        OutOfMemory
+    }
+}

@@ -1,0 +1,101 @@
+//! What each primitive type can do.
+
+ghost use Rattle.std.specs.Prelude.{◌≡◌, ◌≢◌, ℕ, Bool, IsTrue, ◌≤◌, ◌++◌, List, [], IfSome, IfNone, length, IfOk, IfErr, OnOk, OnErr};
+ghost use Rattle.bac_tag.specs.Octets.{NoGreater, FirstDifference};
+ghost use Rattle.bac_value.specs.Primitives.{IsBegun, IsHopelessAt, IsContentsReason};
+
+use bac_tag::{OutOfMemory, Refusal, Why};
+use std::alloc::Global;
+
+/// A primitive type: which contents spell a value, and which of them are written.
+///
+/// Contents are the octets behind a tag head, all of them. Those of a Boolean are the ones of the context
+/// form (clause 20.2.3).
+pub trait Primitive: Sized + Drop {
+    /// The number of its application tag (clause 20.2.1.4).
+    const APP: u8;
+
+    /// The least number of octets of contents.
+    const SHORTEST: usize;
+
+    /// The largest number of octets of contents.
+    const LONGEST: usize;
+
+    ghost APP: { ℕ };
+
+    ghost SHORTEST: { ℕ };
+
+    ghost LONGEST: { ℕ };
+
+    /// Holds of the values of the type: each number lies in its range, each limit is kept.
+    ghost is_value: { Self → Type 0 };
+
+    /// The octets are contents of the value.
+    ghost contents: { Self → List ℕ → Type 0 };
+
+    /// The contents that are written.
+    ghost written: { Self → List ℕ };
+
+    /// Reading may want memory.
+    ghost wants_memory: { Bool };
+
+    /// The value whose contents are these octets.
+    ///
+    /// Length, where no value has so many octets of contents; Content at the first octet that no contents
+    /// of that length can have there; OutOfMemory, where memory is wanted and refused.
+    fn read(alloc: Global, octets: &[u8]) -> Result<Self, Refusal>
+        ensures value { IfOk result is_value }
+        ensures found { IfOk result (λ value. contents value octets.now) }
+        ensures none { IfErr result (λ refusal. refusal.why ≢ Why.OutOfMemory → (value : Self) → contents value octets.now → ⊥) }
+        ensures memory { IfErr result (λ refusal. refusal.why ≡ Why.OutOfMemory → (refusal.place ≡ 0) × IsTrue wants_memory) }
+        ensures place { IfErr result (λ refusal. refusal.place ≤ length octets.now) }
+        ensures reasons { IfErr result (λ refusal. IsContentsReason refusal.why) }
+        ensures length { IfErr result (λ refusal. refusal.why ≡ Why.Length → (refusal.place ≡ 0) × (IsBegun contents [] (length octets.now) → ⊥)) }
+        ensures content { IfErr result (λ refusal. refusal.why ≡ Why.Content → IsHopelessAt contents octets.now (length octets.now) refusal.place) };
+
+    /// The first place at which the octets in front no longer begin contents of that size, and none where
+    /// they do.
+    fn hopeless(front: &[u8], size: usize) -> Option<usize>
+        requires size { (SHORTEST ≤ size) × (size ≤ LONGEST) }
+        requires sized { length front.now ≤ size }
+        ensures none { IfNone result (IsBegun contents front.now size) }
+        ensures some { IfSome result (λ place. IsHopelessAt contents front.now size place) };
+
+    /// How many octets are written.
+    fn written_len(&self) -> usize
+        ensures { result ≡ length (written self.now) };
+
+    /// The first place at which contents of the value differ from those that are written, and none where
+    /// they are those.
+    fn mark(&self, octets: &[u8]) -> Option<usize>
+        requires { contents self.now octets.now }
+        ensures none { IfNone result (octets.now ≡ written self.now) }
+        ensures some { IfSome result (FirstDifference octets.now (written self.now)) };
+
+    /// Appends the written contents. Where memory is refused `out` stays as it was.
+    fn write(&self, out: &mut Vec<u8>) -> Result<(), OutOfMemory>
+        ensures value { is_value self.now }
+        ensures ok { OnOk result (out.new.items ≡ out.old.items ++ written self.now) }
+        ensures err { OnErr result (out.new.items ≡ out.old.items) };
+
+    /// Only values have contents.
+    ghost only_values: { (value : Self) (octets : List ℕ) → contents value octets → is_value value };
+
+    /// No octets are contents of two values.
+    ghost one_value: { (a b : Self) (octets : List ℕ) → contents a octets → contents b octets → a ≡ b };
+
+    /// What is written of a value are contents of it,
+    ghost written_contents: { (value : Self) → is_value value → contents value (written value) };
+
+    /// and they are no greater than any others.
+    ghost written_least: { (value : Self) (octets : List ℕ) → contents value octets → NoGreater (written value) octets };
+
+    /// The number of octets of contents lies between the two,
+    ghost lengths: { (value : Self) (octets : List ℕ) → contents value octets → (SHORTEST ≤ length octets) × (length octets ≤ LONGEST) };
+
+    /// each number between them is that of some contents,
+    ghost each_length: { (size : ℕ) → SHORTEST ≤ size → size ≤ LONGEST → IsBegun contents [] size };
+
+    /// and none is above the limit of 1,048,576.
+    ghost within_limit: { LONGEST ≤ 1048576 };
+}

@@ -1,0 +1,96 @@
+//! Numbers within a range as contents: 1 to 8 octets, the most significant octet first (clauses 20.2.4 and
+//! 20.2.11).
+
+ghost use Rattle.std.specs.Prelude.{◌≡◌, ◌<◌, ◌≤◌, ◌+◌, ◌++◌, ℕ, length, slice_index, IfOk, IfErr, OnOk, OnErr, IfSome, IfNone};
+ghost use Rattle.bac_tag.specs.Octets.{FirstDifference};
+ghost use Rattle.bac_tag.specs.Number.{number, BeginsNumber, MissesAt};
+ghost use Rattle.bac_value.specs.Numbers.{NumberContents, HasNumberLength, least_number, IsNumberReason};
+
+use bac_tag::{OutOfMemory, Refusal, Why, first_difference, first_hopeless, number_of};
+
+/// The number between `low` and `high` whose contents are these octets.
+///
+/// Length at 0, where they are not 1 to 8; Content at the first octet that no contents of that length can
+/// have there.
+pub fn read_number(octets: &[u8], low: u64, high: u64) -> Result<u64, Refusal>
+    requires range { low ≤ high }
+    requires room { low < 256 }
+    ensures found { IfOk result (λ n. NumberContents low high n octets.now) }
+    ensures none { IfErr result (λ _. (n : ℕ) → NumberContents low high n octets.now → ⊥) }
+    ensures reasons { IfErr result (λ refusal. IsNumberReason refusal.why) }
+    ensures length { IfErr result (λ refusal. refusal.why ≡ Why.Length → (refusal.place ≡ 0) × (HasNumberLength (length octets.now) → ⊥)) }
+    ensures content { IfErr result (λ refusal. refusal.why ≡ Why.Content → HasNumberLength (length octets.now) × MissesAt low high octets.now (length octets.now) refusal.place) }
+{
+    if octets.is_empty() || octets.len() > 8 {
+        return Err(Refusal {
+            place: 0,
+            why: Why::Length,
+        });
+    }
+    match first_hopeless(octets, octets.len(), low, high) {
+        Some(place) => Err(Refusal {
+            place,
+            why: Why::Content,
+        }),
+        None => Ok(number_of(octets)),
+    }
+}
+
+/// The first place at which the octets in front no longer begin contents of that size of a number between
+/// `low` and `high`, and none where they do.
+pub fn hopeless_number(front: &[u8], size: usize, low: u64, high: u64) -> Option<usize>
+    requires size { HasNumberLength size }
+    requires sized { length front.now ≤ size }
+    requires range { low ≤ high }
+    requires room { low < 256 }
+    ensures none { IfNone result (BeginsNumber low high front.now size) }
+    ensures some { IfSome result (MissesAt low high front.now size) }
+{
+    first_hopeless(front, size, low, high)
+}
+
+/// How many zeros stand in front of the last octet.
+fn zeros_in_front(octets: &[u8]) -> usize
+    requires { 0 < length octets.now }
+    ensures within { result < length octets.now }
+    ensures zeros { (k : ℕ) → k < result → slice_index octets.now k ≡ 0 }
+    ensures other { result + 1 < length octets.now → 0 < slice_index octets.now result }
+{
+    octets
+        .iter()
+        .position(|octet| *octet != 0)
+        .unwrap_or(octets.len() - 1)
+}
+
+/// The octets without the zeros in front, but for the last.
+fn significant(octets: &[u8]) -> &[u8]
+    requires { HasNumberLength (length octets.now) }
+    ensures { result.now ≡ least_number (number octets.now) }
+{
+    &octets[zeros_in_front(octets)..]
+}
+
+/// How many octets are written of a number.
+pub fn written_number_len(number: u64) -> usize
+    ensures { result ≡ length (least_number number) }
+{
+    significant(&number.to_be_bytes()).len()
+}
+
+/// The first place at which octets differ from those that are written of a number, and none where they are
+/// those.
+pub fn mark_number(number: u64, octets: &[u8]) -> Option<usize>
+    ensures none { IfNone result (octets.now ≡ least_number number) }
+    ensures some { IfSome result (FirstDifference octets.now (least_number number)) }
+{
+    first_difference(octets, significant(&number.to_be_bytes()))
+}
+
+/// Appends the fewest octets that spell a number. Where memory is refused `out` stays as it was.
+pub fn write_number(number: u64, out: &mut Vec<u8>) -> Result<(), OutOfMemory>
+    ensures ok { OnOk result (out.new.items ≡ out.old.items ++ least_number number) }
+    ensures err { OnErr result (out.new.items ≡ out.old.items) }
+{
+    out.extend_from_slice(significant(&number.to_be_bytes()))?;
+    Ok(())
+}
