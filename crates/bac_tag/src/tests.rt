@@ -176,3 +176,36 @@ fn names_reasons(rt: HostRuntime) {
     assert_eq!(rt; near.farther(far), far);
     assert_eq!(rt; OutOfMemory, OutOfMemory);
 }
+
+#[test]
+fn expected_heads_fit(rt: HostRuntime) {
+    let short = Expected::Ctx {
+        number: None,
+        least: 1,
+        most: 4,
+    };
+    for (expected, head, fits) in [
+        (Expected::AnyHead, TagHead::Close(254), true),
+        (Expected::AppBool, TagHead::AppBool(true), true),
+        (short, context(9, 4), true),
+        (short, context(9, 5), false),
+        (short, TagHead::App { number: 9, len: 4 }, false),
+        (Expected::Open(Some(3)), TagHead::Open(3), true),
+        (Expected::Open(Some(3)), TagHead::Close(3), false),
+        (Expected::Close(None), TagHead::Close(0), true),
+    ] {
+        assert_eq!(rt; expected.fits(head), fits, "{head:?} among {expected:?}");
+    }
+}
+
+// The laws are functions that do nothing: their contracts are what they say.
+#[test]
+fn laws_can_be_called() {
+    laws::no_greater_than_itself();
+    laws::no_greater_than_a_greater();
+    laws::neither_is_greater();
+    laws::joining_keeps_no_greater();
+    laws::heads_end_themselves();
+    laws::shorter_lengths_have_no_longer_heads();
+    laws::heads_have_spellings();
+}

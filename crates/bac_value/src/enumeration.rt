@@ -74,5 +74,5 @@ impl Primitive for Enumerated {
 
     ghost each_length = { enumerated_each_length };
 
-    ghost within_limit = { lit≤ tt };
+    ghost within_limit = { (lit≤ tt, lit≤ tt) };
 }

@@ -61,6 +61,15 @@ impl ObjectId {
     {
         self.instance
     }
+
+    /// The four octets, 10 bits of kind in front of 22 of instance.
+    #[tactic(auto, unfolding(crate::specs::Identifier::identifier_octets))]
+    fn octets(&self) -> [u8; 4]
+        ensures value { IsIdentifier self.now }
+        ensures octets { result ≡ identifier_octets self.now }
+    {
+        (u32::from(self.kind) << 22 | self.instance).to_be_bytes()
+    }
 }
 
 #[tactic(auto, unfolding(crate::specs::Identifier::identifier_octets))]
@@ -104,7 +113,7 @@ impl Primitive for ObjectId {
     }
 
     fn written_len(&self) -> usize {
-        4
+        self.octets().len()
     }
 
     fn mark(&self, _octets: &[u8]) -> Option<usize> {
@@ -112,8 +121,7 @@ impl Primitive for ObjectId {
     }
 
     fn write(&self, out: &mut Vec<u8>) -> Result<(), OutOfMemory> {
-        let number = u32::from(self.kind) << 22 | self.instance;
-        out.extend_from_slice(&number.to_be_bytes())?;
+        out.extend_from_slice(&self.octets())?;
         Ok(())
     }
 
@@ -129,5 +137,5 @@ impl Primitive for ObjectId {
 
     ghost each_length = { identifier_each_length };
 
-    ghost within_limit = { lit≤ tt };
+    ghost within_limit = { (lit≤ tt, lit≤ tt) };
 }

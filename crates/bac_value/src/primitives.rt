@@ -63,7 +63,8 @@ pub trait Primitive: Sized + Drop {
 
     /// How many octets are written.
     fn written_len(&self) -> usize
-        ensures { result ≡ length (written self.now) };
+        ensures value { is_value self.now }
+        ensures len { result ≡ length (written self.now) };
 
     /// The first place at which contents of the value differ from those that are written, and none where
     /// they are those.
@@ -96,6 +97,6 @@ pub trait Primitive: Sized + Drop {
     /// each number between them is that of some contents,
     ghost each_length: { (size : ℕ) → SHORTEST ≤ size → size ≤ LONGEST → IsBegun contents [] size };
 
-    /// and none is above the limit of 1,048,576.
-    ghost within_limit: { LONGEST ≤ 1048576 };
+    /// and they are a range, none of them above the limit of 1,048,576.
+    ghost within_limit: { (SHORTEST ≤ LONGEST) × (LONGEST ≤ 1048576) };
 }

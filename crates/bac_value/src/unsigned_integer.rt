@@ -70,5 +70,5 @@ impl Primitive for Unsigned {
 
     ghost each_length = { unsigned_each_length };
 
-    ghost within_limit = { lit≤ tt };
+    ghost within_limit = { (lit≤ tt, lit≤ tt) };
 }
