@@ -1,0 +1,14 @@
+//! What the program is asked to do.
+
+use crate::Mode;
+
+/// What the program is asked to do with the file of records on its standard input.
+#[derive(Clone, Copy, Debug, PartialEq, Eq)]
+pub enum Job {
+    /// A line for each record: what it says, or why it is refused.
+    Show(Mode),
+    /// A line for each record: whether it is canonical, tolerated or refused.
+    Check(Mode),
+    /// The canonical octets of each record, as a record.
+    Normalise(Mode),
+}

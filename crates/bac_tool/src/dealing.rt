@@ -1,0 +1,46 @@
+//! What a run does with each record.
+
+ghost use Rattle.std.specs.Prelude.{◌≡◌, IfErr, IfOk, List, OnErr, ℕ};
+ghost use Rattle.bac_tag.specs.declared.refusals.Refusal.{Refusal as RefusalValue};
+ghost use Rattle.bac_tool.specs.Deals.{DealFails, IsDealt};
+ghost use Rattle.bac_tool.specs.Records.{IsRecord};
+
+use bac_tag::Refusal;
+
+/// What a job found of a record that it dealt with.
+#[derive(Clone, Copy, Debug, PartialEq, Eq)]
+pub(crate) struct Dealt {
+    pub(crate) is_canonical: bool,
+    pub(crate) is_refused: bool,
+}
+
+/// Why a job did not deal with a record.
+#[derive(Clone, Copy, Debug, PartialEq, Eq)]
+pub(crate) enum DealFault {
+    /// The record ends the run.
+    Stop(Refusal),
+    /// Memory was wanted and refused.
+    Memory,
+}
+
+/// What a run does with each record.
+pub(crate) trait Job {
+    /// The output of a record, by its number and its octets.
+    ghost line: { Self → ℕ → List ℕ → List ℕ → Type 0 };
+
+    /// The record ends the run with this refusal.
+    ghost stops: { Self → List ℕ → RefusalValue → Type 0 };
+
+    /// The record counts as canonical.
+    ghost is_canonical: { Self → List ℕ → Type 0 };
+
+    /// The record counts as refused.
+    ghost is_refused: { Self → List ℕ → Type 0 };
+
+    /// Appends the record's output. An `Err` appends nothing.
+    fn deal(&self, number: u32, octets: &[u8], out: &mut Vec<u8>) -> Result<Dealt, DealFault>
+        requires { IsRecord octets.now }
+        ensures dealt { IfOk result (IsDealt (line self.now) (is_canonical self.now) (is_refused self.now) number octets.now out.old.items out.new.items) }
+        ensures fault { IfErr result (DealFails (stops self.now octets.now)) }
+        ensures err { OnErr result (out.new.items ≡ out.old.items) };
+}

@@ -1,0 +1,98 @@
+//! The run of `show`.
+
+ghost use Rattle.std.specs.Prelude.{◌≡◌, ◌↔◌, IfErr, IfOk, IsTrue, MatchResult, List, ℕ, Some};
+ghost use Rattle.bac_tool.specs.Judging.{IsCanonical, IsRefused};
+ghost use Rattle.bac_tool.specs.Lines.{IsShown, ShowsAs};
+ghost use Rattle.bac_tool.specs.Records.{Records};
+ghost use Rattle.bac_tool.specs.Runs.{RanThrough, RunCounts, Stopped};
+ghost use Rattle.bac_tool.specs.Files.{RunsOver};
+
+use crate::dealing::{DealFault, Dealt, Job};
+use crate::judging::judge;
+use crate::lines::Line;
+use crate::runs::run;
+use crate::{Input, Mode, Output, RunFault, Summary};
+use std::alloc::Global;
+
+/// Shows each record as a line.
+#[derive(Clone, Copy)]
+struct Show {
+    alloc: Global,
+    mode: Mode,
+}
+
+/// What is said of the octets, and how the record counts.
+fn shown(alloc: Global, mode: Mode, octets: &[u8]) -> (Line, Dealt)
+    ensures line { IsShown mode octets.now result.0 }
+    ensures canonical { IsTrue result.1.is_canonical ↔ IsCanonical octets.now }
+    ensures refused { IsTrue result.1.is_refused ↔ IsRefused mode octets.now }
+{
+    match judge(alloc, mode, octets) {
+        Ok((frame, mark)) => {
+            let is_canonical = mark.is_none();
+            let is_refused = false;
+            (
+                Line::Shown(frame),
+                Dealt {
+                    is_canonical,
+                    is_refused,
+                },
+            )
+        }
+        Err(refusal) => {
+            let is_canonical = false;
+            let is_refused = true;
+            (
+                Line::Refused(refusal),
+                Dealt {
+                    is_canonical,
+                    is_refused,
+                },
+            )
+        }
+    }
+}
+
+impl Job for Show {
+    ghost line = { λ show. ShowsAs show.mode };
+
+    ghost stops = { λ _ _ _. ⊥ };
+
+    ghost is_canonical = { λ _. IsCanonical };
+
+    ghost is_refused = { λ show. IsRefused show.mode };
+
+    fn deal(&self, number: u32, octets: &[u8], out: &mut Vec<u8>) -> Result<Dealt, DealFault> {
+        let (line, dealt) = shown(self.alloc, self.mode, octets);
+        match line.push(number, out) {
+            Ok(()) => Ok(dealt),
+            Err(_) => Err(DealFault::Memory),
+        }
+    }
+}
+
+/// Writes a line for each record: its number and what the frame says, or why the record is refused.
+///
+/// # Errors
+/// As [`RunFault`] says. Refused records do not stop the run.
+pub fn run_show<R: Input, W: Output>(
+    alloc: Global,
+    mode: Mode,
+    reader: &mut R,
+    writer: &mut W,
+) -> Result<Summary, RunFault>
+    ensures through { IfOk result (RanThrough (ShowsAs mode) IsCanonical (IsRefused mode)
+        (R.left reader.old) (R.left reader.new) (W.taken writer.old) (W.taken writer.new)) }
+    ensures stopped { IfErr result (Stopped (ShowsAs mode) (λ _ _. ⊥)
+        (R.left reader.old) (R.left reader.new) (W.taken writer.old) (W.taken writer.new)) }
+
+    // Where the octets of the reader are known, they are records and a rest in one way.
+    ensures files { (list : List (List ℕ)) (rest file : List ℕ) → R.left reader.old ≡ Some file → Records list rest file
+        → RunsOver (ShowsAs mode) (λ _ _. ⊥) IsCanonical (IsRefused mode) list rest
+        (W.taken writer.old) (W.taken writer.new) result }
+    ensures counted { MatchResult result
+        (λ _. (R.failures reader.new ≡ R.failures reader.old) × (W.failures writer.new ≡ W.failures writer.old))
+        (RunCounts (R.failures reader.old) (R.failures reader.new) (W.failures writer.old) (W.failures writer.new)) }
+{
+    run(alloc, &Show { alloc, mode }, reader, writer)
+}

@@ -1,0 +1,202 @@
+//! Runs, records and devices at work.
+
+use crate::fakes::{CopyOctets, Drain, Feed, Troubled, Unending};
+use crate::runs::run;
+use crate::{
+    Counted, Input, Output, RunFault, StreamFault, Summary, laws, read_record, write_record,
+};
+use bac_tag::{Refusal, Why};
+use std::io::ErrorKind;
+use std::test::Fail;
+
+/// The fault of the stream at this record.
+fn stream(at: u32, fault: StreamFault) -> Result<Summary, RunFault> {
+    Err(RunFault::Stream { at, fault })
+}
+
+/// The run of a file in pieces of this size.
+fn feed(octets: &[u8], size: usize) -> Feed<'_> {
+    Feed {
+        octets,
+        size,
+        calls: usize::MAX,
+        failures: 0,
+    }
+}
+
+#[test]
+fn pieces_of_any_size_give_the_same(rt: HostRuntime) -> Result<(), Fail> {
+    let file = [0, 1, 7, 0, 0, 0, 3, 1, 2, 3];
+    for size in [1, 2, 3, 4, 100] {
+        let mut writer = Counted::new(Vec::new(rt.alloc()));
+        let summary = run(rt.alloc(), &CopyOctets, &mut feed(&file, size), &mut writer);
+        let want = Summary {
+            records: 3,
+            canonical: 1,
+            refused: 1,
+        };
+        assert_eq!(rt; summary, Ok(want), "in pieces of {size}");
+        assert_eq!(rt; writer.device.as_slice(), [7, 1, 2, 3].as_slice());
+    }
+    Ok(())
+}
+
+#[test]
+fn each_end_is_told(rt: HostRuntime) -> Result<(), Fail> {
+    let mut cut = [0; 21];
+    cut[1] = 0x14;
+    let stopped = Err(RunFault::Frame {
+        at: 2,
+        refusal: Refusal {
+            place: 0,
+            why: Why::Tag,
+        },
+    });
+    for (file, want, written) in [
+        ([].as_slice(), Ok(Summary::default()), 0),
+        (cut.as_slice(), stream(1, StreamFault::Truncated), 0),
+        ([0, 0, 9].as_slice(), stream(2, StreamFault::Truncated), 0),
+        (
+            [0, 1, 9, 0x05, 0xDA].as_slice(),
+            stream(2, StreamFault::RecordTooLong),
+            1,
+        ),
+        ([0, 1, 9, 0, 1, 255, 0, 1, 9].as_slice(), stopped, 1),
+    ] {
+        let mut reader = Counted::new(file);
+        let mut writer = Counted::new(Vec::new(rt.alloc()));
+        let got = run(rt.alloc(), &CopyOctets, &mut reader, &mut writer);
+        assert_eq!(rt; got, want, "of {file:?}");
+        assert_eq!(rt; writer.device.len(), written, "of {file:?}");
+    }
+    Ok(())
+}
+
+#[test]
+fn a_failed_read_tells_the_next_record(rt: HostRuntime) -> Result<(), Fail> {
+    let file = [0, 5, 1, 2, 3, 4, 5, 0, 5, 1, 2, 3, 4, 5];
+    for calls in 0..15 {
+        let mut reader = feed(&file, 1);
+        reader.calls = calls;
+        let mut writer = Counted::new(Vec::new(rt.alloc()));
+        let got = run(rt.alloc(), &CopyOctets, &mut reader, &mut writer);
+        let dealt = calls / 7;
+        assert_eq!(rt;
+            got,
+            stream(dealt as u32 + 1, StreamFault::ReadFault),
+            "after {calls} reads"
+        );
+        assert_eq!(rt; writer.device.len(), 5 * dealt, "after {calls} reads");
+    }
+    Ok(())
+}
+
+#[test]
+fn a_failed_write_counts_what_was_taken(rt: HostRuntime) -> Result<(), Fail> {
+    let file = [
+        0, 5, 1, 2, 3, 4, 5, 0, 5, 6, 7, 8, 9, 10, 0, 5, 11, 12, 13, 14, 15,
+    ];
+    for size in [1, 8, 100] {
+        for (room, at) in [(0, 1), (4, 1), (5, 2), (7, 2), (10, 3), (14, 3)] {
+            let mut writer = Drain {
+                taken: Vec::new(rt.alloc()),
+                room,
+                failures: 0,
+            };
+            let got = run(rt.alloc(), &CopyOctets, &mut feed(&file, size), &mut writer);
+            let fault = StreamFault::WriteFault(room as u128);
+            assert_eq!(rt; got, stream(at, fault), "room {room} in pieces of {size}");
+            assert_eq!(rt; writer.taken.len(), room);
+            assert_eq!(rt; writer.failures, 1);
+        }
+    }
+    Ok(())
+}
+
+#[test]
+fn an_unending_reader_has_too_many_records(rt: HostRuntime) -> Result<(), Fail> {
+    for (octets, written) in [([0, 0, 0], 0), ([0, 1, 9], 1_000_000)] {
+        let mut writer = Counted::new(Vec::new(rt.alloc()));
+        let got = run(
+            rt.alloc(),
+            &CopyOctets,
+            &mut Unending { octets },
+            &mut writer,
+        );
+        assert_eq!(rt;
+            got,
+            stream(1_000_001, StreamFault::TooManyFrames),
+            "of {octets:?}"
+        );
+        assert_eq!(rt; writer.device.len(), written, "of {octets:?}");
+    }
+    Ok(())
+}
+
+#[test]
+fn records_come_back(rt: HostRuntime) -> Result<(), Fail> {
+    let mut writer = Counted::new(Vec::new(rt.alloc()));
+    write_record(&mut writer, &[])?;
+    write_record(&mut writer, &[7, 8])?;
+    assert_eq!(rt; writer.device.as_slice(), [0, 0, 0, 2, 7, 8].as_slice());
+
+    let mut reader = Counted::new(writer.device.as_slice());
+    for want in [[].as_slice(), [7, 8].as_slice()] {
+        let got = read_record(rt.alloc(), &mut reader)?;
+        assert_eq!(rt; got.as_deref(), Some(want));
+    }
+    assert!(rt; read_record(rt.alloc(), &mut reader)?.is_none());
+    Ok(())
+}
+
+#[test]
+fn interrupted_calls_are_tried_again(rt: HostRuntime) -> Result<(), Fail> {
+    let fault = StreamFault::WriteFault(0);
+    for (error, times, takes, read, written) in [
+        (ErrorKind::Interrupted, 63, 9, None, Ok(())),
+        (
+            ErrorKind::Interrupted,
+            64,
+            9,
+            Some(StreamFault::ReadFault),
+            Err(fault),
+        ),
+        (
+            ErrorKind::NotFound,
+            1,
+            9,
+            Some(StreamFault::ReadFault),
+            Err(fault),
+        ),
+        (ErrorKind::NotFound, 0, 0, None, Err(fault)),
+    ] {
+        let troubled = || Troubled {
+            error,
+            times,
+            takes,
+        };
+        let mut reader = Counted::new(troubled());
+        assert_eq!(rt;
+            read_record(rt.alloc(), &mut reader).err(),
+            read,
+            "{times} {error:?}"
+        );
+        assert_eq!(rt; reader.failures, u64::from(read.is_some()));
+
+        let mut writer = Counted::new(troubled());
+        assert_eq!(rt;
+            write_record(&mut writer, &[5]),
+            written,
+            "{times} {error:?}"
+        );
+        assert_eq!(rt; writer.failures, u64::from(written.is_err()));
+    }
+    Ok(())
+}
+
+// The laws are functions that do nothing: their contracts are what they say.
+#[test]
+fn laws_can_be_called() {
+    laws::records_are_unique();
+    laws::records_exist();
+}

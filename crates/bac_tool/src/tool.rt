@@ -1,0 +1,122 @@
+//! The program over any reader and writers.
+
+ghost use Rattle.std.specs.Prelude.{◌≡◌, ◌⊎◌, map};
+ghost use Rattle.clap.specs.Words.{subcommand_of};
+ghost use Rattle.bac_tool.specs.CommandLine.{bactool};
+ghost use Rattle.bac_tool.specs.Tool.{RunsAs, status_of as status_of_answer, HasRun, HasNotRun};
+
+use crate::transfers::write_whole;
+use crate::{
+    Input, Job, Output, RunFault, StreamFault, Summary, job, run_check, run_normalise, run_show,
+};
+use arrayvec::ArrayString;
+use clap::Error;
+use std::alloc::Global;
+use std::fmt::Write;
+
+/// All went well.
+const WELL: u8 = 0;
+
+/// A frame was refused, and nothing worse happened.
+const REFUSED: u8 = 1;
+
+/// The words, a device, the framing or memory.
+const FAILED: u8 = 2;
+
+/// What is said where memory is refused.
+const OUT_OF_MEMORY: &[u8] = b"bactool: out of memory\n";
+
+/// The longest line on standard error, with room to spare.
+const LINE: usize = 128;
+
+/// Writes the text that answers words which name no job: help on the output, a mistake on the errors.
+fn tell_words<W: Output, E: Output>(
+    alloc: Global,
+    error: &Error,
+    output: &mut W,
+    errors: &mut E,
+) -> u8
+    ensures { (result ≡ 0) ⊎ (result ≡ 2) }
+{
+    let Ok(text) = format!(in alloc; "{error}") else {
+        let _ = write_whole(errors, OUT_OF_MEMORY);
+        return FAILED;
+    };
+    if error.use_stderr() {
+        let _ = write_whole(errors, text.as_bytes());
+        return FAILED;
+    }
+    match write_whole(output, text.as_bytes()) {
+        Ok(()) => WELL,
+        Err(_) => FAILED,
+    }
+}
+
+/// Writes the line of a run's fault. No memory is taken.
+fn tell_fault<E: Output>(ran: &RunFault, errors: &mut E) {
+    let mut line = ArrayString::<LINE>::new();
+    let told = match ran {
+        RunFault::Stream {
+            fault: fault @ (StreamFault::WriteFault(_)
+            | StreamFault::TooManyFrames
+            | StreamFault::OutOfMemory),
+            ..
+        } => writeln!(line, "bactool: {fault}"),
+        ran => writeln!(line, "bactool: {ran}"),
+    };
+    if told.is_ok() {
+        let _ = write_whole(errors, line.as_bytes());
+    }
+}
+
+/// Runs a job.
+fn run_job<R: Input, W: Output>(
+    alloc: Global,
+    job: Job,
+    input: &mut R,
+    output: &mut W,
+) -> Result<Summary, RunFault>
+    ensures { RunsAs job (R.left input.old) (R.left input.new) (W.taken output.old) (W.taken output.new) result }
+{
+    match job {
+        Job::Show(mode) => run_show(alloc, mode, input, output),
+        Job::Check(mode) => run_check(alloc, mode, input, output),
+        Job::Normalise(mode) => run_normalise(alloc, mode, input, output),
+    }
+}
+
+/// The exit status by the answer of a run.
+fn status_of(answer: &Result<Summary, RunFault>) -> u8
+    ensures { result ≡ status_of_answer answer.now }
+{
+    match answer {
+        Ok(summary) => { if summary.refused == 0 { WELL } else { REFUSED } }
+        Err(RunFault::Frame { .. }) => REFUSED,
+        Err(RunFault::Stream { .. }) => FAILED,
+    }
+}
+
+/// Runs the program: what the words ask for, from the input to the output, with one line on the errors where it
+/// fails. Gives the exit status: 0 where all went well, 1 where a frame was refused and nothing worse happened,
+/// and 2 for the words, a device, the framing and memory. What the errors do not take is dropped.
+pub fn run_tool<R: Input, W: Output, E: Output>(
+    alloc: Global,
+    words: &[&str],
+    input: &mut R,
+    output: &mut W,
+    errors: &mut E,
+) -> u8
+    ensures { HasRun (subcommand_of bactool (map (λ word. word.now) words.entry.now))
+        (R.left input.old) (R.left input.new) (W.taken output.old) (W.taken output.new) result
+        ⊎ HasNotRun (R.left input.old) (R.left input.new) result }
+{
+    let job = match job(alloc, words) {
+        Ok(job) => job,
+        Err(error) => return tell_words(alloc, &error, output, errors),
+    };
+    let answer = run_job(alloc, job, input, output);
+    if let Err(fault) = &answer {
+        tell_fault(fault, errors);
+    }
+    status_of(&answer)
+}

@@ -1,0 +1,264 @@
+//! The program over readers and writers in memory: worked examples of docs/EXAMPLES.md.
+
+use crate::fakes::{Drain, Feed};
+use crate::{Counted, Input, Output, run_tool};
+use std::alloc::Global;
+use std::process::Abort;
+use std::test::Fail;
+
+/// F1: the canonical octets of the first example.
+const F1: &str = "01040005010C0C000000051955";
+
+/// F2: the same frame with reserved bits set and a zero in front of the property.
+const F2: &str = "01540185010C0C000000051A0055";
+
+/// The frames as a file of records.
+fn file_of(alloc: Global, frames: &[&str]) -> Result<Vec<u8>, Fail> {
+    let mut file = Vec::new(alloc);
+    for frame in frames {
+        let octets = hex::decode(alloc, frame.as_bytes())?;
+        file.push(0)?;
+        file.push(octets.len().min(255) as u8)?;
+        file.extend_from_slice(&octets)?;
+    }
+    Ok(file)
+}
+
+/// Runs the program and compares the status, the output and the errors.
+fn runs(
+    rt: &impl Abort,
+    alloc: Global,
+    words: &[&str],
+    file: &[u8],
+    (status, output, errors): (u8, &[u8], &str),
+) {
+    let mut input = Counted::new(file);
+    let mut taken = Counted::new(Vec::new(alloc));
+    let mut told = Counted::new(Vec::new(alloc));
+    let got = run_tool(alloc, words, &mut input, &mut taken, &mut told);
+    assert_eq!(rt; taken.device.as_slice(), output, "the output of {words:?}");
+    assert_eq!(rt;
+        told.device.as_slice(),
+        errors.as_bytes(),
+        "the errors of {words:?}"
+    );
+    assert_eq!(rt; got, status, "the status of {words:?}");
+}
+
+const CHECK: [&str; 2] = ["bactool", "check"];
+
+// Examples 1 to 3, 7, 8, 21, 36, 37, 47 and 79.
+#[test]
+fn check_tells_of_each_frame(rt: HostRuntime) -> Result<(), Fail> {
+    for (frame, said) in [
+        (F1, "1 ok\n"),
+        (F2, "1 tolerated at 1\n"),
+        ("01040005010CFD0004000000051955", "1 tolerated at 6\n"),
+        (
+            "01040005010C0C000000051D080000000000000055",
+            "1 tolerated at 11\n",
+        ),
+        ("01040405010C0C000000051955", "1 tolerated at 2\n"),
+        ("", "1 refused Short at 0\n"),
+        ("01040005010C0C000000", "1 refused Short at 10\n"),
+        ("01040005010C0C00000005195529", "1 refused Short at 14\n"),
+        ("01040005010C0C0000000519553E", "1 refused Trailing at 13\n"),
+        ("01040005010C", "1 refused Short at 6\n"),
+        ("01040005010C0B000000051955", "1 refused Length at 6\n"),
+        ("01040005010C1C000000051955", "1 refused Tag at 6\n"),
+        ("02", "1 refused Version at 0\n"),
+        ("010080", "1 refused PduType at 2\n"),
+        (
+            "01040005010C0C000000051D09000000000000000055",
+            "1 refused Length at 12\n",
+        ),
+        (
+            "01040005010C0C000000051D050100000000",
+            "1 refused Content at 13\n",
+        ),
+        (
+            "01040005010C0C0000000519002901FF",
+            "1 refused Trailing at 15\n",
+        ),
+        ("01040005010C0DFFFFFFFFFF1955", "1 refused Length at 8\n"),
+    ] {
+        let file = file_of(rt.alloc(), &[frame])?;
+        let status = u8::from(said.starts_with("1 refused"));
+        runs(
+            &rt,
+            rt.alloc(),
+            &CHECK,
+            &file,
+            (status, said.as_bytes(), ""),
+        );
+    }
+    Ok(())
+}
+
+// Examples 1, 34 and 35.
+#[test]
+fn show_tells_what_a_frame_says(rt: HostRuntime) -> Result<(), Fail> {
+    let file = file_of(rt.alloc(), &[F1, "01070073FF0C0C003FFFFF1A02002903"])?;
+    let lines =
+        b"1 prio=0 reply=1 conf id=1 sa=0 segs=0 resp=5 ReadProperty object=0:5 property=85\n\
+        2 prio=3 reply=1 conf id=255 sa=0 segs=7 resp=3 ReadProperty object=0:4194303 property=512 index=3\n";
+    runs(&rt, rt.alloc(), &["bactool", "show"], &file, (0, lines, ""));
+
+    let file = file_of(rt.alloc(), &[F1, "", F2])?;
+    let lines =
+        b"1 prio=0 reply=1 conf id=1 sa=0 segs=0 resp=5 ReadProperty object=0:5 property=85\n\
+        2 refused Short at 0\n3 refused NotCanonical at 1\n";
+    runs(
+        &rt,
+        rt.alloc(),
+        &["bactool", "show", "--strict"],
+        &file,
+        (1, lines, ""),
+    );
+    Ok(())
+}
+
+// Examples 28 and 36.
+#[test]
+fn normalise_writes_canonical_records(rt: HostRuntime) -> Result<(), Fail> {
+    let words = ["bactool", "normalise"];
+    let file = file_of(rt.alloc(), &[F2, F1, ""])?;
+    let both = file_of(rt.alloc(), &[F1, F1])?;
+    let said = "bactool: record 3: refused Short at 0\n";
+    runs(&rt, rt.alloc(), &words, &file, (1, &both, said));
+    runs(&rt, rt.alloc(), &words, &both, (0, &both, ""));
+
+    let wide = file_of(rt.alloc(), &["01040005010C0C000000051D080000000000000055"])?;
+    let one = file_of(rt.alloc(), &[F1])?;
+    runs(&rt, rt.alloc(), &words, &wide, (0, &one, ""));
+    let said = "bactool: record 1: refused NotCanonical at 11\n";
+    runs(
+        &rt,
+        rt.alloc(),
+        &["bactool", "normalise", "--strict"],
+        &wide,
+        (1, &[], said),
+    );
+    Ok(())
+}
+
+// Examples 28 and 29.
+#[test]
+fn check_counts_and_stops(rt: HostRuntime) -> Result<(), Fail> {
+    let file = file_of(rt.alloc(), &[F2, F1, ""])?;
+    let lines = b"1 tolerated at 1\n2 ok\n3 refused Short at 0\n";
+    runs(&rt, rt.alloc(), &CHECK, &file, (1, lines, ""));
+    let lines = b"1 refused NotCanonical at 1\n2 ok\n3 refused Short at 0\n";
+    runs(
+        &rt,
+        rt.alloc(),
+        &["bactool", "check", "--strict"],
+        &file,
+        (1, lines, ""),
+    );
+
+    let mut cut = [0; 21];
+    cut[1] = 0x14;
+    runs(
+        &rt,
+        rt.alloc(),
+        &CHECK,
+        &cut,
+        (2, b"", "bactool: record 1: truncated\n"),
+    );
+    runs(
+        &rt,
+        rt.alloc(),
+        &CHECK,
+        &[0x05, 0xDA],
+        (2, b"", "bactool: record 1: too long\n"),
+    );
+    runs(&rt, rt.alloc(), &CHECK, &[], (0, b"", ""));
+    Ok(())
+}
+
+/// The status of the program over these devices, and what it tells.
+fn told<R: Input, W: Output>(
+    alloc: Global,
+    words: &[&str],
+    input: &mut R,
+    output: &mut W,
+) -> (u8, Vec<u8>) {
+    let mut errors = Counted::new(Vec::new(alloc));
+    let status = run_tool(alloc, words, input, output, &mut errors);
+    (status, errors.device)
+}
+
+// Example 30, and a read that fails in the second record.
+#[test]
+fn a_device_that_fails_is_told(rt: HostRuntime) -> Result<(), Fail> {
+    let file = file_of(rt.alloc(), &[F1, F1])?;
+    let mut drain = Drain {
+        taken: Vec::new(rt.alloc()),
+        room: 20,
+        failures: 0,
+    };
+    let words = ["bactool", "normalise"];
+    let (status, said) = told(
+        rt.alloc(),
+        &words,
+        &mut Counted::new(file.as_slice()),
+        &mut drain,
+    );
+    assert_eq!(rt;
+        said.as_slice(),
+        b"bactool: write fault after 20 octets\n".as_slice()
+    );
+    assert_eq!(rt; (status, drain.taken.len()), (2, 20));
+
+    let mut feed = Feed {
+        octets: &file,
+        size: 1,
+        calls: 20,
+        failures: 0,
+    };
+    let mut taken = Counted::new(Vec::new(rt.alloc()));
+    let (status, said) = told(rt.alloc(), &CHECK, &mut feed, &mut taken);
+    assert_eq!(rt;
+        said.as_slice(),
+        b"bactool: record 2: read fault\n".as_slice()
+    );
+    assert_eq!(rt; taken.device.as_slice(), b"1 ok\n".as_slice());
+    assert_eq!(rt; status, 2);
+    Ok(())
+}
+
+// Which texts answer other words is not fixed; where they go and the statuses are.
+#[test]
+fn other_words_are_answered(rt: HostRuntime) -> Result<(), Fail> {
+    for words in [
+        ["bactool"].as_slice(),
+        &["bactool", "pack"],
+        &["bactool", "show", "--lenient"],
+    ] {
+        let mut taken = Counted::new(Vec::new(rt.alloc()));
+        let (status, said) = told(
+            rt.alloc(),
+            words,
+            &mut Counted::new([].as_slice()),
+            &mut taken,
+        );
+        assert_eq!(rt;
+            (status, said.is_empty(), taken.device.len()),
+            (2, false, 0)
+        );
+    }
+    let mut taken = Counted::new(Vec::new(rt.alloc()));
+    let words = ["bactool", "--help"];
+    let (status, said) = told(
+        rt.alloc(),
+        &words,
+        &mut Counted::new([].as_slice()),
+        &mut taken,
+    );
+    assert_eq!(rt;
+        (status, said.len(), taken.device.is_empty()),
+        (0, 0, false)
+    );
+    Ok(())
+}

@@ -1,0 +1,114 @@
+//! What the words of the command line ask for.
+
+ghost use Rattle.std.specs.Prelude.{◌≡◌, IfOk, IfErr, MatchResult, map, true, false, codes};
+ghost use Rattle.std.specs.List.{AllByRecursion};
+ghost use Rattle.clap.specs.Words.{app_of, rule_of, subcommand_of, takes, kind_of, one_text, found_of};
+ghost use Rattle.clap.specs.declared.builder.command.Command.{out-Command as fields_of};
+ghost use Rattle.bac_tool.specs.CommandLine.{bactool, strict, moded, bare, NamesJob, HasMode, word_lists};
+
+use crate::Mode;
+use crate::command_line::Job;
+use clap::error::ErrorKind;
+use clap::{Arg, ArgAction, ArgMatches, Command, Error};
+use std::alloc::{AllocError, Global};
+
+/// The flag for the strict mode.
+fn strict_flag<'a>(alloc: Global) -> Arg<'a>
+    ensures rule { rule_of result ≡ strict }
+    ensures local { result.global ≡ false }
+{
+    Arg::new(alloc, "strict")
+        .long("strict")
+        .action(ArgAction::SetTrue)
+        .help("Accept canonical records alone")
+}
+
+/// A command that takes the flag.
+fn moded_command<'a>(
+    alloc: Global,
+    name: &'a str,
+    about: &'a str,
+) -> Result<Command<'a>, AllocError>
+    ensures shape { IfOk result (λ c. app_of c ≡ moded name.now) }
+    ensures local { IfOk result (λ c. (fields_of c).has_globals ≡ false) }
+{
+    Command::new(alloc, name)
+        .about(about)
+        .arg(strict_flag(alloc))
+}
+
+/// The program before its subcommands.
+fn bare_command<'a>(alloc: Global) -> Command<'a>
+    ensures { app_of result ≡ bare }
+{
+    Command::new(alloc, "bactool")
+        .about(
+            "Shows, checks and normalises files of BACnet frames, from standard input to standard output",
+        )
+        .subcommand_required(true)
+        .disable_help_subcommand(true)
+}
+
+/// The commands of the program.
+fn command<'a>(alloc: Global) -> Result<Command<'a>, AllocError>
+    ensures { IfOk result (λ c. app_of c ≡ bactool) }
+{
+    let show = moded_command(alloc, "show", "Write a line for each record: what it says")?;
+    let check = moded_command(
+        alloc,
+        "check",
+        "Write a line for each record: whether it is canonical",
+    )?;
+    let normalise = moded_command(
+        alloc,
+        "normalise",
+        "Write each record in its canonical octets",
+    )?;
+    let one = bare_command(alloc).subcommand(show)?;
+    let two = one.subcommand(check)?;
+    two.subcommand(normalise)
+}
+
+/// The mode that the flag of a subcommand's matches names.
+fn mode_of(matches: &ArgMatches) -> Mode
+    ensures { HasMode (one_text (found_of matches.now) (codes "strict")) result }
+{
+    if matches.get_flag("strict") {
+        Mode::Strict
+    } else {
+        Mode::Tolerant
+    }
+}
+
+/// The job that the subcommand and the flag of the words name.
+fn named_job<'a>(alloc: Global, words: &'a [&'a str]) -> Result<Job, Error>
+    ensures named { IfOk result (NamesJob (subcommand_of bactool (map (λ word. word.now) words.entry.now))) }
+    ensures taken { IfErr result (λ error. takes bactool (map (λ word. word.now) words.entry.now) ≡ true → kind_of error ≡ ErrorKind.OutOfMemory) }
+{
+    let matches = command(alloc)?.try_get_matches_from(words)?;
+    let Some((name, matches)) = matches.subcommand() else {
+        unreachable!()
+    };
+    let mode = mode_of(matches);
+    if name == "show" {
+        return Ok(Job::Show(mode));
+    }
+    if name == "check" {
+        return Ok(Job::Check(mode));
+    }
+    Ok(Job::Normalise(mode))
+}
+
+/// The job that the words ask for. The first word is the program's name.
+///
+/// # Errors
+/// What the command line's own rules refuse, with a text for the user (also where help is asked for), and want
+/// of memory.
+pub fn job<'a>(alloc: Global, words: &'a [&'a str]) -> Result<Job, Error>
+    ensures named { IfOk result (NamesJob (subcommand_of bactool (map (λ word. word.now) words.entry.now))) }
+    ensures taken { IfErr result (λ error. takes bactool (map (λ word. word.now) words.entry.now) ≡ true → kind_of error ≡ ErrorKind.OutOfMemory) }
+    ensures accepted { AllByRecursion (λ entry. map (λ word. word.now) words.entry.now ≡ entry.0
+        → MatchResult result (λ job. job ≡ entry.1) (λ error. kind_of error ≡ ErrorKind.OutOfMemory)) word_lists }
+{
+    named_job(alloc, words)
+}
