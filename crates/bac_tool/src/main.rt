@@ -64,7 +64,13 @@ pub use words::job;
 const FAILED: u8 = 2;
 
 fn main(rt: HostRuntime) -> ExitCode {
-    ExitCode::from(run_process(&rt).unwrap_or(FAILED))
+    match run_process(&rt) {
+        Ok(status) => ExitCode::from(status),
+        Err(error) => {
+            tool::tell(&error, &mut Counted::new(rt.stderr()));
+            ExitCode::from(FAILED)
+        }
+    }
 }
 
 /// Hands the words and the standard streams of the process over.

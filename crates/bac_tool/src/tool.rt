@@ -11,8 +11,9 @@ use crate::{
 };
 use arrayvec::ArrayString;
 use clap::Error;
+use clap::error::ErrorKind;
 use std::alloc::Global;
-use std::fmt::Write;
+use std::fmt::{Display, Write};
 
 /// All went well.
 const WELL: u8 = 0;
@@ -24,10 +25,18 @@ const REFUSED: u8 = 1;
 const FAILED: u8 = 2;
 
 /// What is said where memory is refused.
-const OUT_OF_MEMORY: &[u8] = b"bactool: out of memory\n";
+const OUT_OF_MEMORY: &str = "out of memory";
 
 /// The longest line on standard error, with room to spare.
 const LINE: usize = 128;
+
+/// Writes the program's name and what it has to say as a line. No memory is taken.
+pub(crate) fn tell<E: Output, T: Display>(what: &T, errors: &mut E) {
+    let mut line = ArrayString::<LINE>::new();
+    if writeln!(line, "bactool: {what}").is_ok() {
+        let _ = write_whole(errors, line.as_bytes());
+    }
+}
 
 /// Writes the text that answers words which name no job: help on the output, a mistake on the errors.
 fn tell_words<W: Output, E: Output>(
@@ -38,9 +47,12 @@ fn tell_words<W: Output, E: Output>(
 ) -> u8
     ensures { (result ≡ 0) ⊎ (result ≡ 2) }
 {
-    let Ok(text) = format!(in alloc; "{error}") else {
-        let _ = write_whole(errors, OUT_OF_MEMORY);
-        return FAILED;
+    let text = match format!(in alloc; "{error}") {
+        Ok(text) if error.kind() != ErrorKind::OutOfMemory => text,
+        _ => {
+            tell(&OUT_OF_MEMORY, errors);
+            return FAILED;
+        }
     };
     if error.use_stderr() {
         let _ = write_whole(errors, text.as_bytes());
@@ -52,20 +64,16 @@ fn tell_words<W: Output, E: Output>(
     }
 }
 
-/// Writes the line of a run's fault. No memory is taken.
+/// Writes the line of a run's fault: with the record's number where the record is at fault.
 fn tell_fault<E: Output>(ran: &RunFault, errors: &mut E) {
-    let mut line = ArrayString::<LINE>::new();
-    let told = match ran {
+    match ran {
         RunFault::Stream {
             fault: fault @ (StreamFault::WriteFault(_)
             | StreamFault::TooManyFrames
             | StreamFault::OutOfMemory),
             ..
-        } => writeln!(line, "bactool: {fault}"),
-        ran => writeln!(line, "bactool: {ran}"),
-    };
-    if told.is_ok() {
-        let _ = write_whole(errors, line.as_bytes());
+        } => tell(fault, errors),
+        ran => tell(ran, errors),
     }
 }
 

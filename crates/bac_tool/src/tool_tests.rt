@@ -1,6 +1,6 @@
 //! The program over readers and writers in memory: worked examples of docs/EXAMPLES.md.
 
-use crate::fakes::{Drain, Feed};
+use crate::fakes::{Drain, Feed, Unending};
 use crate::{Counted, Input, Output, run_tool};
 use std::alloc::Global;
 use std::process::Abort;
@@ -189,42 +189,64 @@ fn told<R: Input, W: Output>(
     (status, errors.device)
 }
 
-// Example 30, and a read that fails in the second record.
+// Example 30, for a writer of each room.
 #[test]
-fn a_device_that_fails_is_told(rt: HostRuntime) -> Result<(), Fail> {
+fn a_writer_that_fails_is_told(rt: HostRuntime) -> Result<(), Fail> {
     let file = file_of(rt.alloc(), &[F1, F1])?;
-    let mut drain = Drain {
-        taken: Vec::new(rt.alloc()),
-        room: 20,
-        failures: 0,
-    };
-    let words = ["bactool", "normalise"];
-    let (status, said) = told(
-        rt.alloc(),
-        &words,
-        &mut Counted::new(file.as_slice()),
-        &mut drain,
-    );
-    assert_eq!(rt;
-        said.as_slice(),
-        b"bactool: write fault after 20 octets\n".as_slice()
-    );
-    assert_eq!(rt; (status, drain.taken.len()), (2, 20));
+    for room in 0..file.len() {
+        let mut drain = Drain {
+            taken: Vec::new(rt.alloc()),
+            room,
+            failures: 0,
+        };
+        let mut feed = Counted::new(file.as_slice());
+        let (status, said) = told(rt.alloc(), &["bactool", "normalise"], &mut feed, &mut drain);
+        let want = format!(in rt.alloc(); "bactool: write fault after {room} octets\n")?;
+        assert_eq!(rt; said.as_slice(), want.as_bytes());
+        assert_eq!(rt; drain.taken.as_slice(), &file[..room]);
+        assert_eq!(rt; status, 2, "with room for {room}");
+    }
+    Ok(())
+}
 
-    let mut feed = Feed {
-        octets: &file,
-        size: 1,
-        calls: 20,
-        failures: 0,
-    };
+// A reader of one octet a call, for each call that fails.
+#[test]
+fn a_reader_that_fails_is_told(rt: HostRuntime) -> Result<(), Fail> {
+    let file = file_of(rt.alloc(), &[F1, F1])?;
+    for calls in 0..=file.len() {
+        let mut feed = Feed {
+            octets: &file,
+            size: 1,
+            calls,
+            failures: 0,
+        };
+        let mut taken = Counted::new(Vec::new(rt.alloc()));
+        let (status, said) = told(rt.alloc(), &CHECK, &mut feed, &mut taken);
+        let whole = calls / 15;
+        let want = format!(in rt.alloc(); "bactool: record {}: read fault\n", whole + 1)?;
+        assert_eq!(rt; said.as_slice(), want.as_bytes());
+        let lines = b"1 ok\n2 ok\n";
+        assert_eq!(rt; Some(taken.device.as_slice()), lines.get(..5 * whole));
+        assert_eq!(rt; status, 2, "after {calls} calls");
+    }
+    Ok(())
+}
+
+// Example 29: an unending reader. The lines have 20 octets beside the numbers, which have 5,888,896 digits.
+#[test]
+fn zeros_without_end_are_left(rt: HostRuntime) -> Result<(), Fail> {
+    let mut zeros = Unending { octets: [0; 3] };
     let mut taken = Counted::new(Vec::new(rt.alloc()));
-    let (status, said) = told(rt.alloc(), &CHECK, &mut feed, &mut taken);
+    let (status, said) = told(rt.alloc(), &CHECK, &mut zeros, &mut taken);
     assert_eq!(rt;
         said.as_slice(),
-        b"bactool: record 2: read fault\n".as_slice()
+        b"bactool: more than 1000000 records\n".as_slice()
     );
-    assert_eq!(rt; taken.device.as_slice(), b"1 ok\n".as_slice());
-    assert_eq!(rt; status, 2);
+    assert_eq!(rt; (status, taken.device.len()), (2, 25_888_896));
+    assert_eq!(rt;
+        taken.device.ends_with(b"1000000 refused Short at 0\n"),
+        true
+    );
     Ok(())
 }
 

@@ -1,0 +1,30 @@
+# The commands of this repository, one line each:
+#   make         proves and builds the program, and leaves it in bin/bactool
+#   make test    the checks of the documents, then the merge gate: every proof from nothing, every test
+#   make check   proves what changed since the last check, while editing
+#   make bench   measures the program on a million records
+#   make clean   removes what the others made
+
+.PHONY: build test check bench clean need-rt
+
+build: need-rt
+	@echo "bactool: proving and building it into bin/bactool (minutes the first time, seconds after that)"
+	@cd crates/bac_tool && rt run -- --help > /dev/null
+	@mkdir -p bin
+	@cp crates/bac_tool/out/bac_tool bin/bactool
+
+test: need-rt
+	@.ci/docs
+	@rt ci
+
+check: need-rt
+	@rt all check
+
+bench:
+	@scripts/bench
+
+clean:
+	@rm -rf bin crates/*/out
+
+need-rt:
+	@command -v rt > /dev/null || { echo "bactool: the toolchain's command rt is not on the PATH; README.md says which kit is wanted" >&2; exit 1; }
