@@ -3,9 +3,10 @@
 #   make test    the checks of the documents, then the merge gate: every proof from nothing, every test
 #   make check   proves what changed since the last check, while editing
 #   make bench   measures the program on a million records
+#   make memory  runs the program with each allocation refused in turn (by hand: it takes half an hour)
 #   make clean   removes what the others made
 
-.PHONY: build test check bench clean need-rt
+.PHONY: build test check bench memory clean need-rt
 
 build: need-rt
 	@echo "bactool: proving and building it into bin/bactool (minutes the first time, seconds after that)"
@@ -22,6 +23,9 @@ check: need-rt
 
 bench:
 	@scripts/bench
+
+memory: need-rt
+	@scripts/refuse-memory
 
 clean:
 	@rm -rf bin crates/*/out
