@@ -1,5 +1,5 @@
 -- What the program does with its words, its input and its output.
-use Rattle.std.specs.Prelude.{◌≡◌, ◌⊎◌, ℕ, List, Option, Result, Ok, Err, nat_eq, if◌then◌else◌}
+use Rattle.std.specs.Prelude.{◌≡◌, ◌⊎◌, ℕ, Bool, true, List, Option, Result, Ok, Err, nat_eq, if◌then◌else◌}
 use Rattle.clap.specs.Words.{Row, Text}
 use Rattle.bac_tool.specs.CommandLine.{NamesJob}
 use Rattle.bac_tool.specs.Judging.{IsCanonical, IsRefused, Refuses}
@@ -34,6 +34,9 @@ pub record HasRun (named : Option (Text × List Row)) (left left' taken taken' :
   pub runs : RunsAs job left left' taken taken' answer
   pub status_is : status ≡ status_of answer
 
--- No job was run: nothing was read, and the words were answered by their own text.
-abbrev pub HasNotRun : Option (List ℕ) → Option (List ℕ) → ℕ → Type 0
-HasNotRun left left' status = (left' ≡ left) × ((status ≡ 0) ⊎ (status ≡ 2))
+-- No job was run: nothing was read, and the words were answered by a text. For words that the command line takes
+-- this is want of memory alone: nothing was written, and the status is 2.
+pub record HasNotRun (takes : Bool) (left left' taken taken' : Option (List ℕ)) (status : ℕ) : Type 0 where
+  pub unread : left' ≡ left
+  pub status_is : (status ≡ 0) ⊎ (status ≡ 2)
+  pub memory : takes ≡ true → (status ≡ 2) × (taken' ≡ taken)

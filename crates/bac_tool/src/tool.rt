@@ -1,7 +1,7 @@
 //! The program over any reader and writers.
 
 ghost use Rattle.std.specs.Prelude.{◌≡◌, ◌⊎◌, map};
-ghost use Rattle.clap.specs.Words.{subcommand_of};
+ghost use Rattle.clap.specs.Words.{kind_of, subcommand_of, takes};
 ghost use Rattle.bac_tool.specs.CommandLine.{bactool};
 ghost use Rattle.bac_tool.specs.Tool.{RunsAs, status_of as status_of_answer, HasRun, HasNotRun};
 
@@ -45,7 +45,8 @@ fn tell_words<W: Output, E: Output>(
     output: &mut W,
     errors: &mut E,
 ) -> u8
-    ensures { (result ≡ 0) ⊎ (result ≡ 2) }
+    ensures status { (result ≡ 0) ⊎ (result ≡ 2) }
+    ensures memory { kind_of error.now ≡ ErrorKind.OutOfMemory → (result ≡ 2) × (W.taken output.new ≡ W.taken output.old) }
 {
     let text = match format!(in alloc; "{error}") {
         Ok(text) if error.kind() != ErrorKind::OutOfMemory => text,
@@ -116,7 +117,8 @@ pub fn run_tool<R: Input, W: Output, E: Output>(
 ) -> u8
     ensures { HasRun (subcommand_of bactool (map (λ word. word.now) words.entry.now))
         (R.left input.old) (R.left input.new) (W.taken output.old) (W.taken output.new) result
-        ⊎ HasNotRun (R.left input.old) (R.left input.new) result }
+        ⊎ HasNotRun (takes bactool (map (λ word. word.now) words.entry.now))
+        (R.left input.old) (R.left input.new) (W.taken output.old) (W.taken output.new) result }
 {
     let job = match job(alloc, words) {
         Ok(job) => job,
