@@ -18,15 +18,15 @@ use Rattle.bac_value.specs.Numbers.{HasNumberLength, NumberContents, least_numbe
 -- ---- the fewest octets
 
 -- 1 to 8 octets that spell n
-record Spells (n : ℕ) (octets : List ℕ) : Type 0 where
-  are_octets : IsOctets octets
-  sized : HasNumberLength (length octets)
-  is : number octets ≡ n
+pub record Spells (n : ℕ) (octets : List ℕ) : Type 0 where
+  pub are_octets : IsOctets octets
+  pub sized : HasNumberLength (length octets)
+  pub is : number octets ≡ n
 
 spells : (low high n : ℕ) (octets : List ℕ) → NumberContents low high n octets → Spells n octets
 spells low high n octets h = record { are_octets = h.are_octets; sized = h.sized; is = h.is }
 
-least_spells : (n : ℕ) → n < 2 ^ 64 → Spells n (least_number n)
+pub least_spells : (n : ℕ) → n < 2 ^ 64 → Spells n (least_number n)
 unfolding least_number
 least_spells zero h = record { are_octets = (omega arith, tt); sized = (omega arith, omega arith); is = refl }
 least_spells (suc n) h = record {
@@ -38,7 +38,7 @@ least_spells (suc n) h = record {
 spelled_below : (n : ℕ) (octets : List ℕ) → Spells n octets → n < 2 ^ 64
 spelled_below n octets h = rw (← h.is) (number_fits octets h.are_octets h.sized.1)
 
-length-least_number-le : (k n : ℕ) → 1 ≤ k → n < 256 ^ k → length (least_number n) ≤ k
+pub length-least_number-le : (k n : ℕ) → 1 ≤ k → n < 256 ^ k → length (least_number n) ≤ k
 unfolding least_number
 length-least_number-le k zero some h = omega arith
 length-least_number-le k (suc n) some h = length-digits_of-le 256 k (suc n) (omega arith) h
@@ -63,7 +63,7 @@ length-least_number-ge n (x ∷ xs) h w first =
     ]
 
 -- octets of which the first is not 0, if there are two, are the fewest that spell their number
-least_number_is : (n : ℕ) (octets : List ℕ) → Spells n octets → (1 < length octets → 0 < get_or octets 0 0) → octets ≡ least_number n
+pub least_number_is : (n : ℕ) (octets : List ℕ) → Spells n octets → (1 < length octets → 0 < get_or octets 0 0) → octets ≡ least_number n
 least_number_is n octets h first =
     let w : Spells n (least_number n) = least_spells n (spelled_below n octets h) in
     let short : length (least_number n) ≤ length octets = length-least_number n octets h in

@@ -2,18 +2,40 @@
 //! that spell them: their contents, without the tag head in front.
 #![tactic(auto)]
 
+mod bit_string;
+mod boolean_value;
+mod character_string;
+mod date_value;
+mod double;
 mod enumeration;
+mod null_value;
 mod object_identifier;
+mod octet_string;
 mod primitives;
 mod ranged_numbers;
+mod real;
+mod signed_integer;
 #[cfg(test)]
 mod tests;
+mod time_value;
 mod unsigned_integer;
+mod value_faults;
 
+pub use bit_string::Bits;
+pub use boolean_value::Boolean;
+pub use character_string::Text;
+pub use date_value::Date;
+pub use double::DoubleBits;
 pub use enumeration::Enumerated;
+pub use null_value::Null;
 pub use object_identifier::ObjectId;
+pub use octet_string::Octets;
 pub use primitives::Primitive;
 pub use ranged_numbers::{
     hopeless_number, mark_number, read_number, write_number, written_number_len,
 };
+pub use real::RealBits;
+pub use signed_integer::Signed;
+pub use time_value::Time;
 pub use unsigned_integer::Unsigned;
+pub use value_faults::ValueFault;

@@ -1,0 +1,62 @@
+-- Bit strings as contents: a number of unused bits, then the bits (clause 20.2.10).
+use Rattle.std.specs.Prelude.{◌≡◌, ℕ, ◌<◌, ◌≤◌, ◌+◌, ◌-◌, ◌*◌, ◌/◌, ◌%◌, ◌==◌, Bool, false, List, [], ◌∷◌, length, map, slice_index, if◌then◌else◌}
+use Rattle.std.specs.List.{slice_index_or, range_with_len}
+use Rattle.std.specs.Int.{bit_at}
+use Rattle.bac_tag.specs.Octets.{IsOctets}
+
+-- bit k of octets, each from bit 7 downwards
+abbrev pub bit_in : List ℕ → ℕ → Bool
+bit_in packed k = bit_at (slice_index packed (k / 8)) (7 - k % 8) == 1
+
+-- octets that hold bits, with so many unused bits behind them
+pub record HoldsBits (bits : List Bool) (unused : ℕ) (packed : List ℕ) : Type 0 where
+  pub few : unused < 8
+  pub sized : length bits + unused ≡ 8 * length packed
+  pub are_octets : IsOctets packed
+  pub within : length packed < 1048576
+  pub agree : (k : ℕ) → k < length bits → slice_index_or bits k false ≡ bit_in packed k
+
+-- the count of unused bits, then the octets
+abbrev pub BitsContents : List Bool → List ℕ → Type 0
+BitsContents bits [] = ⊥
+BitsContents bits (unused ∷ packed) = HoldsBits bits unused packed
+
+-- no more bits than fit behind the count of a longest value
+abbrev pub IsBits : List Bool → Type 0
+IsBits bits = length bits ≤ 8388600
+
+-- what a bit is worth in the lowest place
+abbrev pub worth : Bool → ℕ
+worth bit = if bit then 1 else 0
+
+-- eight bits, the first of them highest; past the end they are 0
+abbrev pub octet_from : List Bool → ℕ → ℕ
+octet_from bits k =
+    128 * worth (slice_index_or bits k false) + 64 * worth (slice_index_or bits (k + 1) false) + 32 * worth (slice_index_or bits (k + 2) false) + 16 * worth (slice_index_or bits (k + 3) false)
+    + 8 * worth (slice_index_or bits (k + 4) false) + 4 * worth (slice_index_or bits (k + 5) false) + 2 * worth (slice_index_or bits (k + 6) false) + worth (slice_index_or bits (k + 7) false)
+
+-- how many octets hold so many bits
+abbrev pub octets_for : ℕ → ℕ
+octets_for n = (n + 7) / 8
+
+-- the octets of the bits
+unfoldable pub packed_bits : List Bool → List ℕ
+packed_bits bits = map (λ i. octet_from bits (8 * i)) (range_with_len 0 (octets_for (length bits)))
+
+-- the fewest octets that hold the bits, behind the count of unused bits, which are 0
+unfoldable pub least_bits : List Bool → List ℕ
+least_bits bits = (8 * octets_for (length bits) - length bits) ∷ packed_bits bits
+
+-- the bits that contents spell
+unfoldable pub bits_of : List ℕ → List Bool
+bits_of [] = []
+bits_of (unused ∷ packed) = map (bit_in packed) (range_with_len 0 (8 * length packed - unused))
+
+-- octets that are the written contents of their bits
+pub record IsLeastBits (octets : List ℕ) : Type 0 where
+  pub is : octets ≡ least_bits (bits_of octets)
+  pub are_bits : IsBits (bits_of octets)
+
+-- the count of unused bits is possible in so many octets
+abbrev pub CountsUnused : ℕ → ℕ → Type 0
+CountsUnused unused size = (unused < 8) × (unused ≤ 8 * (size - 1))
