@@ -2,7 +2,7 @@
 #   make         proves and builds the program, and leaves it in bin/bactool
 #   make test    the checks of the documents, then the merge gate: every proof from nothing, every test
 #   make check   proves what changed since the last check, while editing
-#   make bench   measures the program on a million records
+#   make bench   measures the program on a million records, and large values of the library
 #   make memory  runs the program with each allocation refused in turn (by hand: it takes half an hour)
 #   make clean   removes what the others made
 
@@ -21,7 +21,10 @@ test: need-rt
 check: need-rt
 	@rt all check
 
-bench:
+bench: build
+	@echo "bactool: proving and building the measurement into bin/bac_bench (minutes the first time, seconds after that)"
+	@cd crates/bac_bench && rt run > /dev/null
+	@cp crates/bac_bench/out/bac_bench bin/bac_bench
 	@scripts/bench
 
 memory: need-rt

@@ -47,10 +47,14 @@ packed_bits bits = map (λ i. octet_from bits (8 * i)) (range_with_len 0 (octets
 unfoldable pub least_bits : List Bool → List ℕ
 least_bits bits = (8 * octets_for (length bits) - length bits) ∷ packed_bits bits
 
+-- so many bits at the front of octets
+abbrev pub bits_in : List ℕ → ℕ → List Bool
+bits_in packed count = map (bit_in packed) (range_with_len 0 count)
+
 -- the bits that contents spell
 unfoldable pub bits_of : List ℕ → List Bool
 bits_of [] = []
-bits_of (unused ∷ packed) = map (bit_in packed) (range_with_len 0 (8 * length packed - unused))
+bits_of (unused ∷ packed) = bits_in packed (8 * length packed - unused)
 
 -- octets that are the written contents of their bits
 pub record IsLeastBits (octets : List ℕ) : Type 0 where

@@ -1,9 +1,10 @@
 -- Laws on bit strings as contents.
-use Rattle.std.proofs.Common.{◌≡◌, ℕ, zero, suc, ◌<◌, ◌≤◌, ◌^◌, ◌+◌, ◌*◌, ◌-◌, ◌/◌, ◌%◌, Bool, true, false, List, [], ◌∷◌, ◌++◌, length, map, arith, add-zero, subst, replicate, sym, ◌∙◌, ap, refl, inl, inr, get_or}
+use Rattle.std.proofs.Common.{◌≡◌, ℕ, zero, suc, ◌<◌, ◌≤◌, ◌^◌, ◌+◌, ◌*◌, ◌-◌, ◌/◌, ◌%◌, Bool, true, false, List, [], ◌∷◌, ◌++◌, length, take, drop, map, arith, add-zero, subst, replicate, sym, ◌∙◌, ap, refl, inl, inr, get_or}
 use Rattle.std.specs.Prelude.{◌==◌}
 use Rattle.std.specs.List.{range_with_len}
 use Rattle.std.specs.Int.{bit_at}
 use Rattle.std.proofs.Math.ListN.{get_or-eq_default}
+use Rattle.std.proofs.Math.Seq.{take-length}
 use Rattle.std.proofs.lemmas.Bool.{cases_lt}
 use Rattle.std.proofs.lemmas.List.{same_lists, get_or_default}
 use Rattle.std.proofs.lemmas.List.FromFn.{length-map-range_with_len, get_or-map-range_with_len, fill_by_all}
@@ -12,7 +13,7 @@ use Rattle.bac_tag.specs.Octets.{IsOctets, NoGreater}
 use Rattle.bac_value.specs.Primitives.{IsBegun, IsHopelessAt}
 use Rattle.bac_tag.specs.OctetsLaws.{octets_below, octets_at, octets_replicate, octets_filled, length-filled, zeros_to}
 use Rattle.std.proofs.lemmas.List.{length-replicate}
-use Rattle.bac_value.specs.BitsContents.{bit_in, HoldsBits, BitsContents, IsBits, worth, octet_from, octets_for, packed_bits, least_bits, bits_of, IsLeastBits, CountsUnused}
+use Rattle.bac_value.specs.BitsContents.{bit_in, bits_in, HoldsBits, BitsContents, IsBits, worth, octet_from, octets_for, packed_bits, least_bits, bits_of, IsLeastBits, CountsUnused}
 
 pub bits_once : (a b : List Bool) (octets : List ℕ) → BitsContents a octets → BitsContents b octets → a ≡ b
 bits_once a b [] p q = absurd p
@@ -288,3 +289,34 @@ pub least_is_least : (bits : List Bool) (octets : List ℕ) → IsBits bits → 
 least_is_least bits octets h e =
     let back : bits_of octets ≡ bits = ap bits_of e ∙ bits_of_least bits h in
     (record { is = e ∙ ap least_bits (sym back); are_bits = rw back h }, back)
+
+-- the octets behind the count of written contents
+pub least_behind : (octets : List ℕ) → IsLeastBits octets → take (length octets - 1) (drop 1 octets) ≡ packed_bits (bits_of octets)
+unfolding least_bits
+least_behind [] h = absurd (omega (arith, least_some [] h))
+least_behind (unused ∷ packed) h =
+    let rest : suc (length packed) - 1 ≡ length packed = omega arith in
+    ap (λ (n : ℕ). take n packed) rest ∙ take-length packed ∙ ap (drop 1) h.is
+
+-- the bits at the front of the octets that hold bits
+pub bits_in_packed : (bits : List Bool) (count : ℕ) (packed : List ℕ) → IsBits bits → packed ≡ packed_bits bits → count ≡ length bits → bits_in packed count ≡ bits
+unfolding least_bits bits_of
+bits_in_packed bits count packed h e n =
+    let holds : HoldsBits bits (8 * octets_for (length bits) - length bits) (packed_bits bits) = bits_written bits h in
+    let whole : 8 * length (packed_bits bits) - (8 * octets_for (length bits) - length bits) ≡ length bits = omega (arith, holds.sized) in
+    rw (e, n) (subst (λ (n : ℕ). bits_in (packed_bits bits) n ≡ bits) whole (bits_of_least bits h))
+
+-- contents spell the bits that `bits_of` tells
+pub bits_of_contents : (bits : List Bool) (octets : List ℕ) → BitsContents bits octets → bits_of octets ≡ bits
+bits_of_contents bits [] h = absurd h
+bits_of_contents bits (unused ∷ packed) h = bits_once _ _ (unused ∷ packed) (bits_of_holds unused packed h.are_octets h.within h.few (omega (arith, h.sized))) h
+
+-- and so do the octets behind their count
+pub bits_behind_count : (bits : List Bool) (octets : List ℕ) (unused : ℕ) → unused ≡ get_or octets 0 0 → BitsContents bits octets
+    → bits_in (take (length octets - 1) (drop 1 octets)) (8 * (length octets - 1) - unused) ≡ bits
+unfolding bits_of
+bits_behind_count bits [] unused n h = absurd h
+bits_behind_count bits (u ∷ packed) unused n h =
+    let rest : suc (length packed) - 1 ≡ length packed = omega arith in
+    ap (λ (k : ℕ). bits_in (take k packed) (8 * k - unused)) rest ∙ ap (λ (p : List ℕ). bits_in p (8 * length packed - unused)) (take-length packed)
+    ∙ ap (λ (k : ℕ). bits_in packed (8 * length packed - k)) n ∙ bits_of_contents bits (u ∷ packed) h

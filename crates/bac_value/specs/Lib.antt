@@ -12,7 +12,7 @@ pub mod BooleanContents
 pub mod BooleanLaws
 pub mod SignedContents
 pub mod SignedLaws
-pub mod SignedValues
+pub mod SignedValuesLaws
 pub mod RealContents
 pub mod RealLaws
 pub mod DoubleContents
@@ -27,3 +27,10 @@ pub mod TextContents
 pub mod TextLaws
 pub mod BitsContents
 pub mod BitsLaws
+pub mod PrimContents
+pub mod PrimLaws
+pub mod PrimRefValue
+pub mod Variants
+pub mod VariantsOfPrim
+pub mod PrimOfContents
+pub mod PrimOfContentsLaws

@@ -1,5 +1,5 @@
 -- Contents of values: a relation `contents value octets`.
-use Rattle.std.specs.Prelude.{◌≡◌, ℕ, ◌<◌, ◌+◌, ◌++◌, List, length, take}
+use Rattle.std.specs.Prelude.{◌≡◌, ℕ, ◌<◌, ◌≤◌, ◌+◌, ◌++◌, List, [], length, take}
 use Rattle.bac_tag.specs.declared.refusals.Why.{Why}
 use Rattle.bac_tag.specs.declared.refusals.Why.TheVariants.{Length, Content, OutOfMemory}
 
@@ -14,6 +14,12 @@ pub record IsBegun {V : Type 0} (contents : V → List ℕ → Type 0) (front : 
   pub rest : List ℕ
   pub spelled : contents value (front ++ rest)
   pub sized : length (front ++ rest) ≡ size
+
+-- Contents have at least and at most so many octets, and each number of octets between is that of some contents.
+pub record AreLengths {V : Type 0} (contents : V → List ℕ → Type 0) (shortest longest : ℕ) : Type 0 where
+  pub least : (value : V) (octets : List ℕ) → contents value octets → shortest ≤ length octets
+  pub most : (value : V) (octets : List ℕ) → contents value octets → length octets ≤ longest
+  pub each : (size : ℕ) → shortest ≤ size → size ≤ longest → IsBegun contents [] size
 
 -- The octets before the place begin contents of that size, and those with the one at the place begin none.
 abbrev pub IsHopelessAt : {V : Type 0} → (V → List ℕ → Type 0) → List ℕ → ℕ → ℕ → Type 0

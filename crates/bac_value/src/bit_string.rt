@@ -6,7 +6,7 @@ ghost use Rattle.std.specs.Ordering.{on};
 ghost use Rattle.std.specs.Cmp.{partial_equiv_from_equiv};
 ghost use Rattle.std.specs.Cmp.Lexicographic.{pointwise, on_texts_equal};
 ghost use Rattle.std.proofs.Common.{lit≤};
-ghost use Rattle.bac_value.specs.BitsContents.{BitsContents, IsBits, CountsUnused, worth, octet_from, bits_of, IsLeastBits, least_bits};
+ghost use Rattle.bac_value.specs.BitsContents.{BitsContents, IsBits, CountsUnused, worth, octet_from, bits_of, packed_bits, IsLeastBits, least_bits};
 ghost use Rattle.bac_value.specs.BitsLaws.{bits_once, bits_only_values, bits_written, bits_least, bits_lengths, bits_each_length};
 
 use crate::primitives::Primitive;
@@ -64,7 +64,7 @@ fn packed(alloc: Global, bits: &[bool]) -> Result<Vec<u8>, AllocError>
     ensures { IfOk result (λ contents. contents.items ≡ least_bits bits.now) }
 {
     let count = bits.len().div_ceil(8);
-    let mut contents = Vec::new(alloc);
+    let mut contents = Vec::with_capacity(alloc, 1 + count)?;
     contents.push((8 * count - bits.len()) as u8)?;
     for place in 0..count {
         contents.push(octet_at(bits, 8 * place))?;
@@ -102,6 +102,24 @@ impl Bits {
     {
         bit_of(&self.contents, place)
     }
+
+    /// The octets that hold the bits, eight to an octet, from its highest bit downwards. The unused bits of
+    /// the last are zero.
+    pub fn packed(&self) -> &[u8]
+        ensures value { IsBits self.now }
+        ensures packed { result.now ≡ packed_bits self.now }
+    {
+        behind_count(&self.contents)
+    }
+}
+
+/// The octets behind the count of unused bits.
+fn behind_count(contents: &[u8]) -> &[u8]
+    requires some { 1 ≤ length contents.now }
+    requires least { IsLeastBits contents.now }
+    ensures { result.now ≡ packed_bits (bits_of contents.now) }
+{
+    &contents[1..]
 }
 
 /// How many bits written contents hold.

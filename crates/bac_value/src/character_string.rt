@@ -79,9 +79,10 @@ impl Text {
 
 /// An octet, and the octets behind it.
 fn joined(alloc: Global, first: u8, rest: &[u8]) -> Result<Vec<u8>, AllocError>
+    requires { length rest.now < 1048576 }
     ensures { IfOk result (λ all. all.items ≡ first ∷ rest.now) }
 {
-    let mut all = Vec::new(alloc);
+    let mut all = Vec::with_capacity(alloc, 1 + rest.len())?;
     all.push(first)?;
     all.extend_from_slice(rest)?;
     Ok(all)

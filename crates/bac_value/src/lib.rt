@@ -8,10 +8,15 @@ mod character_string;
 mod date_value;
 mod double;
 mod enumeration;
+mod instance;
+pub mod laws;
 mod null_value;
 mod object_identifier;
 mod octet_string;
+mod prim;
+mod prim_ref;
 mod primitives;
+mod priority;
 mod ranged_numbers;
 mod real;
 mod signed_integer;
@@ -20,6 +25,7 @@ mod tests;
 mod time_value;
 mod unsigned_integer;
 mod value_faults;
+mod variants;
 
 pub use bit_string::Bits;
 pub use boolean_value::Boolean;
@@ -27,10 +33,15 @@ pub use character_string::Text;
 pub use date_value::Date;
 pub use double::DoubleBits;
 pub use enumeration::Enumerated;
+pub use instance::Instance;
 pub use null_value::Null;
 pub use object_identifier::ObjectId;
 pub use octet_string::Octets;
+// `Prim` is a word of the prover, so the enum has a longer name where it is declared.
+pub use prim::PrimitiveValue as Prim;
+pub use prim_ref::PrimRef;
 pub use primitives::Primitive;
+pub use priority::Priority;
 pub use ranged_numbers::{
     hopeless_number, mark_number, read_number, write_number, written_number_len,
 };

@@ -62,6 +62,18 @@ impl ObjectId {
         self.instance
     }
 
+    /// The identifier of four octets, 10 bits of kind in front of 22 of instance.
+    #[tactic(auto, unfolding(crate::specs::Identifier::identifier_octets))]
+    pub(crate) fn of_octets(octets: [u8; 4]) -> ObjectId
+        ensures { octets ≡ identifier_octets result }
+    {
+        let number = u32::from_be_bytes(octets);
+        ObjectId {
+            kind: (number >> 22) as u16,
+            instance: number & MOST_INSTANCE,
+        }
+    }
+
     /// The four octets, 10 bits of kind in front of 22 of instance.
     #[tactic(auto, unfolding(crate::specs::Identifier::identifier_octets))]
     fn octets(&self) -> [u8; 4]
@@ -101,11 +113,7 @@ impl Primitive for ObjectId {
                 why: Why::Length,
             });
         };
-        let number = u32::from_be_bytes(octets);
-        Ok(ObjectId {
-            kind: (number >> 22) as u16,
-            instance: number & MOST_INSTANCE,
-        })
+        Ok(ObjectId::of_octets(octets))
     }
 
     fn hopeless(_front: &[u8], _size: usize) -> Option<usize> {

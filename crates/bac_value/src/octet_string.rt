@@ -51,7 +51,7 @@ impl Octets {
     pub fn octets(&self) -> &[u8]
         ensures { result.now ≡ self.now }
     {
-        &self.octets
+        self.octets.as_slice()
     }
 }
 

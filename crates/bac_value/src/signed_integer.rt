@@ -6,7 +6,7 @@ ghost use Rattle.std.proofs.Common.{lit≤};
 ghost use Rattle.bac_value.specs.Numbers.{HasNumberLength};
 ghost use Rattle.bac_value.specs.SignedContents.{signed_number, SignedContents, RepeatsSign, least_signed};
 ghost use Rattle.bac_value.specs.SignedLaws.{signed_only_values, signed_written, signed_least, signed_lengths};
-ghost use Rattle.bac_value.specs.SignedValues.{one_signed, signed_each_length};
+ghost use Rattle.bac_value.specs.SignedValuesLaws.{one_signed, signed_each_length};
 
 use crate::primitives::Primitive;
 use bac_tag::{OutOfMemory, Refusal, Why, first_difference};
@@ -30,7 +30,7 @@ fn widened(octets: &[u8]) -> [u8; 8]
 }
 
 /// The two's complement number that at most eight octets spell.
-fn signed_of(octets: &[u8]) -> i64
+pub(crate) fn signed_of(octets: &[u8]) -> i64
     requires { HasNumberLength (length octets.now) }
     ensures { result ≡ signed_number octets.now }
 {

@@ -1,6 +1,6 @@
 use Rattle.std.proofs.Common.{arith}
 use Rattle.bac_tag.specs.OctetsLaws.{octets_at, zeros_to, octets_filled, length-filled}
-use Rattle.bac_value.specs.SignedValues.{signed_begun}
+use Rattle.bac_value.specs.SignedValuesLaws.{signed_begun}
 use Rattle.bac_value.proofs.signed_integer.SignedPrimitive.hopeless.Goals as goal
 
 pub returns-clause-none : goal.returns-clause-none

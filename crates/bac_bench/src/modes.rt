@@ -1,0 +1,37 @@
+//! How the program was asked to run.
+
+/// How the program was asked to run.
+#[derive(Clone, Copy, Debug, PartialEq, Eq)]
+pub enum Mode {
+    /// Each piece of work once; what is printed is the same in every run.
+    Once,
+    /// Each piece of work so often that its time can be told.
+    Time,
+}
+
+impl Mode {
+    /// The mode that the words of the process name, its own name in front.
+    pub fn named(words: &[String]) -> Option<Mode> {
+        match words {
+            [] | [_] => Some(Mode::Once),
+            [_, word] if word.as_str() == "time" => Some(Mode::Time),
+            _ => None,
+        }
+    }
+
+    /// Of so many rounds the best is told.
+    pub fn rounds(self) -> u32 {
+        match self {
+            Mode::Once => 1,
+            Mode::Time => 5,
+        }
+    }
+
+    /// How often a round does each piece of work.
+    pub fn repetitions(self) -> u32 {
+        match self {
+            Mode::Once => 1,
+            Mode::Time => 200,
+        }
+    }
+}

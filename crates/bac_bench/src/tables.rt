@@ -1,0 +1,61 @@
+//! What is printed.
+
+use crate::cases::Case;
+use crate::faults::BenchFault;
+use crate::modes::Mode;
+use crate::rounds::{Times, best};
+use std::io;
+use std::num::nearest_usize_to_f64;
+use std::rt::Clock;
+use std::time::Duration;
+
+/// Prints the head of the table, where there is one.
+pub fn begin(rt: &impl Print, mode: Mode) -> io::Result<()> {
+    if mode == Mode::Once {
+        return Ok(());
+    }
+    let (rounds, repetitions) = (mode.rounds(), mode.repetitions());
+    println!(rt; "large values; the best of {rounds} rounds of {repetitions} repetitions each")?;
+    println!(rt;
+        "{:<18} {:>9} {:>10} {:>10} {:>13} {:>11} {:>13}",
+        "contents of a",
+        "octets",
+        "copy MB/s",
+        "read MB/s",
+        "x time(copy)",
+        "write MB/s",
+        "x time(copy)"
+    )
+}
+
+/// Does the work of a case, and prints its line.
+pub fn add<C: Case>(
+    rt: &(impl Print + AllocGlobal + Clock),
+    mode: Mode,
+    name: &str,
+    octets: &[u8],
+) -> Result<(), BenchFault> {
+    let times = best::<C>(rt, mode, octets)?;
+    match mode {
+        Mode::Once => println!(rt; "{name}: {} octets read and written", octets.len())?,
+        Mode::Time => add_times(rt, name, octets.len(), times)?,
+    }
+    Ok(())
+}
+
+/// The line of a case that was measured.
+fn add_times(rt: &impl Print, name: &str, size: usize, times: Times) -> io::Result<()> {
+    let copy = speed(size, times.copy);
+    let read = speed(size, times.read);
+    let reading = times.read.div_duration_f64(times.copy);
+    let write = speed(size, times.write);
+    let writing = times.write.div_duration_f64(times.copy);
+    println!(rt;
+        "{name:<18} {size:>9} {copy:>10.0} {read:>10.0} {reading:>13.2} {write:>11.0} {writing:>13.2}"
+    )
+}
+
+/// Megabytes a second.
+fn speed(size: usize, took: Duration) -> f64 {
+    nearest_usize_to_f64(size) / took.as_secs_f64() / 1e6
+}

@@ -1,0 +1,246 @@
+//! A value of any of the thirteen primitive types.
+
+ghost use Rattle.std.specs.Prelude.{◌≡◌, ◌≢◌, ◌≤◌, ◌++◌, [], IfSome, IfNone, length, IfOk, IfErr, OnOk, OnErr};
+ghost use Rattle.bac_tag.specs.Octets.{FirstDifference};
+ghost use Rattle.bac_value.specs.declared.prim.PrimitiveValue.{PrimitiveValue};
+ghost use Rattle.bac_value.specs.Primitives.{IsBegun, AreLengths, IsHopelessAt, IsContentsReason};
+ghost use Rattle.bac_value.specs.PrimRefValue.{prim_of};
+ghost use Rattle.bac_value.specs.PrimContents.{application_number, IsPrim, PrimContents, prim_written, ContentsOf, MayWantMemory};
+
+use crate::bit_string::Bits;
+use crate::boolean_value::Boolean;
+use crate::character_string::Text;
+use crate::date_value::Date;
+use crate::double::DoubleBits;
+use crate::enumeration::Enumerated;
+use crate::null_value::Null;
+use crate::object_identifier::ObjectId;
+use crate::octet_string::Octets;
+use crate::prim_ref::PrimRef;
+use crate::primitives::Primitive;
+use crate::real::RealBits;
+use crate::signed_integer::Signed;
+use crate::time_value::Time;
+use crate::unsigned_integer::Unsigned;
+use crate::variants::{hopeless_variant, lengths_of, read_variant};
+use bac_tag::{OutOfMemory, Refusal, Why};
+use std::alloc::Global;
+
+/// A value of any primitive type, under the name of its type.
+#[derive(Debug, PartialEq, Eq, Drop)]
+pub enum PrimitiveValue {
+    Null(Null),
+    Boolean(Boolean),
+    Unsigned(Unsigned),
+    Signed(Signed),
+    RealBits(RealBits),
+    DoubleBits(DoubleBits),
+    Octets(Octets),
+    Text(Text),
+    Bits(Bits),
+    Enumerated(Enumerated),
+    Date(Date),
+    Time(Time),
+    ObjectId(ObjectId),
+}
+
+impl PrimitiveValue {
+    /// The value of the type with that application number whose contents are these octets. Those of a
+    /// Boolean are the ones of the context form.
+    ///
+    /// Length, where no value of the type has so many octets of contents; Content at the first octet that no
+    /// contents of that length can have there; OutOfMemory, where memory is wanted and refused.
+    pub fn read(alloc: Global, number: u8, octets: &[u8]) -> Result<PrimitiveValue, Refusal>
+        requires number { number ≤ 12 }
+        ensures value { IfOk result IsPrim }
+        ensures found { IfOk result (λ prim. ContentsOf number prim octets.now) }
+        ensures none { IfErr result (λ refusal. refusal.why ≢ Why.OutOfMemory → (prim : PrimitiveValue) → ContentsOf number prim octets.now → ⊥) }
+        ensures memory { IfErr result (λ refusal. refusal.why ≡ Why.OutOfMemory → (refusal.place ≡ 0) × MayWantMemory number) }
+        ensures place { IfErr result (λ refusal. refusal.place ≤ length octets.now) }
+        ensures reasons { IfErr result (λ refusal. IsContentsReason refusal.why) }
+        ensures length { IfErr result (λ refusal. refusal.why ≡ Why.Length → (refusal.place ≡ 0) × (IsBegun (ContentsOf number) [] (length octets.now) → ⊥)) }
+        ensures content { IfErr result (λ refusal. refusal.why ≡ Why.Content → IsHopelessAt (ContentsOf number) octets.now (length octets.now) refusal.place) }
+    {
+        match number {
+            0 => read_variant::<Null>(alloc, octets),
+            1 => read_variant::<Boolean>(alloc, octets),
+            2 => read_variant::<Unsigned>(alloc, octets),
+            3 => read_variant::<Signed>(alloc, octets),
+            4 => read_variant::<RealBits>(alloc, octets),
+            5 => read_variant::<DoubleBits>(alloc, octets),
+            6 => read_variant::<Octets>(alloc, octets),
+            7 => read_variant::<Text>(alloc, octets),
+            8 => read_variant::<Bits>(alloc, octets),
+            9 => read_variant::<Enumerated>(alloc, octets),
+            10 => read_variant::<Date>(alloc, octets),
+            11 => read_variant::<Time>(alloc, octets),
+            _ => read_variant::<ObjectId>(alloc, octets),
+        }
+    }
+
+    /// The least and the largest number of octets of contents of the type with that application number.
+    pub fn lengths(number: u8) -> (usize, usize)
+        requires number { number ≤ 12 }
+        ensures lengths { AreLengths (ContentsOf number) result.0 result.1 }
+        ensures limit { (result.0 ≤ result.1) × (result.1 ≤ 1048576) }
+    {
+        match number {
+            0 => lengths_of::<Null>(),
+            1 => lengths_of::<Boolean>(),
+            2 => lengths_of::<Unsigned>(),
+            3 => lengths_of::<Signed>(),
+            4 => lengths_of::<RealBits>(),
+            5 => lengths_of::<DoubleBits>(),
+            6 => lengths_of::<Octets>(),
+            7 => lengths_of::<Text>(),
+            8 => lengths_of::<Bits>(),
+            9 => lengths_of::<Enumerated>(),
+            10 => lengths_of::<Date>(),
+            11 => lengths_of::<Time>(),
+            _ => lengths_of::<ObjectId>(),
+        }
+    }
+
+    /// The first place at which the octets in front no longer begin contents of that size of the type with
+    /// that application number, and none where they do.
+    pub fn hopeless(number: u8, front: &[u8], size: usize) -> Option<usize>
+        requires number { number ≤ 12 }
+        requires size { IsBegun (ContentsOf number) [] size }
+        requires sized { length front.now ≤ size }
+        ensures none { IfNone result (IsBegun (ContentsOf number) front.now size) }
+        ensures some { IfSome result (λ place. IsHopelessAt (ContentsOf number) front.now size place) }
+    {
+        match number {
+            0 => hopeless_variant::<Null>(front, size),
+            1 => hopeless_variant::<Boolean>(front, size),
+            2 => hopeless_variant::<Unsigned>(front, size),
+            3 => hopeless_variant::<Signed>(front, size),
+            4 => hopeless_variant::<RealBits>(front, size),
+            5 => hopeless_variant::<DoubleBits>(front, size),
+            6 => hopeless_variant::<Octets>(front, size),
+            7 => hopeless_variant::<Text>(front, size),
+            8 => hopeless_variant::<Bits>(front, size),
+            9 => hopeless_variant::<Enumerated>(front, size),
+            10 => hopeless_variant::<Date>(front, size),
+            11 => hopeless_variant::<Time>(front, size),
+            _ => hopeless_variant::<ObjectId>(front, size),
+        }
+    }
+
+    /// The number of the application tag of its type, 0 to 12.
+    pub fn number(&self) -> u8
+        ensures { result ≡ application_number self.now }
+    {
+        match self {
+            Self::Null(_) => Null::APP,
+            Self::Boolean(_) => Boolean::APP,
+            Self::Unsigned(_) => Unsigned::APP,
+            Self::Signed(_) => Signed::APP,
+            Self::RealBits(_) => RealBits::APP,
+            Self::DoubleBits(_) => DoubleBits::APP,
+            Self::Octets(_) => Octets::APP,
+            Self::Text(_) => Text::APP,
+            Self::Bits(_) => Bits::APP,
+            Self::Enumerated(_) => Enumerated::APP,
+            Self::Date(_) => Date::APP,
+            Self::Time(_) => Time::APP,
+            Self::ObjectId(_) => ObjectId::APP,
+        }
+    }
+
+    /// How many octets of contents are written.
+    pub fn written_len(&self) -> usize
+        ensures value { IsPrim self.now }
+        ensures len { result ≡ length (prim_written self.now) }
+    {
+        match self {
+            Self::Null(value) => value.written_len(),
+            Self::Boolean(value) => value.written_len(),
+            Self::Unsigned(value) => value.written_len(),
+            Self::Signed(value) => value.written_len(),
+            Self::RealBits(value) => value.written_len(),
+            Self::DoubleBits(value) => value.written_len(),
+            Self::Octets(value) => value.written_len(),
+            Self::Text(value) => value.written_len(),
+            Self::Bits(value) => value.written_len(),
+            Self::Enumerated(value) => value.written_len(),
+            Self::Date(value) => value.written_len(),
+            Self::Time(value) => value.written_len(),
+            Self::ObjectId(value) => value.written_len(),
+        }
+    }
+
+    /// The first place at which contents of the value differ from those that are written, and none where they
+    /// are those.
+    pub fn mark(&self, octets: &[u8]) -> Option<usize>
+        requires { PrimContents self.now octets.now }
+        ensures none { IfNone result (octets.now ≡ prim_written self.now) }
+        ensures some { IfSome result (FirstDifference octets.now (prim_written self.now)) }
+    {
+        match self {
+            Self::Null(value) => value.mark(octets),
+            Self::Boolean(value) => value.mark(octets),
+            Self::Unsigned(value) => value.mark(octets),
+            Self::Signed(value) => value.mark(octets),
+            Self::RealBits(value) => value.mark(octets),
+            Self::DoubleBits(value) => value.mark(octets),
+            Self::Octets(value) => value.mark(octets),
+            Self::Text(value) => value.mark(octets),
+            Self::Bits(value) => value.mark(octets),
+            Self::Enumerated(value) => value.mark(octets),
+            Self::Date(value) => value.mark(octets),
+            Self::Time(value) => value.mark(octets),
+            Self::ObjectId(value) => value.mark(octets),
+        }
+    }
+
+    /// Appends the written contents. Where memory is refused `out` stays as it was.
+    pub fn write(&self, out: &mut Vec<u8>) -> Result<(), OutOfMemory>
+        ensures value { IsPrim self.now }
+        ensures ok { OnOk result (out.new.items ≡ out.old.items ++ prim_written self.now) }
+        ensures err { OnErr result (out.new.items ≡ out.old.items) }
+    {
+        match self {
+            Self::Null(value) => value.write(out),
+            Self::Boolean(value) => value.write(out),
+            Self::Unsigned(value) => value.write(out),
+            Self::Signed(value) => value.write(out),
+            Self::RealBits(value) => value.write(out),
+            Self::DoubleBits(value) => value.write(out),
+            Self::Octets(value) => value.write(out),
+            Self::Text(value) => value.write(out),
+            Self::Bits(value) => value.write(out),
+            Self::Enumerated(value) => value.write(out),
+            Self::Date(value) => value.write(out),
+            Self::Time(value) => value.write(out),
+            Self::ObjectId(value) => value.write(out),
+        }
+    }
+
+    /// The same value, borrowed.
+    pub fn as_prim_ref(&self) -> PrimRef<'_>
+        ensures { prim_of result ≡ self.now }
+    {
+        match self {
+            Self::Null(value) => PrimRef::Null(*value),
+            Self::Boolean(value) => PrimRef::Boolean(*value),
+            Self::Unsigned(value) => PrimRef::Unsigned(*value),
+            Self::Signed(value) => PrimRef::Signed(*value),
+            Self::RealBits(value) => PrimRef::RealBits(*value),
+            Self::DoubleBits(value) => PrimRef::DoubleBits(*value),
+            Self::Octets(value) => PrimRef::Octets(value.octets()),
+            Self::Text(value) => PrimRef::Text {
+                set: value.set(),
+                octets: value.octets(),
+            },
+            Self::Bits(value) => PrimRef::Bits {
+                count: value.len(),
+                packed: value.packed(),
+            },
+            Self::Enumerated(value) => PrimRef::Enumerated(*value),
+            Self::Date(value) => PrimRef::Date(*value),
+            Self::Time(value) => PrimRef::Time(*value),
+            Self::ObjectId(value) => PrimRef::ObjectId(*value),
+        }
+    }
+}

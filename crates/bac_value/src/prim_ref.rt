@@ -1,0 +1,99 @@
+//! A value of any primitive type, borrowed.
+
+ghost use Rattle.std.specs.Prelude.{◌≡◌, ◌≤◌};
+ghost use Rattle.bac_value.specs.declared.prim.PrimitiveValue.{PrimitiveValue};
+ghost use Rattle.bac_value.specs.PrimContents.{application_number, ContentsOf, IsWrittenOf};
+ghost use Rattle.bac_value.specs.PrimRefValue.{prim_of};
+
+use crate::bit_string::Bits;
+use crate::boolean_value::Boolean;
+use crate::character_string::Text;
+use crate::date_value::Date;
+use crate::double::DoubleBits;
+use crate::enumeration::Enumerated;
+use crate::null_value::Null;
+use crate::object_identifier::ObjectId;
+use crate::octet_string::Octets;
+use crate::primitives::Primitive;
+use crate::real::RealBits;
+use crate::signed_integer::Signed;
+use crate::time_value::Time;
+use crate::unsigned_integer::Unsigned;
+use crate::variants::borrow_variant;
+
+/// A value of any primitive type, under the name of its type. The octets of the three strings are those of
+/// the one who holds them.
+#[derive(Clone, Copy, Debug, PartialEq, Eq)]
+pub enum PrimRef<'a> {
+    Null(Null),
+    Boolean(Boolean),
+    Unsigned(Unsigned),
+    Signed(Signed),
+    RealBits(RealBits),
+    DoubleBits(DoubleBits),
+    Octets(&'a [u8]),
+    Text {
+        /// The number of the character set.
+        set: u8,
+        /// The octets of the text.
+        octets: &'a [u8],
+    },
+    Bits {
+        /// How many bits.
+        count: usize,
+        /// The octets that hold them, eight bits to an octet, from its highest bit downwards. The unused bits
+        /// of the last are zero.
+        packed: &'a [u8],
+    },
+    Enumerated(Enumerated),
+    Date(Date),
+    Time(Time),
+    ObjectId(ObjectId),
+}
+
+impl<'a> PrimRef<'a> {
+    /// The value of the type with that application number of which these contents are written, borrowed from
+    /// them.
+    pub fn of_contents(number: u8, octets: &'a [u8]) -> PrimRef<'a>
+        requires number { number ≤ 12 }
+        requires written { IsWrittenOf number octets.now }
+        ensures { (prim : PrimitiveValue) → ContentsOf number prim octets.now → prim_of result ≡ prim }
+    {
+        match number {
+            0 => borrow_variant::<Null>(octets),
+            1 => borrow_variant::<Boolean>(octets),
+            2 => borrow_variant::<Unsigned>(octets),
+            3 => borrow_variant::<Signed>(octets),
+            4 => borrow_variant::<RealBits>(octets),
+            5 => borrow_variant::<DoubleBits>(octets),
+            6 => borrow_variant::<Octets>(octets),
+            7 => borrow_variant::<Text>(octets),
+            8 => borrow_variant::<Bits>(octets),
+            9 => borrow_variant::<Enumerated>(octets),
+            10 => borrow_variant::<Date>(octets),
+            11 => borrow_variant::<Time>(octets),
+            _ => borrow_variant::<ObjectId>(octets),
+        }
+    }
+
+    /// The number of the application tag of its type, 0 to 12.
+    pub fn number(&self) -> u8
+        ensures { result ≡ application_number (prim_of self.now) }
+    {
+        match self {
+            PrimRef::Null(_) => Null::APP,
+            PrimRef::Boolean(_) => Boolean::APP,
+            PrimRef::Unsigned(_) => Unsigned::APP,
+            PrimRef::Signed(_) => Signed::APP,
+            PrimRef::RealBits(_) => RealBits::APP,
+            PrimRef::DoubleBits(_) => DoubleBits::APP,
+            PrimRef::Octets(_) => Octets::APP,
+            PrimRef::Text { .. } => Text::APP,
+            PrimRef::Bits { .. } => Bits::APP,
+            PrimRef::Enumerated(_) => Enumerated::APP,
+            PrimRef::Date(_) => Date::APP,
+            PrimRef::Time(_) => Time::APP,
+            PrimRef::ObjectId(_) => ObjectId::APP,
+        }
+    }
+}
