@@ -1,33 +1,33 @@
 -- Laws of a value of any of the thirteen primitive types.
-use Rattle.std.proofs.Common.{◌≡◌, ℕ, List, ◌^◌, ◌-◌, arith, ap, lit≤}
+use Rattle.std.proofs.Common.{◌≡◌, ◌≤◌, ℕ, List, ◌^◌, ◌-◌, length, arith, ap, lit≤}
 use Rattle.bac_value.specs.declared.prim.PrimitiveValue.{PrimitiveValue}
 use Rattle.bac_value.specs.declared.prim.PrimitiveValue.TheVariants.{Null, Boolean, Unsigned, Signed, RealBits, DoubleBits, Octets, Text, Bits, Enumerated, Date, Time, ObjectId}
 use Rattle.bac_tag.specs.Octets.{NoGreater}
 use Rattle.bac_value.specs.PrimitivesLaws.{the_list_written, the_list_least, the_list_once}
 use Rattle.bac_value.specs.NullContents.{IsNull, null_octets}
-use Rattle.bac_value.specs.NullLaws.{null_once}
+use Rattle.bac_value.specs.NullLaws.{null_once, null_lengths}
 use Rattle.bac_value.specs.BooleanContents.{IsBoolean, boolean_octets}
-use Rattle.bac_value.specs.BooleanLaws.{boolean_once}
-use Rattle.bac_value.specs.NumbersLaws.{number_range, number_written, number_least}
+use Rattle.bac_value.specs.BooleanLaws.{boolean_once, boolean_lengths}
+use Rattle.bac_value.specs.NumbersLaws.{number_range, number_written, number_least, number_lengths}
 use Rattle.bac_value.specs.UnsignedLaws.{one_unsigned}
 use Rattle.bac_value.specs.EnumeratedLaws.{one_enumerated}
-use Rattle.bac_value.specs.SignedLaws.{signed_only_values, signed_written, signed_least}
+use Rattle.bac_value.specs.SignedLaws.{signed_only_values, signed_written, signed_least, signed_lengths}
 use Rattle.bac_value.specs.SignedValuesLaws.{one_signed}
 use Rattle.bac_value.specs.RealContents.{IsReal, real_octets}
-use Rattle.bac_value.specs.RealLaws.{real_once}
+use Rattle.bac_value.specs.RealLaws.{real_once, real_lengths}
 use Rattle.bac_value.specs.DoubleContents.{IsDouble, double_octets}
-use Rattle.bac_value.specs.DoubleLaws.{double_once}
+use Rattle.bac_value.specs.DoubleLaws.{double_once, double_lengths}
 use Rattle.bac_value.specs.OctetStringContents.{IsOctetString, octets_themselves}
-use Rattle.bac_value.specs.OctetStringLaws.{octet_string_once}
+use Rattle.bac_value.specs.OctetStringLaws.{octet_string_once, octet_string_lengths}
 use Rattle.bac_value.specs.TextContents.{IsText, text_octets}
-use Rattle.bac_value.specs.TextLaws.{text_once}
-use Rattle.bac_value.specs.BitsLaws.{bits_once, bits_only_values, bits_written, bits_least}
+use Rattle.bac_value.specs.TextLaws.{text_once, text_lengths}
+use Rattle.bac_value.specs.BitsLaws.{bits_once, bits_only_values, bits_written, bits_least, bits_lengths}
 use Rattle.bac_value.specs.DateContents.{IsDate, date_octets}
-use Rattle.bac_value.specs.DateLaws.{date_once}
+use Rattle.bac_value.specs.DateLaws.{date_once, date_lengths}
 use Rattle.bac_value.specs.TimeContents.{IsTime, time_octets}
-use Rattle.bac_value.specs.TimeLaws.{time_once}
+use Rattle.bac_value.specs.TimeLaws.{time_once, time_lengths}
 use Rattle.bac_value.specs.Identifier.{IsIdentifier, identifier_octets}
-use Rattle.bac_value.specs.IdentifierLaws.{identifier_once}
+use Rattle.bac_value.specs.IdentifierLaws.{identifier_once, identifier_lengths}
 use Rattle.bac_value.specs.PrimContents.{application_number, IsPrim, PrimContents, prim_written}
 
 -- under one application number no octets are contents of two values
@@ -94,3 +94,19 @@ prim_written_least (Enumerated value) octets h = number_least 0 (2 ^ 32 - 1) val
 prim_written_least (Date value) octets h = the_list_least IsDate date_octets value octets h
 prim_written_least (Time value) octets h = the_list_least IsTime time_octets value octets h
 prim_written_least (ObjectId value) octets h = the_list_least IsIdentifier identifier_octets value octets h
+
+-- and none have more octets than a value may have
+pub prim_limit : (prim : PrimitiveValue) (octets : List ℕ) → PrimContents prim octets → length octets ≤ 1048576
+prim_limit (Null value) octets h = omega (arith, (null_lengths value octets h).1)
+prim_limit (Boolean value) octets h = omega (arith, (boolean_lengths value octets h).1)
+prim_limit (Unsigned value) octets h = omega (arith, (number_lengths 0 (2 ^ 64 - 1) value.0 octets h).1)
+prim_limit (Signed value) octets h = omega (arith, (signed_lengths value.0 octets h).1)
+prim_limit (RealBits value) octets h = omega (arith, (real_lengths value octets h).1)
+prim_limit (DoubleBits value) octets h = omega (arith, (double_lengths value octets h).1)
+prim_limit (Octets value) octets h = (octet_string_lengths value octets h).1
+prim_limit (Text value) octets h = (text_lengths value octets h).1
+prim_limit (Bits value) octets h = (bits_lengths value octets h).1
+prim_limit (Enumerated value) octets h = omega (arith, (number_lengths 0 (2 ^ 32 - 1) value.0 octets h).1)
+prim_limit (Date value) octets h = omega (arith, (date_lengths value octets h).1)
+prim_limit (Time value) octets h = omega (arith, (time_lengths value octets h).1)
+prim_limit (ObjectId value) octets h = omega (arith, (identifier_lengths value octets h).1)

@@ -1,6 +1,6 @@
 //! Laws of the values of any primitive type. Those of one type stand in the trait `Primitive`.
 
-ghost use Rattle.std.specs.Prelude.{◌≡◌, ℕ, List};
+ghost use Rattle.std.specs.Prelude.{◌≡◌, ◌≤◌, ℕ, List, length};
 ghost use Rattle.bac_tag.specs.Spelling.{IsLeast};
 ghost use Rattle.bac_value.specs.declared.prim.PrimitiveValue.{PrimitiveValue};
 ghost use Rattle.bac_value.specs.PrimContents.{IsPrim, PrimContents, prim_written, ContentsOf};
@@ -19,6 +19,11 @@ pub fn only_values_have_contents()
 /// What is written of a value is the least of its contents.
 pub fn written_contents_are_least()
     ensures { (prim : PrimitiveValue) → IsPrim prim → IsLeast (PrimContents prim) (prim_written prim) }
+{}
+
+/// No contents have more than 1,048,576 octets.
+pub fn contents_keep_the_limit()
+    ensures { (prim : PrimitiveValue) (octets : List ℕ) → PrimContents prim octets → length octets ≤ 1048576 }
 {}
 
 /// Contents and an application number tell the value.

@@ -1,0 +1,9 @@
+mod EventLemmas
+mod HeadLemmas
+mod OpenLemmas
+mod BalancedLemmas
+mod ViableLemmas
+mod LeastLemmas
+mod NodeLemmas
+mod BuildingLemmas
+mod EventLeastLemmas

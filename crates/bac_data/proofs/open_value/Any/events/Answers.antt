@@ -1,0 +1,11 @@
+use Rattle.std.proofs.Common.{◌∙◌, ap, List, ℕ}
+use Rattle.bac_data.specs.declared.nodes.Node.{Node}
+use Rattle.bac_data.specs.Nodes.{nodes_events}
+use Rattle.bac_data.proofs.BalancedLemmas.{walk_is}
+use Rattle.bac_data.proofs.open_value.Any.events.Goals as goal
+
+pub returns : goal.returns
+returns c =
+    walk_is 16 (nodes_events c.self.inside.octets.items c.self.inside.nodes.items) c.over.result _
+    (c.over.ensures ∙ ap (λ (o : List ℕ). nodes_events o c.deref-2.result.now) c.deref.ensures.value ∙ ap (λ (ns : List Node). nodes_events c.self.inside.octets.items ns) c.deref-2.ensures.value)
+    c.self.invariant.1 c.self.view_is

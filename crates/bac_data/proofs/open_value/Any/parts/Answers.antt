@@ -1,0 +1,15 @@
+use Rattle.std.proofs.Common.{◌≤◌, ◌∙◌, List, ℕ, ap, subst}
+use Rattle.bac_data.specs.declared.nodes.Node.{Node}
+use Rattle.bac_data.specs.OpenValue.{Elements, depth}
+use Rattle.bac_data.specs.Nodes.{nodes_events}
+use Rattle.bac_data.proofs.BalancedLemmas.{walk_is, events-value_of_events}
+use Rattle.bac_data.proofs.open_value.Any.parts.Goals as goal
+
+pub returns-clause-events : goal.returns-clause-events
+returns-clause-events c =
+    walk_is 16 (nodes_events c.self.inside.octets.items c.self.inside.nodes.items) _ _
+    (ap (λ (o : List ℕ). nodes_events o c.deref-2.result.now) c.deref.ensures.value ∙ ap (λ (ns : List Node). nodes_events c.self.inside.octets.items ns) c.deref-2.ensures.value)
+    c.self.invariant.1 c.self.view_is
+
+pub returns-clause-depth : goal.returns-clause-depth
+returns-clause-depth c = subst (λ (v : Elements). depth v ≤ 16) c.self.view_is (events-value_of_events 16 (nodes_events c.self.inside.octets.items c.self.inside.nodes.items) c.self.invariant.1).1

@@ -1,0 +1,9 @@
+pub mod OpenValue
+pub mod Spells
+pub mod Events
+pub mod EventsLaws
+pub mod Nodes
+pub mod Walks
+pub mod Building
+pub mod Adding
+pub mod Writing

@@ -1,0 +1,143 @@
+//! Building an open value, event by event.
+
+ghost use Rattle.std.specs.Prelude.{◌≡◌, ◌≢◌, ◌<◌, ◌↔◌, ◌⊎◌, ℕ, [], ◌∷◌, ◌++◌, take, length, IfOk, IfErr, IsOk, OnOk, OnErr, IsErrOf};
+ghost use Rattle.bac_data.specs.Events.{application, contextual, opening, closing, events};
+ghost use Rattle.bac_data.specs.Building.{HasOpen, IsInnermost};
+
+use crate::build_faults::BuildFault;
+use crate::nodes::{Node, append_context, append_primitive};
+use crate::open_value::Any;
+use arrayvec::ArrayVec;
+use bac_tag::OutOfMemory;
+use bac_value::{Octets, Prim, Primitive};
+use std::alloc::Global;
+use std::marker::Model;
+
+/// How many groups nest at most.
+const MAX_GROUPS: usize = 16;
+
+/// An open value that is being built, event by event. After each fault it is as it was.
+#[derive(Debug, Drop)]
+pub struct AnyBuilder {
+    octets: Vec<u8>,
+    nodes: Vec<Node>,
+    /// The numbers of the open groups, the outermost first.
+    groups: ArrayVec<u8, 16>,
+}
+
+impl Model for AnyBuilder {
+    ghost use Rattle.std.specs.Prelude.{List};
+    ghost use Rattle.std.specs.Coded.{coded_list};
+    ghost use Rattle.bac_data.specs.Events.{Event};
+    ghost use Rattle.bac_data.specs.EventsLaws.{event_code};
+    ghost use Rattle.bac_data.specs.Nodes.{nodes_events};
+    ghost use Rattle.bac_data.specs.Building.{IsBuilding};
+
+    ghost Value = { List Event };
+
+    ghost coded = { coded_list event_code };
+
+    ghost view = { λ builder. nodes_events builder.octets.items builder.nodes.items };
+
+    ghost invariant = { λ builder. IsBuilding builder.octets.items builder.nodes.items builder.groups.items };
+}
+
+impl AnyBuilder {
+    /// A builder with no event.
+    pub fn new(alloc: Global) -> Result<AnyBuilder, OutOfMemory>
+        ensures { IfOk result (λ builder. builder ≡ []) }
+    {
+        // room for a small value, as most are
+        Ok(AnyBuilder {
+            octets: Vec::with_capacity(alloc, 64)?,
+            nodes: Vec::with_capacity(alloc, 8)?,
+            groups: ArrayVec::new(),
+        })
+    }
+
+    /// Appends an application primitive. Where memory is refused it comes back.
+    pub fn push(&mut self, prim: Prim) -> Result<(), (Prim, BuildFault)>
+        ensures ok { OnOk result (self.new ≡ self.old ++ application prim ∷ []) }
+        ensures err { IfErr result (λ back. (back.0 ≡ prim) × (back.1 ≡ BuildFault.OutOfMemory) × (self.new ≡ self.old)) }
+    {
+        append_primitive(&mut self.octets, &mut self.nodes, prim)
+    }
+
+    /// Appends a context primitive: its number, at most 254, and its contents, at most 1,048,576 octets, which
+    /// are copied.
+    ///
+    /// # Errors
+    /// `Number` for 255, else `TooLong` for more octets, else `OutOfMemory`.
+    pub fn push_ctx(&mut self, number: u8, octets: &[u8]) -> Result<(), BuildFault>
+        ensures ok { OnOk result (self.new ≡ self.old ++ contextual number octets.now ∷ []) }
+        ensures number { IsErrOf result BuildFault.Number ↔ (number ≡ 255) }
+        ensures too_long { IsErrOf result BuildFault.TooLong ↔ ((number ≢ 255) × (1048576 < length octets.now)) }
+        ensures others { IfErr result (λ fault. (fault ≡ BuildFault.Number) ⊎ (fault ≡ BuildFault.TooLong) ⊎ (fault ≡ BuildFault.OutOfMemory)) }
+        ensures err { OnErr result (self.new ≡ self.old) }
+    {
+        if number == 255 {
+            return Err(BuildFault::Number);
+        }
+        if octets.len() > Octets::LONGEST {
+            return Err(BuildFault::TooLong);
+        }
+        append_context(&mut self.octets, &mut self.nodes, number, octets)
+    }
+
+    /// Begins a group with this number, at most 254.
+    ///
+    /// # Errors
+    /// `Number` for 255, else `Depth` where sixteen groups are open, else `OutOfMemory`.
+    pub fn open(&mut self, number: u8) -> Result<(), BuildFault>
+        ensures ok { OnOk result (self.new ≡ self.old ++ opening number ∷ []) }
+        ensures number { IsErrOf result BuildFault.Number ↔ (number ≡ 255) }
+        ensures depth { IsErrOf result BuildFault.Depth ↔ ((number ≢ 255) × HasOpen 16 self.old 16) }
+        ensures others { IfErr result (λ fault. (fault ≡ BuildFault.Number) ⊎ (fault ≡ BuildFault.Depth) ⊎ (fault ≡ BuildFault.OutOfMemory)) }
+        ensures err { OnErr result (self.new ≡ self.old) }
+    {
+        if number == 255 {
+            return Err(BuildFault::Number);
+        }
+        if self.groups.len() >= MAX_GROUPS {
+            return Err(BuildFault::Depth);
+        }
+        if self.nodes.push(Node::Open(number)).is_err() {
+            return Err(BuildFault::OutOfMemory);
+        }
+        self.groups.push(number);
+        Ok(())
+    }
+
+    /// Ends the innermost group.
+    ///
+    /// # Errors
+    /// `NothingOpen` where no group is open, else `OutOfMemory`.
+    pub fn close(&mut self) -> Result<(), BuildFault>
+        ensures ok { OnOk result ((number : ℕ) × IsInnermost 16 self.old number × (self.new ≡ self.old ++ closing number ∷ [])) }
+        ensures nothing_open { IsErrOf result BuildFault.NothingOpen ↔ HasOpen 16 self.old 0 }
+        ensures others { IfErr result (λ fault. (fault ≡ BuildFault.NothingOpen) ⊎ (fault ≡ BuildFault.OutOfMemory)) }
+        ensures err { OnErr result (self.new ≡ self.old) }
+    {
+        if self.groups.is_empty() {
+            return Err(BuildFault::NothingOpen);
+        }
+        let number = self.groups[self.groups.len() - 1];
+        if self.nodes.push(Node::Close(number)).is_err() {
+            return Err(BuildFault::OutOfMemory);
+        }
+        self.groups.pop();
+        Ok(())
+    }
+
+    /// The value with the events so far. Where a group is still open the builder comes back. It takes no memory.
+    pub fn finish(self) -> Result<Any, (AnyBuilder, BuildFault)>
+        ensures value { IfOk result (λ value. events value ≡ self) }
+        ensures complete { IsOk result ↔ HasOpen 16 self 0 }
+        ensures back { IfErr result (λ back. (back.0 ≡ self) × (back.1 ≡ BuildFault.StillOpen)) }
+    {
+        if !self.groups.is_empty() {
+            return Err((self, BuildFault::StillOpen));
+        }
+        Ok(Any::of_nodes(self.octets, self.nodes))
+    }
+}

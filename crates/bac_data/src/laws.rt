@@ -1,0 +1,17 @@
+//! Laws of the definitions.
+
+ghost use Rattle.std.specs.Prelude.{◌≡◌, ℕ};
+ghost use Rattle.bac_tag.specs.Spelling.{EndsItself};
+ghost use Rattle.bac_data.specs.OpenValue.{Elements};
+ghost use Rattle.bac_data.specs.Spells.{SpellsOpen};
+ghost use Rattle.bac_data.specs.Events.{events};
+
+/// The events of a walk determine the value.
+pub fn events_determine_the_value()
+    ensures { (v w : Elements) → events v ≡ events w → v ≡ w }
+{}
+
+/// An open value ends itself: no spelling of one begins another one, nor spells two.
+pub fn open_values_end_themselves()
+    ensures { (limit number : ℕ) → EndsItself (SpellsOpen limit number) }
+{}

@@ -1,0 +1,18 @@
+//! Open values of BACnet (ANSI/ASHRAE 135, clause 20.2): any elements between an opening and a closing tag.
+#![tactic(auto)]
+
+mod build_faults;
+mod building;
+pub mod laws;
+mod nodes;
+mod open_value;
+#[cfg(test)]
+mod tests;
+mod walking;
+mod writing;
+
+pub use build_faults::BuildFault;
+pub use building::AnyBuilder;
+pub use open_value::Any;
+pub use walking::{Event, Events};
+pub use writing::write_any;

@@ -1,0 +1,68 @@
+//! An open value (clause 20.2).
+
+ghost use Rattle.std.specs.Prelude.{◌≡◌, ◌≤◌, [], length};
+ghost use Rattle.bac_data.specs.OpenValue.{depth};
+ghost use Rattle.bac_data.specs.Events.{events, Opens};
+ghost use Rattle.bac_data.specs.Nodes.{nodes_events, AreNodes};
+
+use crate::nodes::Node;
+use crate::walking::Events;
+use std::marker::Model;
+
+/// An open value: a list of elements, each an application primitive, a context primitive (its number and its
+/// contents) or a group (its number and its elements). At most 16 groups nest.
+#[derive(Debug, Drop)]
+pub struct Any {
+    octets: Vec<u8>,
+    nodes: Vec<Node>,
+}
+
+impl Model for Any {
+    ghost use Rattle.std.specs.Prelude.{[]};
+    ghost use Rattle.bac_data.specs.OpenValue.{Elements};
+    ghost use Rattle.bac_data.specs.EventsLaws.{elements_code, value_of_events};
+    ghost use Rattle.bac_data.specs.Nodes.{nodes_events, AreNodes};
+    ghost use Rattle.bac_data.specs.Events.{Opens};
+
+    ghost Value = { Elements };
+
+    ghost coded = { elements_code };
+
+    ghost view = { λ any. value_of_events (nodes_events any.octets.items any.nodes.items) };
+
+    ghost invariant = { λ any. AreNodes any.octets.items 0 any.nodes.items × Opens 16 [] (nodes_events any.octets.items any.nodes.items) [] };
+}
+
+impl Any {
+    /// The value of nodes in which each group that is opened is closed.
+    pub(crate) fn of_nodes(octets: Vec<u8>, nodes: Vec<Node>) -> Any
+        requires nodes { AreNodes octets.items 0 nodes.items }
+        requires closed { Opens 16 [] (nodes_events octets.items nodes.items) [] }
+        ensures { events result ≡ nodes_events octets.items nodes.items }
+    {
+        Any { octets, nodes }
+    }
+
+    /// The contents of its primitives, joined, and its nodes.
+    pub(crate) fn parts(&self) -> (&[u8], &[Node])
+        ensures nodes { AreNodes result.0.now 0 result.1.now }
+        ensures events { nodes_events result.0.now result.1.now ≡ events self.now }
+        ensures depth { depth self.now ≤ 16 }
+    {
+        (&self.octets, &self.nodes)
+    }
+
+    /// A walk over the value. It takes no memory.
+    pub fn events(&self) -> Events<'_>
+        ensures { result ≡ events self.now }
+    {
+        Events::over(&self.octets, &self.nodes)
+    }
+
+    /// How many events a walk over the value has.
+    pub fn count(&self) -> usize
+        ensures { result ≡ length (events self.now) }
+    {
+        self.nodes.len()
+    }
+}

@@ -1,0 +1,4 @@
+//! What no clause says: values from outside, and that the calls succeed.
+
+mod building;
+mod writing;

@@ -1,0 +1,106 @@
+//! Writing an open value.
+
+ghost use Rattle.std.specs.Prelude.{◌≡◌, ◌≤◌, length, OnOk, OnErr};
+ghost use Rattle.std.specs.List.{AllByRecursion};
+ghost use Rattle.bac_tag.specs.Spelling.{IsLeast};
+ghost use Rattle.bac_tag.specs.Heads.{IsValid, Heads};
+ghost use Rattle.bac_value.specs.PrimContents.{IsWrittenOf};
+ghost use Rattle.bac_value.specs.PrimOfContents.{prim_of_contents};
+ghost use Rattle.bac_data.specs.Spells.{SpellsPrimitive, SpellsOpen};
+ghost use Rattle.bac_data.specs.Events.{SpellsEvent, SpellsEvents};
+ghost use Rattle.bac_data.specs.Nodes.{node_event, nodes_events, IsWithin, IsNode};
+ghost use Rattle.bac_data.specs.Writing.{Extends, Appends};
+
+use crate::nodes::Node;
+use crate::open_value::Any;
+use bac_tag::{OutOfMemory, TagHead, write_head};
+
+/// Appends a head. Where memory is refused nothing is appended.
+fn append_head(head: TagHead, out: &mut Vec<u8>) -> Result<(), OutOfMemory>
+    requires { IsValid head }
+    ensures ok { OnOk result (Appends (IsLeast (Heads head)) out.old.items out.new.items) }
+    ensures err { OnErr result (out.new.items ≡ out.old.items) }
+{
+    out.extend_from_slice(write_head(head).as_slice())?;
+    Ok(())
+}
+
+/// Appends an application primitive by its number and its written contents. Where memory is refused some
+/// octets may be there.
+fn append_primitive(number: u8, contents: &[u8], out: &mut Vec<u8>) -> Result<(), OutOfMemory>
+    requires number { number ≤ 12 }
+    requires contents { IsWrittenOf number contents.now }
+    ensures ok { OnOk result (Appends (IsLeast (SpellsPrimitive (prim_of_contents number contents.now))) out.old.items out.new.items) }
+    ensures err { OnErr result (Extends out.old.items out.new.items) }
+{
+    if number == 1 {
+        return append_head(TagHead::AppBool(contents[0] == 1), out);
+    }
+    let len = contents.len() as u32;
+    append_head(TagHead::App { number, len }, out)?;
+    out.extend_from_slice(contents)?;
+    Ok(())
+}
+
+/// Appends an event. Where memory is refused some octets may be there.
+fn append_node(octets: &[u8], node: Node, out: &mut Vec<u8>) -> Result<(), OutOfMemory>
+    requires within { IsWithin (length octets.now) node }
+    requires node { IsNode octets.now node }
+    ensures ok { OnOk result (Appends (IsLeast (SpellsEvent (node_event octets.now node))) out.old.items out.new.items) }
+    ensures err { OnErr result (Extends out.old.items out.new.items) }
+{
+    match node {
+        Node::Application { number, start, end } => {
+            append_primitive(number, &octets[start..end], out)
+        }
+        Node::Context { number, start, end } => {
+            let contents = &octets[start..end];
+            let len = contents.len() as u32;
+            append_head(TagHead::Ctx { number, len }, out)?;
+            out.extend_from_slice(contents)?;
+            Ok(())
+        }
+        Node::Open(number) => append_head(TagHead::Open(number), out),
+        Node::Close(number) => append_head(TagHead::Close(number), out),
+    }
+}
+
+/// Appends events. Where memory is refused some octets may be there.
+fn append_nodes(octets: &[u8], nodes: &[Node], out: &mut Vec<u8>) -> Result<(), OutOfMemory>
+    requires within { AllByRecursion (IsWithin (length octets.now)) nodes.now }
+    requires nodes { AllByRecursion (IsNode octets.now) nodes.now }
+    ensures ok { OnOk result (Appends (IsLeast (SpellsEvents (nodes_events octets.now nodes.now))) out.old.items out.new.items) }
+    ensures err { OnErr result (Extends out.old.items out.new.items) }
+{
+    for node in nodes {
+        append_node(octets, *node, out)?;
+    }
+    Ok(())
+}
+
+/// Appends an open value with its tags. Where memory is refused some octets may be there.
+fn append_any(value: &Any, number: u8, out: &mut Vec<u8>) -> Result<(), OutOfMemory>
+    requires { number ≤ 254 }
+    ensures ok { OnOk result (Appends (IsLeast (SpellsOpen 16 number value.now)) out.old.items out.new.items) }
+    ensures err { OnErr result (Extends out.old.items out.new.items) }
+{
+    let (octets, nodes) = value.parts();
+    append_head(TagHead::Open(number), out)?;
+    append_nodes(octets, nodes, out)?;
+    append_head(TagHead::Close(number), out)
+}
+
+/// Appends the least spelling of an open value, with the opening and the closing tag of this number around
+/// it, which is at most 254. Where memory is refused `out` stays as it was.
+pub fn write_any(value: &Any, number: u8, out: &mut Vec<u8>) -> Result<(), OutOfMemory>
+    requires { number ≤ 254 }
+    ensures ok { OnOk result (Appends (IsLeast (SpellsOpen 16 number value.now)) out.old.items out.new.items) }
+    ensures err { OnErr result (out.new.items ≡ out.old.items) }
+{
+    let start = out.len();
+    let written = append_any(value, number, out);
+    if written.is_err() {
+        out.truncate(start);
+    }
+    written
+}
