@@ -1,8 +1,10 @@
 -- What a builder's steps do.
 use Rattle.std.proofs.Common.{◌≡◌, ℕ, ◌≤◌, ◌<◌, Bool, true, false, List, [], ◌∷◌, ◌++◌, length, reverse, refl, sym, ◌∙◌, ap, subst, arith}
-use Rattle.std.specs.Prelude.{Result, Ok, Err, OnOk, OnErr, IfErr, IsErrOf, ◌↔◌, if◌then◌else◌, Option, Some}
+use Rattle.std.specs.Prelude.{Result, Ok, Err, OnOk, OnErr, IfErr, IsErrOf, IsTrue, ◌↔◌, if◌then◌else◌, Option, Some}
 use Rattle.std.specs.Prelude.{◌==◌}
-use Rattle.std.proofs.lemmas.Bool.{eqb-false}
+use Rattle.std.proofs.lemmas.Bool.{eqb-false, eqb-true}
+use Rattle.std.proofs.Common.{eq-eqb}
+use mir.Val.{bool_byte}
 use Rattle.std.specs.Option.{option_to_list}
 use Rattle.std.specs.Result.{is_ok, is_err}
 use Rattle.std.specs.List.{AllByRecursion}
@@ -13,7 +15,7 @@ use Rattle.bac_data.specs.declared.nodes.Node.{Node}
 use Rattle.bac_data.specs.Events.{Event, application, contextual, opening, closing, Opens}
 use Rattle.bac_data.specs.Nodes.{nodes_events}
 use Rattle.bac_data.specs.Adding.{Adds}
-use Rattle.bac_data.specs.Building.{HasOpen, IsInnermost, IsBuilding}
+use Rattle.bac_data.specs.Building.{HasOpen, IsInnermost, IsBuilding, MayFollow}
 use Rattle.bac_data.proofs.OpenLemmas.{Opens-append, Opens-one}
 
 -- ---- what a test of a result tells
@@ -125,3 +127,29 @@ on_err (Err x) h = h
 pub on_err_then : {T E P Q : Type 0} (r : Result T E) → OnErr r P → (P → Q) → OnErr r Q
 on_err_then (Ok x) h f = tt
 on_err_then (Err x) h f = f h
+
+-- an event that opens and closes nothing, where memory may be refused
+pub building_kept : (r : Result (Unit {0}) BuildFault) (o o' : List ℕ) (ns ns' : List Node) (gs : List ℕ) (event : Event) (f : BuildFault) → ((s : List ℕ) → Opens 16 s (event ∷ []) s) → IsBuilding o ns gs → OnOk r (Adds o o' ns ns' event)
+    → IfErr r (λ fault. (fault ≡ f) × (o' ≡ o) × (ns' ≡ ns)) → IsBuilding o' ns' gs
+building_kept (Ok x) o o' ns ns' gs event f keeps h a e = building_more o o' ns ns' gs event h a keeps
+building_kept (Err x) o o' ns ns' gs event f keeps h a e = rw (e.1, e.2) h
+
+first_same : {a b : ℕ} {x y : List ℕ} → a ∷ x ≡ b ∷ y → a ≡ b
+first_same e = cc
+
+-- the closing that may follow is that of the innermost group
+pub closing_follows : (old new : List Event) (n : ℕ) → MayFollow 16 old (closing n) → ((number : ℕ) × IsInnermost 16 old number × (new ≡ old ++ closing number ∷ [])) → new ≡ old ++ closing n ∷ []
+closing_follows old new n (s, t, o, (r, e, h)) (number, (outer, p), is) =
+    let same : number ∷ outer ≡ n ∷ r = Opens-one 16 old [] (number ∷ outer) (n ∷ r) p (subst (Opens 16 [] old) e o) in
+    is ∙ ap (λ (k : ℕ). old ++ closing k ∷ []) (first_same same)
+
+pub complete_open : (octets : List ℕ) (nodes : List Node) (groups : List ℕ) (es : List Event) (b : Bool) → IsBuilding octets nodes groups → nodes_events octets nodes ≡ es → b ≡ (length groups == 0) → IsTrue b ↔ HasOpen 16 es 0
+complete_open octets nodes groups es b h e test = (
+  λ t. let empty : length groups ≡ 0 = eqb-true (length groups) 0 (sym test ∙ t) in
+      (reverse groups, subst (λ (es : List Event). Opens 16 [] es (reverse groups)) e h.opened, length-reverse groups ∙ empty),
+  λ p. test ∙ eq-eqb (length groups) 0 (has_open_one (nodes_events octets nodes) (length groups) 0 (groups_open octets nodes groups h) (subst (λ (es : List Event). HasOpen 16 es 0) (sym e) p)),
+)
+
+pub bit_byte : (bit : Bool) → bool_byte bit ≡ (if bit then 1 else 0)
+bit_byte true = refl
+bit_byte false = refl

@@ -7,20 +7,11 @@ use Rattle.bac_tag.specs.Heads.{Heads}
 use Rattle.bac_tag.specs.HeadsLaws.{heads_end}
 use Rattle.bac_tag.specs.Spelling.{EndsItself}
 use Rattle.bac_value.specs.declared.boolean_value.Boolean.{Boolean as BooleanValue}
-use Rattle.bac_value.specs.declared.prim.PrimitiveValue.{PrimitiveValue}
 use Rattle.bac_value.specs.declared.prim.PrimitiveValue.TheVariants.{Boolean}
-use Rattle.bac_value.specs.OctetStringContents.{IsOctetString}
 use Rattle.bac_value.specs.PrimContents.{application_number, PrimContents}
 use Rattle.bac_value.specs.PrimLaws.{prim_once}
+use Rattle.bac_data.specs.Under.{Under}
 use Rattle.bac_data.specs.Events.{Event, application, contextual, opening, closing, SpellsEvent}
-
--- the contents that stand under a head, for an event
-abbrev pub Under : TagHead → Event → List ℕ → Type 0
-Under (App number len) e c = (prim : PrimitiveValue) × (e ≡ application prim) × (application_number prim ≡ number) × PrimContents prim c × (length c ≡ len)
-Under (AppBool bit) e c = (value : BooleanValue) × (e ≡ application (Boolean value)) × (value.0 ≡ bit) × (c ≡ [])
-Under (Ctx number len) e c = (e ≡ contextual number c) × IsOctetString c × (length c ≡ len)
-Under (Open number) e c = (e ≡ opening number) × (c ≡ [])
-Under (Close number) e c = (e ≡ closing number) × (c ≡ [])
 
 pub record Headed (e : Event) (b : List ℕ) : Type 0 where
   pub head : TagHead

@@ -7,3 +7,7 @@ mod LeastLemmas
 mod NodeLemmas
 mod BuildingLemmas
 mod EventLeastLemmas
+mod ReadingLemmas
+mod NextHeadLemmas
+mod StandingLemmas
+mod AnyLemmas

@@ -1,5 +1,5 @@
 -- A value that is being built, and the groups that are open.
-use Rattle.std.specs.Prelude.{◌≡◌, ℕ, ◌≤◌, List, [], ◌∷◌, length, reverse}
+use Rattle.std.specs.Prelude.{◌≡◌, ◌↔◌, ℕ, Bool, IsTrue, ◌<◌, ◌≤◌, List, [], ◌∷◌, length, reverse}
 use Rattle.std.specs.List.{AllByRecursion}
 use Rattle.bac_data.specs.declared.nodes.Node.{Node}
 use Rattle.bac_data.specs.Events.{Event, Opens}
@@ -18,3 +18,16 @@ pub record IsBuilding (octets : List ℕ) (nodes : List Node) (groups : List ℕ
   pub are_nodes : AreNodes octets 0 nodes
   pub opened : Opens 16 [] (nodes_events octets nodes) (reverse groups)
   pub numbers : AllByRecursion (λ number. number ≤ 254) groups
+
+-- the number that ends the innermost group, or the value, which has this one
+abbrev pub closing_number : ℕ → List ℕ → ℕ
+closing_number number [] = number
+closing_number number (k ∷ s) = k
+
+-- behind these events a group may begin where there is room, and the innermost group, or the value, has the closing number
+abbrev pub IsPlace : ℕ → ℕ → List Event → Bool → ℕ → Type 0
+IsPlace limit number es room closing = (s : List ℕ) × Opens limit [] es s × (IsTrue room ↔ (length s < limit)) × (closing ≡ closing_number number s)
+
+-- the event may follow
+abbrev pub MayFollow : ℕ → List Event → Event → Type 0
+MayFollow limit es event = (s t : List ℕ) × Opens limit [] es s × Opens limit s (event ∷ []) t

@@ -7,3 +7,5 @@ pub mod Walks
 pub mod Building
 pub mod Adding
 pub mod Writing
+pub mod Reading
+pub mod Under

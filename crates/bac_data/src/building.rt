@@ -1,11 +1,13 @@
 //! Building an open value, event by event.
 
-ghost use Rattle.std.specs.Prelude.{◌≡◌, ◌≢◌, ◌<◌, ◌↔◌, ◌⊎◌, ℕ, [], ◌∷◌, ◌++◌, take, length, IfOk, IfErr, IsOk, OnOk, OnErr, IsErrOf};
+ghost use Rattle.std.specs.Prelude.{◌≡◌, ◌≢◌, ◌<◌, ◌≤◌, ◌↔◌, ◌⊎◌, ℕ, [], ◌∷◌, ◌++◌, take, length, IfOk, IfErr, IsOk, IsTrue, OnOk, OnErr, IsErrOf};
 ghost use Rattle.bac_data.specs.Events.{application, contextual, opening, closing, events};
-ghost use Rattle.bac_data.specs.Building.{HasOpen, IsInnermost};
+ghost use Rattle.bac_data.specs.Building.{HasOpen, IsInnermost, IsPlace, MayFollow};
+ghost use Rattle.bac_data.specs.Reading.{item_event, IsItem};
 
 use crate::build_faults::BuildFault;
-use crate::nodes::{Node, append_context, append_primitive};
+use crate::items::Item;
+use crate::nodes::{Node, append_application, append_context, append_primitive};
 use crate::open_value::Any;
 use arrayvec::ArrayVec;
 use bac_tag::OutOfMemory;
@@ -127,6 +129,46 @@ impl AnyBuilder {
         }
         self.groups.pop();
         Ok(())
+    }
+
+    /// Whether one group more may begin, and the number that ends the innermost group, or the value, which has
+    /// this one.
+    pub(crate) fn place(&self, number: u8) -> (bool, u8)
+        requires { number ≤ 254 }
+        ensures place { IsPlace 16 number self.now result.0 result.1 }
+        ensures small { result.1 ≤ 254 }
+    {
+        let room = self.groups.len() < MAX_GROUPS;
+        match self.groups.as_slice() {
+            [] => (room, number),
+            [.., innermost] => (room, *innermost),
+        }
+    }
+
+    /// Whether no group is open.
+    pub(crate) fn is_complete(&self) -> bool
+        ensures { IsTrue result ↔ HasOpen 16 self.now 0 }
+    {
+        self.groups.is_empty()
+    }
+
+    /// Appends what stands next.
+    pub(crate) fn take(&mut self, item: Item<'_>) -> Result<(), BuildFault>
+        requires item { IsItem item }
+        requires follows { MayFollow 16 self.old (item_event item) }
+        ensures ok { OnOk result (self.new ≡ self.old ++ item_event item.entry ∷ []) }
+    {
+        match item {
+            Item::Boolean(bit) => {
+                append_application(&mut self.octets, &mut self.nodes, 1, &[u8::from(bit)])
+            }
+            Item::Application { number, contents } => {
+                append_application(&mut self.octets, &mut self.nodes, number, contents)
+            }
+            Item::Context { number, octets } => self.push_ctx(number, octets),
+            Item::Open(number) => self.open(number),
+            Item::Close(_) => self.close(),
+        }
     }
 
     /// The value with the events so far. Where a group is still open the builder comes back. It takes no memory.

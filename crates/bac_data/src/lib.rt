@@ -3,9 +3,11 @@
 
 mod build_faults;
 mod building;
+mod items;
 pub mod laws;
 mod nodes;
 mod open_value;
+mod reading;
 #[cfg(test)]
 mod tests;
 mod walking;
@@ -14,5 +16,6 @@ mod writing;
 pub use build_faults::BuildFault;
 pub use building::AnyBuilder;
 pub use open_value::Any;
+pub use reading::read_any;
 pub use walking::{Event, Events};
 pub use writing::write_any;

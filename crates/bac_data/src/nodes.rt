@@ -4,9 +4,12 @@ ghost use Rattle.std.specs.Prelude.{◌≡◌, ◌≤◌, ◌∷◌, ◌++◌, [
 ghost use Rattle.bac_data.specs.Events.{application, contextual};
 ghost use Rattle.bac_data.specs.Nodes.{AreNodes};
 ghost use Rattle.bac_data.specs.Adding.{Adds};
+ghost use Rattle.bac_value.specs.declared.prim.PrimitiveValue.{PrimitiveValue};
+ghost use Rattle.bac_value.specs.PrimContents.{ContentsOf};
+ghost use Rattle.bac_value.specs.PrimOfContents.{prim_of_contents};
 
 use crate::build_faults::BuildFault;
-use bac_value::Prim;
+use bac_value::{Prim, append_written};
 
 /// An event of an open value. The contents of a primitive are the octets from `start` up to `end`.
 #[derive(Clone, Copy, Debug, PartialEq, Eq)]
@@ -69,6 +72,32 @@ pub(crate) fn append_primitive(
         return Err((prim, BuildFault::OutOfMemory));
     }
     Ok(())
+}
+
+/// Appends the application primitive with this number and these contents. Where memory is refused all is as it
+/// was.
+pub(crate) fn append_application(
+    octets: &mut Vec<u8>,
+    nodes: &mut Vec<Node>,
+    number: u8,
+    contents: &[u8],
+) -> Result<(), BuildFault>
+    requires nodes { AreNodes octets.old.items 0 nodes.old.items }
+    requires number { number ≤ 12 }
+    requires contents { (prim : PrimitiveValue) × ContentsOf number prim contents.now }
+    ensures ok { OnOk result (Adds octets.old.items octets.new.items nodes.old.items nodes.new.items (application (prim_of_contents number contents.now))) }
+    ensures err { IfErr result (λ fault. (fault ≡ BuildFault.OutOfMemory) × (octets.new.items ≡ octets.old.items) × (nodes.new.items ≡ nodes.old.items)) }
+{
+    let start = octets.len();
+    if append_written(number, contents, octets).is_err() {
+        return Err(BuildFault::OutOfMemory);
+    }
+    let node = Node::Application {
+        number,
+        start,
+        end: octets.len(),
+    };
+    put(octets, nodes, start, node)
 }
 
 /// Appends a context primitive. Where memory is refused all is as it was.

@@ -1,4 +1,5 @@
 //! What no clause says: values from outside, and that the calls succeed.
 
 mod building;
+mod reading;
 mod writing;

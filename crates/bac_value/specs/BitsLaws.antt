@@ -6,12 +6,13 @@ use Rattle.std.specs.Int.{bit_at}
 use Rattle.std.proofs.Math.ListN.{get_or-eq_default}
 use Rattle.std.proofs.Math.Seq.{take-length}
 use Rattle.std.proofs.lemmas.Bool.{cases_lt}
-use Rattle.std.proofs.lemmas.List.{same_lists, get_or_default}
+use Rattle.std.proofs.Common.{set, length-append}
+use Rattle.std.proofs.lemmas.List.{same_lists, get_or_default, length-set, get_or-set_same, get_or-set_other, set-get_or, set-append_right, take-set, get_or-append_right}
 use Rattle.std.proofs.lemmas.List.FromFn.{length-map-range_with_len, get_or-map-range_with_len, fill_by_all}
 use Rattle.std.proofs.lemmas.Nat.Bits.{bit_at-lt}
-use Rattle.bac_tag.specs.Octets.{IsOctets, NoGreater}
+use Rattle.bac_tag.specs.Octets.{IsOctets, NoGreater, FirstDifference}
 use Rattle.bac_value.specs.Primitives.{IsBegun, IsHopelessAt}
-use Rattle.bac_tag.specs.OctetsLaws.{octets_below, octets_at, octets_replicate, octets_filled, length-filled, zeros_to}
+use Rattle.bac_tag.specs.OctetsLaws.{octets_below, octets_at, octets_replicate, octets_filled, length-filled, zeros_to, differs_at}
 use Rattle.std.proofs.lemmas.List.{length-replicate}
 use Rattle.bac_value.specs.BitsContents.{bit_in, bits_in, HoldsBits, BitsContents, IsBits, worth, octet_from, octets_for, packed_bits, least_bits, bits_of, IsLeastBits, CountsUnused}
 
@@ -320,3 +321,71 @@ bits_behind_count bits (u ∷ packed) unused n h =
     let rest : suc (length packed) - 1 ≡ length packed = omega arith in
     ap (λ (k : ℕ). bits_in (take k packed) (8 * k - unused)) rest ∙ ap (λ (p : List ℕ). bits_in p (8 * length packed - unused)) (take-length packed)
     ∙ ap (λ (k : ℕ). bits_in packed (8 * length packed - k)) n ∙ bits_of_contents bits (u ∷ packed) h
+
+-- ---- what clearing the last octet gives
+
+octets_of_bits : (bits : List Bool) (octets : List ℕ) → BitsContents bits octets → IsOctets octets
+octets_of_bits bits [] h = absurd h
+octets_of_bits bits (unused ∷ packed) h = (omega (arith, h.few), h.are_octets)
+
+bits_of_one : (bits : List Bool) (octets : List ℕ) → BitsContents bits octets → IsLeastBits octets × BitsContents (bits_of octets) octets → octets ≡ least_bits bits
+bits_of_one bits octets h k = k.0.is ∙ ap least_bits (bits_of_contents bits octets h)
+
+counts_of_bits : (bits : List Bool) (octets : List ℕ) → BitsContents bits octets → CountsUnused (get_or octets 0 0) (length octets)
+counts_of_bits bits [] h = absurd h
+counts_of_bits bits (unused ∷ packed) h = (h.few, omega (arith, h.sized))
+
+-- the count alone is written
+pub least_lone : (bits : List Bool) (octets : List ℕ) → BitsContents bits octets → length octets ≡ 1 → octets ≡ least_bits bits
+least_lone bits octets h one =
+    let within = (bits_lengths bits octets h).1 in
+    bits_of_one bits octets h (cleared_is octets octets (octets_of_bits bits octets h) (omega arith) within (counts_of_bits bits octets h) refl (λ i lt. absurd (omega arith)) (λ i some last. absurd (omega arith)) (λ e. refl))
+
+-- with the unused bits of its last octet cleared
+pub least_cleared : (bits : List Bool) (octets : List ℕ) (x : ℕ) → BitsContents bits octets → 1 < length octets → x ≡ get_or octets (length octets - 1) 0 / 2 ^ get_or octets 0 0 * 2 ^ get_or octets 0 0
+    → set octets (length octets - 1) x ≡ least_bits bits
+least_cleared bits octets x h more e =
+    let other = set octets (length octets - 1) x in
+    let within = (bits_lengths bits octets h).1 in
+    let k = cleared_is octets other (octets_of_bits bits octets h) (omega arith) within (counts_of_bits bits octets h) (length-set octets (length octets - 1) x)
+    (λ i lt. get_or-set_other octets (length octets - 1) i x 0 (λ same. absurd (omega arith)))
+    (λ i some last. let here : i ≡ length octets - 1 = omega arith in
+    ap (λ (n : ℕ). get_or other n 0) here ∙ get_or-set_same octets (length octets - 1) x 0 (omega arith) ∙ e ∙ ap (λ (n : ℕ). get_or octets n 0 / 2 ^ get_or octets 0 0 * 2 ^ get_or octets 0 0) (sym here))
+    (λ one. absurd (omega arith)) in
+    k.0.is ∙ ap least_bits (bits_once _ _ octets k.1 h)
+
+-- the same behind other octets
+pub least_cleared_behind : (bits : List Bool) (front octets all : List ℕ) (n x : ℕ) → BitsContents bits octets → 1 < length octets → all ≡ front ++ octets → n ≡ length all → x ≡ get_or all (n - 1) 0 / 2 ^ get_or octets 0 0 * 2 ^ get_or octets 0 0
+    → set all (n - 1) x ≡ front ++ least_bits bits
+least_cleared_behind bits front octets all n x h more e size value =
+    let long : n ≡ length front + length octets = omega (arith, size, ap length e, length-append front octets) in
+    let place : n - 1 - length front ≡ length octets - 1 = omega arith in
+    let octet : get_or all (n - 1) 0 ≡ get_or octets (length octets - 1) 0 =
+    ap (λ (l : List ℕ). get_or l (n - 1) 0) e ∙ get_or-append_right front octets (length front) (n - 1) 0 refl (omega arith) ∙ ap (λ (k : ℕ). get_or octets k 0) place in
+    let cleared : x ≡ get_or octets (length octets - 1) 0 / 2 ^ get_or octets 0 0 * 2 ^ get_or octets 0 0 = value ∙ ap (λ (o : ℕ). o / 2 ^ get_or octets 0 0 * 2 ^ get_or octets 0 0) octet in
+    ap (λ (l : List ℕ). set l (n - 1) x) e ∙ set-append_right front octets (length front) (n - 1) x refl (omega arith) ∙ ap (λ (k : ℕ). front ++ set octets k x) place
+    ∙ ap (λ (l : List ℕ). front ++ l) (least_cleared bits octets x h more cleared)
+
+-- where the last octet is cleared already
+pub least_already : (bits : List Bool) (octets : List ℕ) (x : ℕ) → BitsContents bits octets → 1 < length octets → x ≡ get_or octets (length octets - 1) 0 / 2 ^ get_or octets 0 0 * 2 ^ get_or octets 0 0
+    → get_or octets (length octets - 1) 0 ≡ x → octets ≡ least_bits bits
+least_already bits octets x h more e same =
+    sym (set-get_or octets (length octets - 1) 0) ∙ ap (λ (y : ℕ). set octets (length octets - 1) y) same ∙ least_cleared bits octets x h more e
+
+-- and where it is not
+pub differs_last : (bits : List Bool) (octets : List ℕ) (x : ℕ) → BitsContents bits octets → 1 < length octets → x ≡ get_or octets (length octets - 1) 0 / 2 ^ get_or octets 0 0 * 2 ^ get_or octets 0 0
+    → (get_or octets (length octets - 1) 0 ≡ x → ⊥) → FirstDifference octets (least_bits bits) (length octets - 1)
+differs_last bits octets x h more e other =
+    let least = least_cleared bits octets x h more e in
+    subst (λ (l : List ℕ). FirstDifference octets l (length octets - 1)) least
+    (differs_at octets (set octets (length octets - 1) x) (length octets - 1) (omega arith) (omega (arith, length-set octets (length octets - 1) x))
+    (sym (take-set octets (length octets - 1) x))
+    (λ same. other (same ∙ get_or-set_same octets (length octets - 1) x 0 (omega arith))))
+
+-- contents have as many octets as those that are written
+pub bits_same_length : (bits : List Bool) (octets : List ℕ) → BitsContents bits octets → length octets ≡ length (least_bits bits)
+unfolding least_bits packed_bits
+bits_same_length bits [] h = absurd h
+bits_same_length bits (unused ∷ packed) h =
+    let same : length (packed_bits bits) ≡ octets_for (length bits) = length-map-range_with_len (λ i. octet_from bits (8 * i)) 0 (octets_for (length bits)) in
+    omega (arith, h.sized, h.few, same)

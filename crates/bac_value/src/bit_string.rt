@@ -1,7 +1,8 @@
 //! Bit strings (clause 20.2.10).
 
-ghost use Rattle.std.specs.Prelude.{nat_eq, true, false, ◌≡◌, ℕ, ◌<◌, ◌≤◌, ◌+◌, ◌*◌, ◌-◌, ◌/◌, ◌^◌, ◌↔◌, IsTrue, IsErrOf, List, Bool, length, slice_index, slice_get, IfOk};
+ghost use Rattle.std.specs.Prelude.{nat_eq, true, false, ◌≡◌, ◌++◌, OnOk, OnErr, IfNone, IfSome, ℕ, ◌<◌, ◌≤◌, ◌+◌, ◌*◌, ◌-◌, ◌/◌, ◌^◌, ◌↔◌, IsTrue, IsErrOf, List, Bool, length, slice_index, slice_get, IfOk};
 ghost use Rattle.std.specs.List.{slice_index_or};
+ghost use Rattle.bac_tag.specs.Octets.{FirstDifference};
 ghost use Rattle.std.specs.Ordering.{on};
 ghost use Rattle.std.specs.Cmp.{partial_equiv_from_equiv};
 ghost use Rattle.std.specs.Cmp.Lexicographic.{pointwise, on_texts_equal};
@@ -164,6 +165,41 @@ fn clear_unused(contents: &mut Vec<u8>)
         let unused = contents[0];
         contents[last] = contents[last] >> unused << unused;
     }
+}
+
+/// The octet with so many of its lowest bits set to zero.
+fn cleared(octet: u8, unused: u8) -> u8
+    requires { unused < 8 }
+    ensures { result ≡ octet / 2 ^ unused * 2 ^ unused }
+{
+    octet >> unused << unused
+}
+
+/// Appends contents with their unused bits set to zero. Where memory is refused `out` stays as it was.
+pub(crate) fn append_cleared(octets: &[u8], out: &mut Vec<u8>) -> Result<(), OutOfMemory>
+    requires { (bits : List Bool) × BitsContents bits octets.now }
+    ensures ok { OnOk result ((bits : List Bool) → BitsContents bits octets.now → out.new.items ≡ out.old.items ++ least_bits bits) }
+    ensures err { OnErr result (out.new.items ≡ out.old.items) }
+{
+    out.extend_from_slice(octets)?;
+    if octets.len() > 1 {
+        let last = out.len() - 1;
+        out[last] = cleared(out[last], octets[0]);
+    }
+    Ok(())
+}
+
+/// The place of the last octet, where an unused bit of it is not zero.
+pub(crate) fn mark_unused(octets: &[u8]) -> Option<usize>
+    requires { (bits : List Bool) × BitsContents bits octets.now }
+    ensures none { IfNone result ((bits : List Bool) → BitsContents bits octets.now → octets.now ≡ least_bits bits) }
+    ensures some { IfSome result (λ place. (bits : List Bool) → BitsContents bits octets.now → FirstDifference octets.now (least_bits bits) place) }
+{
+    let last = octets.len() - 1;
+    if last == 0 || octets[last] == cleared(octets[last], octets[0]) {
+        return None;
+    }
+    Some(last)
 }
 
 impl Primitive for Bits {

@@ -5,6 +5,7 @@
 mod bit_string;
 mod boolean_value;
 mod character_string;
+mod contents;
 mod date_value;
 mod double;
 mod enumeration;
@@ -30,6 +31,7 @@ mod variants;
 pub use bit_string::Bits;
 pub use boolean_value::Boolean;
 pub use character_string::Text;
+pub use contents::{append_written, mark_contents, written_len_of};
 pub use date_value::Date;
 pub use double::DoubleBits;
 pub use enumeration::Enumerated;

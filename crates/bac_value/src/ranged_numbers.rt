@@ -63,7 +63,7 @@ fn zeros_in_front(octets: &[u8]) -> usize
 }
 
 /// The octets without the zeros in front, but for the last.
-fn significant(octets: &[u8]) -> &[u8]
+pub(crate) fn significant(octets: &[u8]) -> &[u8]
     requires { HasNumberLength (length octets.now) }
     ensures { result.now ≡ least_number (number octets.now) }
 {

@@ -60,7 +60,7 @@ fn signs_in_front(octets: &[u8]) -> usize
 }
 
 /// The octets without those in front that only repeat the sign.
-fn significant_signed(octets: &[u8]) -> &[u8]
+pub(crate) fn significant_signed(octets: &[u8]) -> &[u8]
     requires { HasNumberLength (length octets.now) }
     ensures { result.now ≡ least_signed (signed_number octets.now) }
 {

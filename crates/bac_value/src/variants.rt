@@ -1,14 +1,16 @@
 //! Each primitive type as one of the thirteen.
 
-ghost use Rattle.std.specs.Prelude.{◌≡◌, ◌≢◌, IsTrue, ◌≤◌, [], IfSome, IfNone, length, IfOk, IfErr};
+ghost use Rattle.std.specs.Prelude.{◌≡◌, ◌≢◌, IsTrue, ◌≤◌, ◌++◌, [], IfSome, IfNone, length, IfOk, IfErr, OnOk, OnErr};
+ghost use Rattle.std.proofs.Common.{refl};
+ghost use Rattle.bac_tag.specs.Octets.{FirstDifference};
 ghost use Rattle.bac_value.specs.declared.prim.PrimitiveValue.{PrimitiveValue};
 ghost use Rattle.bac_value.specs.Primitives.{IsBegun, AreLengths, IsHopelessAt, IsContentsReason};
-ghost use Rattle.bac_value.specs.PrimContents.{ContentsOf};
+ghost use Rattle.bac_value.specs.PrimContents.{prim_written, ContentsOf};
 ghost use Rattle.bac_value.specs.PrimRefValue.{prim_of};
 ghost use Rattle.bac_value.specs.Variants.{IsVariant};
 ghost use Rattle.bac_value.specs.VariantsOfPrim.{null_variant, boolean_variant, unsigned_variant, signed_variant, real_variant, double_variant, octets_variant, text_variant, bits_variant, enumerated_variant, date_variant, time_variant, object_id_variant};
 
-use crate::bit_string::Bits;
+use crate::bit_string::{Bits, append_cleared, mark_unused};
 use crate::boolean_value::Boolean;
 use crate::character_string::Text;
 use crate::date_value::Date;
@@ -20,11 +22,12 @@ use crate::octet_string::Octets;
 use crate::prim::PrimitiveValue;
 use crate::prim_ref::PrimRef;
 use crate::primitives::Primitive;
+use crate::ranged_numbers::significant;
 use crate::real::RealBits;
-use crate::signed_integer::{Signed, signed_of};
+use crate::signed_integer::{Signed, signed_of, significant_signed};
 use crate::time_value::Time;
 use crate::unsigned_integer::Unsigned;
-use bac_tag::{Refusal, Why, number_of};
+use bac_tag::{OutOfMemory, Refusal, Why, first_difference, number_of};
 use std::alloc::Global;
 
 /// A primitive type that is one of the thirteen.
@@ -40,8 +43,30 @@ pub(crate) trait Variant: Primitive {
         requires { (value : Self) × Self.contents value octets.now }
         ensures { (value : Self) → Self.contents value octets.now → prim_of result ≡ wrapped value };
 
+    /// Appends what is written of the value whose contents these are. Where memory is refused some octets may
+    /// be there.
+    fn append_written(octets: &[u8], out: &mut Vec<u8>) -> Result<(), OutOfMemory>
+        requires { (value : Self) × Self.contents value octets.now }
+        ensures ok { OnOk result ((value : Self) → Self.contents value octets.now → out.new.items ≡ out.old.items ++ Self.written value) }
+        ensures err { OnErr result (out.new.items ≡ out.old.items) };
+
+    /// How many octets are written of the value whose contents these are.
+    fn written_len_of(octets: &[u8]) -> usize
+        requires { (value : Self) × Self.contents value octets.now }
+        ensures { (value : Self) → Self.contents value octets.now → result ≡ length (Self.written value) };
+
+    /// The first place at which contents of a value differ from those that are written, and none where they
+    /// are those.
+    fn mark_contents(octets: &[u8]) -> Option<usize>
+        requires { (value : Self) × Self.contents value octets.now }
+        ensures none { IfNone result ((value : Self) → Self.contents value octets.now → octets.now ≡ Self.written value) }
+        ensures some { IfSome result (λ place. (value : Self) → Self.contents value octets.now → FirstDifference octets.now (Self.written value) place) };
+
     /// The values under the type's application number are those of the type.
     ghost is_variant: { IsVariant Self.APP Self.contents wrapped };
+
+    /// What is written of a value is what is written of it as one of any type.
+    ghost is_written: { (value : Self) → prim_written (wrapped value) ≡ Self.written value };
 }
 
 /// The value of this type whose contents are these octets.
@@ -66,6 +91,35 @@ pub(crate) fn borrow_variant<T: Variant>(octets: &[u8]) -> PrimRef<'_>
     ensures { (prim : PrimitiveValue) → ContentsOf T.APP prim octets.now → prim_of result ≡ prim }
 {
     T::borrowed(octets)
+}
+
+/// Appends what is written of the value of this type whose contents these are.
+pub(crate) fn append_variant<T: Variant>(
+    octets: &[u8],
+    out: &mut Vec<u8>,
+) -> Result<(), OutOfMemory>
+    requires { (prim : PrimitiveValue) × ContentsOf T.APP prim octets.now }
+    ensures ok { OnOk result ((prim : PrimitiveValue) → ContentsOf T.APP prim octets.now → out.new.items ≡ out.old.items ++ prim_written prim) }
+    ensures err { OnErr result (out.new.items ≡ out.old.items) }
+{
+    T::append_written(octets, out)
+}
+
+/// How many octets are written of the value of this type whose contents these are.
+pub(crate) fn written_len_variant<T: Variant>(octets: &[u8]) -> usize
+    requires { (prim : PrimitiveValue) × ContentsOf T.APP prim octets.now }
+    ensures { (prim : PrimitiveValue) → ContentsOf T.APP prim octets.now → result ≡ length (prim_written prim) }
+{
+    T::written_len_of(octets)
+}
+
+/// The first place at which contents of this type differ from those that are written.
+pub(crate) fn mark_variant<T: Variant>(octets: &[u8]) -> Option<usize>
+    requires { (prim : PrimitiveValue) × ContentsOf T.APP prim octets.now }
+    ensures none { IfNone result ((prim : PrimitiveValue) → ContentsOf T.APP prim octets.now → octets.now ≡ prim_written prim) }
+    ensures some { IfSome result (λ place. (prim : PrimitiveValue) → ContentsOf T.APP prim octets.now → FirstDifference octets.now (prim_written prim) place) }
+{
+    T::mark_contents(octets)
 }
 
 /// The least and the largest number of octets of contents of this type.
@@ -97,7 +151,22 @@ impl Variant for Null {
         PrimRef::Null(Null)
     }
 
+    fn append_written(octets: &[u8], out: &mut Vec<u8>) -> Result<(), OutOfMemory> {
+        out.extend_from_slice(octets)?;
+        Ok(())
+    }
+
+    fn written_len_of(octets: &[u8]) -> usize {
+        octets.len()
+    }
+
+    fn mark_contents(_octets: &[u8]) -> Option<usize> {
+        None
+    }
+
     ghost is_variant = { null_variant };
+
+    ghost is_written = { λ value. refl };
 }
 
 impl Variant for Boolean {
@@ -111,7 +180,22 @@ impl Variant for Boolean {
         PrimRef::Boolean(Boolean(octets[0] == 1))
     }
 
+    fn append_written(octets: &[u8], out: &mut Vec<u8>) -> Result<(), OutOfMemory> {
+        out.extend_from_slice(octets)?;
+        Ok(())
+    }
+
+    fn written_len_of(octets: &[u8]) -> usize {
+        octets.len()
+    }
+
+    fn mark_contents(_octets: &[u8]) -> Option<usize> {
+        None
+    }
+
     ghost is_variant = { boolean_variant };
+
+    ghost is_written = { λ value. refl };
 }
 
 impl Variant for Unsigned {
@@ -125,7 +209,22 @@ impl Variant for Unsigned {
         PrimRef::Unsigned(Unsigned(number_of(octets)))
     }
 
+    fn append_written(octets: &[u8], out: &mut Vec<u8>) -> Result<(), OutOfMemory> {
+        out.extend_from_slice(significant(octets))?;
+        Ok(())
+    }
+
+    fn written_len_of(octets: &[u8]) -> usize {
+        significant(octets).len()
+    }
+
+    fn mark_contents(octets: &[u8]) -> Option<usize> {
+        first_difference(octets, significant(octets))
+    }
+
     ghost is_variant = { unsigned_variant };
+
+    ghost is_written = { λ value. refl };
 }
 
 impl Variant for Signed {
@@ -139,7 +238,22 @@ impl Variant for Signed {
         PrimRef::Signed(Signed(signed_of(octets)))
     }
 
+    fn append_written(octets: &[u8], out: &mut Vec<u8>) -> Result<(), OutOfMemory> {
+        out.extend_from_slice(significant_signed(octets))?;
+        Ok(())
+    }
+
+    fn written_len_of(octets: &[u8]) -> usize {
+        significant_signed(octets).len()
+    }
+
+    fn mark_contents(octets: &[u8]) -> Option<usize> {
+        first_difference(octets, significant_signed(octets))
+    }
+
     ghost is_variant = { signed_variant };
+
+    ghost is_written = { λ value. refl };
 }
 
 #[tactic(auto, unfolding(crate::specs::RealContents::real_octets))]
@@ -156,7 +270,22 @@ impl Variant for RealBits {
         ])))
     }
 
+    fn append_written(octets: &[u8], out: &mut Vec<u8>) -> Result<(), OutOfMemory> {
+        out.extend_from_slice(octets)?;
+        Ok(())
+    }
+
+    fn written_len_of(octets: &[u8]) -> usize {
+        octets.len()
+    }
+
+    fn mark_contents(_octets: &[u8]) -> Option<usize> {
+        None
+    }
+
     ghost is_variant = { real_variant };
+
+    ghost is_written = { λ value. refl };
 }
 
 #[tactic(auto, unfolding(crate::specs::DoubleContents::double_octets))]
@@ -171,7 +300,22 @@ impl Variant for DoubleBits {
         PrimRef::DoubleBits(DoubleBits(number_of(octets)))
     }
 
+    fn append_written(octets: &[u8], out: &mut Vec<u8>) -> Result<(), OutOfMemory> {
+        out.extend_from_slice(octets)?;
+        Ok(())
+    }
+
+    fn written_len_of(octets: &[u8]) -> usize {
+        octets.len()
+    }
+
+    fn mark_contents(_octets: &[u8]) -> Option<usize> {
+        None
+    }
+
     ghost is_variant = { double_variant };
+
+    ghost is_written = { λ value. refl };
 }
 
 impl Variant for Octets {
@@ -185,7 +329,22 @@ impl Variant for Octets {
         PrimRef::Octets(octets)
     }
 
+    fn append_written(octets: &[u8], out: &mut Vec<u8>) -> Result<(), OutOfMemory> {
+        out.extend_from_slice(octets)?;
+        Ok(())
+    }
+
+    fn written_len_of(octets: &[u8]) -> usize {
+        octets.len()
+    }
+
+    fn mark_contents(_octets: &[u8]) -> Option<usize> {
+        None
+    }
+
     ghost is_variant = { octets_variant };
+
+    ghost is_written = { λ value. refl };
 }
 
 impl Variant for Text {
@@ -202,7 +361,22 @@ impl Variant for Text {
         }
     }
 
+    fn append_written(octets: &[u8], out: &mut Vec<u8>) -> Result<(), OutOfMemory> {
+        out.extend_from_slice(octets)?;
+        Ok(())
+    }
+
+    fn written_len_of(octets: &[u8]) -> usize {
+        octets.len()
+    }
+
+    fn mark_contents(_octets: &[u8]) -> Option<usize> {
+        None
+    }
+
     ghost is_variant = { text_variant };
+
+    ghost is_written = { λ value. refl };
 }
 
 impl Variant for Bits {
@@ -219,7 +393,21 @@ impl Variant for Bits {
         }
     }
 
+    fn append_written(octets: &[u8], out: &mut Vec<u8>) -> Result<(), OutOfMemory> {
+        append_cleared(octets, out)
+    }
+
+    fn written_len_of(octets: &[u8]) -> usize {
+        octets.len()
+    }
+
+    fn mark_contents(octets: &[u8]) -> Option<usize> {
+        mark_unused(octets)
+    }
+
     ghost is_variant = { bits_variant };
+
+    ghost is_written = { λ value. refl };
 }
 
 impl Variant for Enumerated {
@@ -233,7 +421,22 @@ impl Variant for Enumerated {
         PrimRef::Enumerated(Enumerated(number_of(octets) as u32))
     }
 
+    fn append_written(octets: &[u8], out: &mut Vec<u8>) -> Result<(), OutOfMemory> {
+        out.extend_from_slice(significant(octets))?;
+        Ok(())
+    }
+
+    fn written_len_of(octets: &[u8]) -> usize {
+        significant(octets).len()
+    }
+
+    fn mark_contents(octets: &[u8]) -> Option<usize> {
+        first_difference(octets, significant(octets))
+    }
+
     ghost is_variant = { enumerated_variant };
+
+    ghost is_written = { λ value. refl };
 }
 
 impl Variant for Date {
@@ -247,7 +450,22 @@ impl Variant for Date {
         PrimRef::Date(Date([octets[0], octets[1], octets[2], octets[3]]))
     }
 
+    fn append_written(octets: &[u8], out: &mut Vec<u8>) -> Result<(), OutOfMemory> {
+        out.extend_from_slice(octets)?;
+        Ok(())
+    }
+
+    fn written_len_of(octets: &[u8]) -> usize {
+        octets.len()
+    }
+
+    fn mark_contents(_octets: &[u8]) -> Option<usize> {
+        None
+    }
+
     ghost is_variant = { date_variant };
+
+    ghost is_written = { λ value. refl };
 }
 
 impl Variant for Time {
@@ -261,7 +479,22 @@ impl Variant for Time {
         PrimRef::Time(Time([octets[0], octets[1], octets[2], octets[3]]))
     }
 
+    fn append_written(octets: &[u8], out: &mut Vec<u8>) -> Result<(), OutOfMemory> {
+        out.extend_from_slice(octets)?;
+        Ok(())
+    }
+
+    fn written_len_of(octets: &[u8]) -> usize {
+        octets.len()
+    }
+
+    fn mark_contents(_octets: &[u8]) -> Option<usize> {
+        None
+    }
+
     ghost is_variant = { time_variant };
+
+    ghost is_written = { λ value. refl };
 }
 
 #[tactic(auto, unfolding(crate::specs::Identifier::identifier_octets))]
@@ -276,5 +509,20 @@ impl Variant for ObjectId {
         PrimRef::ObjectId(ObjectId::of_octets([octets[0], octets[1], octets[2], octets[3]]))
     }
 
+    fn append_written(octets: &[u8], out: &mut Vec<u8>) -> Result<(), OutOfMemory> {
+        out.extend_from_slice(octets)?;
+        Ok(())
+    }
+
+    fn written_len_of(octets: &[u8]) -> usize {
+        octets.len()
+    }
+
+    fn mark_contents(_octets: &[u8]) -> Option<usize> {
+        None
+    }
+
     ghost is_variant = { object_id_variant };
+
+    ghost is_written = { λ value. refl };
 }

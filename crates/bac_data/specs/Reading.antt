@@ -1,0 +1,69 @@
+-- What may stand next between the tags of an open value, as a reader meets it.
+use Rattle.std.specs.Prelude.{◌≡◌, ℕ, Bool, true, false, IsTrue, ◌≤◌, None, Some, List, [], ◌∷◌, length}
+use Rattle.bac_tag.specs.declared.expecting.Expected.{Expected}
+use Rattle.bac_tag.specs.declared.expecting.Expected.TheVariants as expected
+use Rattle.bac_value.specs.declared.prim.PrimitiveValue.{PrimitiveValue}
+use Rattle.bac_value.specs.declared.prim.PrimitiveValue.TheVariants.{Boolean}
+use Rattle.bac_value.specs.OctetStringContents.{IsOctetString}
+use Rattle.bac_value.specs.PrimContents.{ContentsOf}
+use Rattle.bac_value.specs.PrimOfContents.{prim_of_contents}
+use Rattle.bac_data.specs.declared.items.Item.{Item}
+use Rattle.bac_data.specs.declared.items.Item.TheVariants as item
+use Rattle.bac_data.specs.Events.{Event, application, contextual, opening, closing, SpellsEvent}
+
+-- the event may stand where a group can begin or not, and where the innermost group, or the value, has this number
+abbrev pub MayStand : Bool → ℕ → Event → Type 0
+MayStand room number (application prim) = Unit {0}
+MayStand room number (contextual m octets) = Unit {0}
+MayStand room number (opening m) = IsTrue room
+MayStand room number (closing m) = m ≡ number
+
+-- the lists that spell such an event
+pub record SpellsStanding (room : Bool) (number : ℕ) (event : Event) (b : List ℕ) : Type 0 where
+  pub stands : MayStand room number event
+  pub spelled : SpellsEvent event b
+
+-- the heads of such events
+abbrev pub group_heads : Bool → List Expected
+group_heads true = expected.Open None ∷ []
+group_heads false = []
+
+abbrev pub next_heads : Bool → ℕ → List Expected
+next_heads room number =
+    expected.App 0 0 0
+    ∷ expected.App 2 1 8
+    ∷ expected.App 3 1 8
+    ∷ expected.App 4 4 4
+    ∷ expected.App 5 8 8
+    ∷ expected.App 6 0 1048576
+    ∷ expected.App 7 1 1048576
+    ∷ expected.App 8 1 1048576
+    ∷ expected.App 9 1 8
+    ∷ expected.App 10 4 4
+    ∷ expected.App 11 4 4
+    ∷ expected.App 12 4 4
+    ∷ expected.AppBool
+    ∷ expected.Ctx None 0 1048576
+    ∷ expected.Close (Some number)
+    ∷ group_heads room
+
+-- contents that have so many octets
+pub record OfSize (number size : ℕ) (prim : PrimitiveValue) (b : List ℕ) : Type 0 where
+  pub spelled : ContentsOf number prim b
+  pub sized : length b ≡ size
+
+-- the event that an item is
+abbrev pub item_event : Item → Event
+item_event (item.Boolean bit) = application (Boolean (record { 0 = bit }))
+item_event (item.Application number contents) = application (prim_of_contents number contents.now)
+item_event (item.Context number octets) = contextual number octets.now
+item_event (item.Open number) = opening number
+item_event (item.Close number) = closing number
+
+-- its contents are those of a value, its number is one of its kind
+abbrev pub IsItem : Item → Type 0
+IsItem (item.Boolean bit) = Unit {0}
+IsItem (item.Application number contents) = (number ≤ 12) × ((prim : PrimitiveValue) × ContentsOf number prim contents.now)
+IsItem (item.Context number octets) = (number ≤ 254) × IsOctetString octets.now
+IsItem (item.Open number) = number ≤ 254
+IsItem (item.Close number) = number ≤ 254

@@ -1,0 +1,209 @@
+//! What stands next in an open value.
+
+ghost use Rattle.std.specs.Prelude.{◌≡◌, ◌≢◌, ◌≤◌, ◌<◌, ◌⊎◌, true, IsTrue, length, take, [], IfOk, IfErr};
+ghost use Rattle.bac_tag.specs.Spelling.{IsRefusal, Takes};
+ghost use Rattle.bac_tag.specs.Expected.{HeadsOfOne};
+ghost use Rattle.bac_value.specs.declared.prim.PrimitiveValue.{PrimitiveValue};
+ghost use Rattle.bac_value.specs.Primitives.{IsBegun};
+ghost use Rattle.bac_value.specs.PrimContents.{ContentsOf};
+ghost use Rattle.bac_data.specs.Under.{Under, HasContents};
+ghost use Rattle.bac_data.specs.Reading.{SpellsStanding, next_heads, OfSize, item_event, IsItem};
+
+use bac_tag::{Expected, Refusal, TagHead, Why, read_one_of};
+use bac_value::{
+    Bits, Date, DoubleBits, Enumerated, Null, ObjectId, Octets, Prim, Primitive, RealBits, Signed,
+    Text, Time, Unsigned,
+};
+
+/// What stands next in an open value: a primitive with its contents as they lie, or a tag.
+#[derive(Clone, Copy)]
+pub(crate) enum Item<'a> {
+    /// An application Boolean.
+    Boolean(bool),
+    /// Another application primitive of the type with this number.
+    Application { number: u8, contents: &'a [u8] },
+    /// A context primitive.
+    Context { number: u8, octets: &'a [u8] },
+    /// The beginning of a group.
+    Open(u8),
+    /// The end of a group, or of the value.
+    Close(u8),
+}
+
+/// Contents of so many octets, of the type with that application number, at the front of the octets.
+///
+/// # Errors
+/// `Content` at the first octet that no such contents can have there, else `Short` where they end too early.
+fn read_contents(number: u8, size: usize, octets: &[u8]) -> Result<&[u8], Refusal>
+    requires number { number ≤ 12 }
+    requires size { IsBegun (ContentsOf number) [] size }
+    ensures front { IfOk result (λ contents. (contents.now ≡ take size octets.now) × (size ≤ length octets.now)) }
+    ensures found { IfOk result (λ contents. (prim : PrimitiveValue) × ContentsOf number prim contents.now) }
+    ensures refused { IfErr result (IsRefusal (OfSize number size) octets.now) }
+    ensures known { IfErr result (λ refusal. refusal.why ≢ Why.OutOfMemory) }
+{
+    let seen = &octets[..size.min(octets.len())];
+    if let Some(place) = Prim::hopeless(number, seen, size) {
+        return Err(Refusal {
+            place,
+            why: Why::Content,
+        });
+    }
+    if seen.len() < size {
+        return Err(Refusal {
+            place: seen.len(),
+            why: Why::Short,
+        });
+    }
+    Ok(seen)
+}
+
+/// What stands under a head at the front of the octets, and how many octets it takes.
+///
+/// # Errors
+/// As [`read_contents`].
+fn read_under(head: TagHead, octets: &[u8]) -> Result<(Item<'_>, usize), Refusal>
+    requires { HasContents head }
+    ensures within { IfOk result (λ found. found.1 ≤ length octets.now) }
+    ensures found { IfOk result (λ found. Under head (item_event found.0) (take found.1 octets.now)) }
+    ensures item { IfOk result (λ found. IsItem found.0) }
+    ensures refused { IfErr result (IsRefusal (Under head) octets.now) }
+    ensures known { IfErr result (λ refusal. refusal.why ≢ Why.OutOfMemory) }
+{
+    match head {
+        TagHead::App { number, len } => {
+            let size = len as usize;
+            let contents = read_contents(number, size, octets)?;
+            Ok((Item::Application { number, contents }, size))
+        }
+        TagHead::AppBool(bit) => Ok((Item::Boolean(bit), 0)),
+        TagHead::Ctx { number, len } => {
+            let size = len as usize;
+            if octets.len() < size {
+                return Err(Refusal {
+                    place: octets.len(),
+                    why: Why::Short,
+                });
+            }
+            Ok((
+                Item::Context {
+                    number,
+                    octets: &octets[..size],
+                },
+                size,
+            ))
+        }
+        TagHead::Open(number) => Ok((Item::Open(number), 0)),
+        TagHead::Close(number) => Ok((Item::Close(number), 0)),
+    }
+}
+
+/// The heads of what may stand next, that of an opening tag last.
+fn next_heads(closing: u8) -> [Expected; 16]
+    ensures { result ≡ next_heads true closing }
+{
+    [
+        application_head::<Null>(),
+        application_head::<Unsigned>(),
+        application_head::<Signed>(),
+        application_head::<RealBits>(),
+        application_head::<DoubleBits>(),
+        application_head::<Octets>(),
+        application_head::<Text>(),
+        application_head::<Bits>(),
+        application_head::<Enumerated>(),
+        application_head::<Date>(),
+        application_head::<Time>(),
+        application_head::<ObjectId>(),
+        Expected::AppBool,
+        Expected::Ctx {
+            number: None,
+            least: 0,
+            most: Octets::LONGEST as u32,
+        },
+        Expected::Close(Some(closing)),
+        Expected::Open(None),
+    ]
+}
+
+/// The application head of a type.
+fn application_head<T: Primitive>() -> Expected
+    ensures { result ≡ Expected.App T.APP T.SHORTEST T.LONGEST }
+{
+    Expected::App {
+        number: T::APP,
+        least: T::SHORTEST as u32,
+        most: T::LONGEST as u32,
+    }
+}
+
+/// Whether the octets begin with an opening tag.
+fn begins_group(octets: &[u8]) -> bool
+    ensures { IsTrue result → 0 < length octets.now }
+{
+    match octets.first() {
+        Some(octet) => octet & 0x0F == 0x0E,
+        None => false,
+    }
+}
+
+/// The head of what stands next, and how many octets it takes. A group may begin where there is room for one,
+/// and the innermost group, or the value, has this number.
+///
+/// # Errors
+/// As `bac_tag::read_one_of`; but `Depth` where a group begins and there is no room for one.
+fn read_next_head(octets: &[u8], room: bool, closing: u8) -> Result<(TagHead, usize), Refusal>
+    requires { closing ≤ 254 }
+    ensures found { IfOk result (Takes (HeadsOfOne (next_heads room closing)) octets.now) }
+    ensures refused { IfErr result (IsRefusal (HeadsOfOne (next_heads room closing)) octets.now) }
+    ensures known { IfErr result (λ refusal. refusal.why ≢ Why.OutOfMemory) }
+{
+    let heads = next_heads(closing);
+    let count = if room { 16 } else { 15 };
+    match read_one_of(octets, &heads[..count]) {
+        Ok(found) => Ok(found),
+        Err(refusal) => Err(told(refusal, octets, room)),
+    }
+}
+
+/// The refusal, with the reason `Depth` where a group begins and there is no room for one.
+fn told(refusal: Refusal, octets: &[u8], room: bool) -> Refusal
+    ensures place { result.place ≡ refusal.place }
+    ensures why { (result.why ≡ refusal.why) ⊎ ((result.why ≡ Why.Depth) × (refusal.place ≡ 0) × (0 < length octets.now)) }
+{
+    if room || refusal.place != 0 || !begins_group(octets) {
+        return refusal;
+    }
+    Refusal {
+        place: 0,
+        why: Why::Depth,
+    }
+}
+
+/// What stands next, and how many octets it takes. A group may begin where there is room for one, and the
+/// innermost group, or the value, has this number.
+///
+/// # Errors
+/// At the first octet with which nothing begins that may stand there: `Tag`, `Length` or `Depth` in a head,
+/// `Content` in contents, or `Short` where the octets end before there is such an octet.
+pub(crate) fn read_item(
+    octets: &[u8],
+    room: bool,
+    closing: u8,
+) -> Result<(Item<'_>, usize), Refusal>
+    requires { closing ≤ 254 }
+    ensures found { IfOk result (λ found. Takes (SpellsStanding room closing) octets.now (item_event found.0, found.1)) }
+    ensures some { IfOk result (λ found. 0 < found.1) }
+    ensures item { IfOk result (λ found. IsItem found.0) }
+    ensures refused { IfErr result (IsRefusal (SpellsStanding room closing) octets.now) }
+    ensures known { IfErr result (λ refusal. refusal.why ≢ Why.OutOfMemory) }
+{
+    let (head, start) = read_next_head(octets, room, closing)?;
+    match read_under(head, &octets[start..]) {
+        Ok((item, size)) => Ok((item, start + size)),
+        Err(refusal) => Err(Refusal {
+            place: start + refusal.place,
+            why: refusal.why,
+        }),
+    }
+}
