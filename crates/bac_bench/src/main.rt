@@ -1,4 +1,4 @@
-//! The program `bac_bench`: how long reading and writing large values takes, beside a plain copy of the same
+//! The program `bac_bench`: how long reading, marking and writing values takes, beside a plain copy of the same
 //! octets in the same run.
 //!
 //! Without a word it does each piece of work once and prints what is the same in every run; with the word
@@ -13,6 +13,7 @@ mod modes;
 mod rounds;
 mod tables;
 
+use bac_data::Any;
 use bac_value::{Bits, Octets, Text};
 use cases::Contents;
 use faults::BenchFault;
@@ -42,7 +43,14 @@ fn run(rt: &(impl Print + AllocGlobal + Env + Clock)) -> Result<(), BenchFault> 
     tables::begin(rt, mode)?;
     tables::add::<Contents<Octets>>(rt, mode, "octet string", &largest)?;
     tables::add::<Contents<Text>>(rt, mode, "character string", &largest)?;
-    tables::add::<Contents<Bits>>(rt, mode, "bit string", &largest)
+    tables::add::<Contents<Bits>>(rt, mode, "bit string", &largest)?;
+    let one = one_octet_string(rt.alloc(), &largest)?;
+    tables::add::<Any>(rt, mode, "open, one string", &one)?;
+    for repetitions in [4_096, 65_536] {
+        let short = short_primitives(rt.alloc(), repetitions)?;
+        tables::add::<Any>(rt, mode, "open, short values", &short)?;
+    }
+    Ok(())
 }
 
 /// Octets that are contents of a value of each type: the 0 in front is a character set, and no unused bits.
@@ -50,4 +58,25 @@ fn contents(alloc: Global, size: usize) -> Result<Vec<u8>, AllocError>
     ensures { IfOk result (λ octets. vec_len octets ≡ size) }
 {
     (0..size).map(|place| (place % 251) as u8).collect(alloc)
+}
+
+/// An open value with its tags, of one octet string: these octets.
+fn one_octet_string(alloc: Global, contents: &[u8]) -> Result<Vec<u8>, AllocError> {
+    let mut octets = Vec::from_slice(alloc, &[0x3E, 0x65, 0xFF, 0, 0x10, 0, 0])?;
+    octets.extend_from_slice(contents)?;
+    octets.push(0x3F)?;
+    Ok(octets)
+}
+
+/// An open value with its tags, of six short primitives so often, in 16 octets: an Unsigned, an Enumerated, a
+/// Real, an object identifier, a Boolean and Null.
+fn short_primitives(alloc: Global, repetitions: usize) -> Result<Vec<u8>, AllocError> {
+    let mut octets = vec![in alloc; 0x3E]?;
+    for _ in 0..repetitions {
+        octets.extend_from_slice(&[
+            0x21, 0x55, 0x91, 3, 0x44, 0x42, 0xC8, 0, 0, 0xC4, 0, 0, 0, 5, 0x11, 0,
+        ])?;
+    }
+    octets.push(0x3F)?;
+    Ok(octets)
 }

@@ -1,6 +1,6 @@
 //! The measurement: rounds of repetitions, the plain copy beside the work in each.
 
-ghost use Rattle.std.specs.Prelude.{◌≡◌, ◌↔◌, IsOk};
+ghost use Rattle.std.specs.Prelude.{◌≡◌, ◌↔◌, IsOk, None};
 
 use crate::cases::Case;
 use crate::faults::BenchFault;
@@ -16,6 +16,8 @@ pub struct Times {
     pub copy: Duration,
     /// A value from the octets.
     pub read: Duration,
+    /// The same, and the first octet that is not canonical.
+    pub mark: Duration,
     /// The octets of the value, into an empty vector.
     pub write: Duration,
 }
@@ -26,6 +28,7 @@ impl Times {
         Times {
             copy: self.copy.min(other.copy),
             read: self.read.min(other.read),
+            mark: self.mark.min(other.mark),
             write: self.write.min(other.write),
         }
     }
@@ -54,9 +57,16 @@ fn round<C: Case>(
     let (copied, copy) = timed(rt, repetitions, || Ok(Vec::from_slice(alloc, octets)?))?;
     expect_same(copied, octets)?;
     let (value, read) = timed(rt, repetitions, || C::read(alloc, octets))?;
+    let (found, mark) = timed(rt, repetitions, || C::mark(alloc, octets))?;
+    expect_canonical(found)?;
     let (written, write) = timed(rt, repetitions, || written(alloc, &value))?;
     expect_same(written, octets)?;
-    Ok(Times { copy, read, write })
+    Ok(Times {
+        copy,
+        read,
+        mark,
+        write,
+    })
 }
 
 /// Looks at what was made, so that no compiler leaves the work out, and lets its memory go, so that the next
@@ -68,6 +78,16 @@ fn expect_same(made: Vec<u8>, octets: &[u8]) -> Result<(), BenchFault>
         Ok(())
     } else {
         Err(BenchFault::Differs)
+    }
+}
+
+/// The octets of a case are canonical, so none differs.
+fn expect_canonical(mark: Option<usize>) -> Result<(), BenchFault>
+    ensures { IsOk result ↔ (mark ≡ None) }
+{
+    match mark {
+        None => Ok(()),
+        Some(_) => Err(BenchFault::Differs),
     }
 }
 

@@ -15,16 +15,20 @@ pub fn begin(rt: &impl Print, mode: Mode) -> io::Result<()> {
         return Ok(());
     }
     let (rounds, repetitions) = (mode.rounds(), mode.repetitions());
-    println!(rt; "large values; the best of {rounds} rounds of {repetitions} repetitions each")?;
     println!(rt;
-        "{:<18} {:>9} {:>10} {:>10} {:>13} {:>11} {:>13}",
-        "contents of a",
+        "values of the library; the best of {rounds} rounds of {repetitions} repetitions each"
+    )?;
+    println!(rt;
+        "{:<18} {:>8} {:>10} {:>10} {:>7} {:>10} {:>7} {:>11} {:>7}",
+        "value",
         "octets",
         "copy MB/s",
         "read MB/s",
-        "x time(copy)",
+        "x copy",
+        "mark MB/s",
+        "x copy",
         "write MB/s",
-        "x time(copy)"
+        "x copy"
     )
 }
 
@@ -37,7 +41,7 @@ pub fn add<C: Case>(
 ) -> Result<(), BenchFault> {
     let times = best::<C>(rt, mode, octets)?;
     match mode {
-        Mode::Once => println!(rt; "{name}: {} octets read and written", octets.len())?,
+        Mode::Once => println!(rt; "{name}: {} octets read, marked and written", octets.len())?,
         Mode::Time => add_times(rt, name, octets.len(), times)?,
     }
     Ok(())
@@ -48,10 +52,12 @@ fn add_times(rt: &impl Print, name: &str, size: usize, times: Times) -> io::Resu
     let copy = speed(size, times.copy);
     let read = speed(size, times.read);
     let reading = times.read.div_duration_f64(times.copy);
+    let mark = speed(size, times.mark);
+    let marking = times.mark.div_duration_f64(times.copy);
     let write = speed(size, times.write);
     let writing = times.write.div_duration_f64(times.copy);
     println!(rt;
-        "{name:<18} {size:>9} {copy:>10.0} {read:>10.0} {reading:>13.2} {write:>11.0} {writing:>13.2}"
+        "{name:<18} {size:>8} {copy:>10.0} {read:>10.0} {reading:>7.2} {mark:>10.0} {marking:>7.2} {write:>11.0} {writing:>7.2}"
     )
 }
 

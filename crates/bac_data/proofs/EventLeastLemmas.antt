@@ -24,7 +24,7 @@ boolean_number : (prim : PrimitiveValue) (value : BooleanValue) → prim ≡ Boo
 boolean_number prim value e = ap application_number e
 
 -- the contents under the narrowest head
-least_contents : (prim : PrimitiveValue) (contents head : List ℕ) → application_number prim ≢ 1 → PrimContents prim contents → contents ≡ prim_written prim → IsLeast (Heads (App (application_number prim) (length contents))) head
+pub least_contents : (prim : PrimitiveValue) (contents head : List ℕ) → application_number prim ≢ 1 → PrimContents prim contents → contents ≡ prim_written prim → IsLeast (Heads (App (application_number prim) (length contents))) head
     → IsLeast (SpellsPrimitive prim) (head ++ contents)
 least_contents prim contents head other spelled is h = record {
   member = inr (record { head = head; contents = contents; headed = h.member; spelled = spelled; octets = refl });
@@ -49,7 +49,7 @@ least_application number contents head other w h =
     rw is (least_contents w.value contents head (λ e. other (sym w.spelled.0 ∙ e)) w.spelled.1 w.is (subst (λ (n : ℕ). IsLeast (Heads (App n (length contents))) head) (sym w.spelled.0) h))
 
 -- a Boolean has its head alone
-least_boolean_of : (value : BooleanValue) (head : List ℕ) → IsLeast (Heads (AppBool value.0)) head → IsLeast (SpellsPrimitive (Boolean value)) head
+pub least_boolean_of : (value : BooleanValue) (head : List ℕ) → IsLeast (Heads (AppBool value.0)) head → IsLeast (SpellsPrimitive (Boolean value)) head
 least_boolean_of value head h = record {
   member = inl (record { value = value; is = refl; headed = h.member });
   least = no_less;

@@ -11,6 +11,10 @@ use Rattle.bac_data.specs.Spells.{SpellsOpen}
 use Rattle.bac_data.specs.Events.{Event, opening, closing, events, SpellsEvent, SpellsEvents}
 use Rattle.bac_data.proofs.EventLemmas.{SpellsEvents-append, SpellsEvents-split, one_event, event_alone, whole, whole_spelled, spells_whole}
 
+-- one event alone
+pub least_one : (e : Event) (b : List ℕ) → IsLeast (SpellsEvent e) b → IsLeast (SpellsEvents (e ∷ [])) b
+least_one e b p = record { member = one_event e b p.member; least = λ d s. p.least d (event_alone e d s) }
+
 -- one event more
 pub least_more : (es : List Event) (e : Event) (b c : List ℕ) → IsLeast (SpellsEvents es) b → IsLeast (SpellsEvent e) c → IsLeast (SpellsEvents (es ++ e ∷ [])) (b ++ c)
 least_more es e b c p q = record {
@@ -50,5 +54,4 @@ pub least_whole : (number : ℕ) (v : Elements) (es : List Event) (a b c : List 
     → IsLeast (SpellsEvents (whole number v)) (a ++ (b ++ c))
 least_whole number v es a b c e p q r =
     let inner = least_more es (closing number) b c q r in
-    let first : IsLeast (SpellsEvents (opening number ∷ [])) a = record { member = one_event (opening number) a p.member; least = λ d s. p.least d (event_alone (opening number) d s) } in
-    rw e (least_both (opening number ∷ []) (es ++ closing number ∷ []) a (b ++ c) first inner)
+    rw e (least_both (opening number ∷ []) (es ++ closing number ∷ []) a (b ++ c) (least_one (opening number) a p) inner)

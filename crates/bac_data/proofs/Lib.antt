@@ -11,3 +11,5 @@ mod ReadingLemmas
 mod NextHeadLemmas
 mod StandingLemmas
 mod AnyLemmas
+mod EventCounts
+mod MarkLemmas

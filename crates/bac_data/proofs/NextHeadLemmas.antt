@@ -1,11 +1,11 @@
 -- The heads of what may stand next.
-use Rattle.std.proofs.Common.{◌≡◌, ℕ, ◌≤◌, ◌^◌, ◌-◌, Bool, true, false, List, [], length, refl, sym, subst, inl, inr, arith}
+use Rattle.std.proofs.Common.{◌≡◌, ◌≢◌, ℕ, ◌≤◌, ◌^◌, ◌-◌, Bool, true, false, List, [], length, refl, sym, subst, inl, inr, arith}
 use Rattle.std.specs.Prelude.{IsTrue}
 use Rattle.bac_tag.specs.declared.heads.TagHead.TheVariants.{App, AppBool, Ctx, Open, Close}
 use Rattle.bac_tag.specs.Expected.{FitsOne}
 use Rattle.bac_value.specs.declared.prim.PrimitiveValue.{PrimitiveValue}
 use Rattle.bac_value.specs.declared.prim.PrimitiveValue.TheVariants as prim
-use Rattle.bac_value.specs.Primitives.{IsBegun}
+use Rattle.bac_value.specs.Primitives.{IsBegun, AreLengths}
 use Rattle.bac_value.specs.PrimContents.{application_number, PrimContents, ContentsOf}
 use Rattle.bac_value.specs.Variants.{begun_into}
 use Rattle.bac_value.specs.VariantsOfPrim.{null_variant, unsigned_variant, signed_variant, real_variant, double_variant, octets_variant, text_variant, bits_variant, enumerated_variant, date_variant, time_variant, object_id_variant}
@@ -142,3 +142,7 @@ closing_fits room number m e = inr (inr (inr (inr (inr (inr (inr (inr (inr (inr 
 pub opening_fits : (room : Bool) (number m : ℕ) → IsTrue room → FitsOne (next_heads room number) (Open m)
 opening_fits true number m h = inr (inr (inr (inr (inr (inr (inr (inr (inr (inr (inr (inr (inr (inr (inr (inl tt)))))))))))))))
 opening_fits false number m h = absurd (let i : false ≡ true = h in cc)
+
+-- a head with the number of a type and a length of its contents may stand next
+pub application_stands : (room : Bool) (number m len shortest longest : ℕ) → m ≢ 1 → AreLengths (ContentsOf m) shortest longest → shortest ≤ len → len ≤ longest → FitsOne (next_heads room number) (App m len)
+application_stands room number m len shortest longest other sizes low high = let s = sizes.each len low high in application_fits room number m len s.value s.rest s.spelled.0 other s.spelled.1 s.sized

@@ -139,7 +139,7 @@ taken_under room number head e input start size within h room_for u parts = reco
 
 -- a head that may stand next has contents
 pub has_contents : (room : Bool) (number : ℕ) (head : TagHead) (b : List ℕ) → HeadsOfOne (next_heads room number) head b → HasContents head
-has_contents room number (App m len) b h = let a = application_head room number m len h.fits in (a.1, a.0)
+has_contents room number (App m len) b h = let a = application_head room number m len h.fits in (a.1, h.spelled.valid.1, a.0)
 has_contents room number (AppBool bit) b h = tt
 has_contents room number (Ctx m len) b h = (h.spelled.valid, context_head room number m len h.fits)
 has_contents room number (Open m) b h = h.spelled.valid

@@ -7,5 +7,6 @@ pub mod Walks
 pub mod Building
 pub mod Adding
 pub mod Writing
-pub mod Reading
 pub mod Under
+pub mod Reading
+pub mod Marks

@@ -1,5 +1,7 @@
 -- What may stand next between the tags of an open value, as a reader meets it.
-use Rattle.std.specs.Prelude.{◌≡◌, ℕ, Bool, true, false, IsTrue, ◌≤◌, None, Some, List, [], ◌∷◌, length}
+use Rattle.std.specs.Prelude.{◌≡◌, ◌≢◌, ℕ, Bool, true, false, IsTrue, ◌≤◌, None, Some, List, [], ◌∷◌, ◌++◌, length, take}
+use Rattle.bac_tag.specs.declared.heads.TagHead.{TagHead}
+use Rattle.bac_tag.specs.Heads.{Heads}
 use Rattle.bac_tag.specs.declared.expecting.Expected.{Expected}
 use Rattle.bac_tag.specs.declared.expecting.Expected.TheVariants as expected
 use Rattle.bac_value.specs.declared.prim.PrimitiveValue.{PrimitiveValue}
@@ -10,6 +12,7 @@ use Rattle.bac_value.specs.PrimOfContents.{prim_of_contents}
 use Rattle.bac_data.specs.declared.items.Item.{Item}
 use Rattle.bac_data.specs.declared.items.Item.TheVariants as item
 use Rattle.bac_data.specs.Events.{Event, application, contextual, opening, closing, SpellsEvent}
+use Rattle.bac_data.specs.Under.{Under}
 
 -- the event may stand where a group can begin or not, and where the innermost group, or the value, has this number
 abbrev pub MayStand : Bool → ℕ → Event → Type 0
@@ -60,10 +63,26 @@ item_event (item.Context number octets) = contextual number octets.now
 item_event (item.Open number) = opening number
 item_event (item.Close number) = closing number
 
+-- its contents as they lie there
+abbrev pub item_contents : Item → List ℕ
+item_contents (item.Boolean bit) = []
+item_contents (item.Application number contents) = contents.now
+item_contents (item.Context number octets) = octets.now
+item_contents (item.Open number) = []
+item_contents (item.Close number) = []
+
 -- its contents are those of a value, its number is one of its kind
 abbrev pub IsItem : Item → Type 0
 IsItem (item.Boolean bit) = Unit {0}
-IsItem (item.Application number contents) = (number ≤ 12) × ((prim : PrimitiveValue) × ContentsOf number prim contents.now)
+IsItem (item.Application number contents) = (number ≤ 12) × (number ≢ 1) × ((prim : PrimitiveValue) × ContentsOf number prim contents.now)
 IsItem (item.Context number octets) = (number ≤ 254) × IsOctetString octets.now
 IsItem (item.Open number) = number ≤ 254
 IsItem (item.Close number) = number ≤ 254
+
+-- the item lies at the front of the octets: so many of them are its head, and so many it takes with its contents
+pub record LiesInFront (item : Item) (start taken : ℕ) (octets : List ℕ) : Type 0 where
+  pub within : start ≤ taken
+  pub head : TagHead
+  pub headed : Heads head (take start octets)
+  pub under : Under head (item_event item) (item_contents item)
+  pub octets_are : take taken octets ≡ take start octets ++ item_contents item

@@ -1,5 +1,5 @@
 -- What stands under a head.
-use Rattle.std.specs.Prelude.{◌≡◌, ℕ, ◌≤◌, List, [], length}
+use Rattle.std.specs.Prelude.{◌≡◌, ◌≢◌, ℕ, ◌≤◌, List, [], length}
 use Rattle.bac_tag.specs.declared.heads.TagHead.{TagHead}
 use Rattle.bac_tag.specs.declared.heads.TagHead.TheVariants.{App, AppBool, Ctx, Open, Close}
 use Rattle.bac_value.specs.declared.boolean_value.Boolean.{Boolean as BooleanValue}
@@ -20,7 +20,7 @@ Under (Close number) e c = (e ≡ closing number) × (c ≡ [])
 
 -- some contents can stand under the head
 abbrev pub HasContents : TagHead → Type 0
-HasContents (App number len) = (number ≤ 12) × IsBegun (ContentsOf number) [] len
+HasContents (App number len) = (number ≤ 12) × (number ≢ 1) × IsBegun (ContentsOf number) [] len
 HasContents (AppBool bit) = Unit {0}
 HasContents (Ctx number len) = (number ≤ 254) × (len ≤ 1048576)
 HasContents (Open number) = number ≤ 254

@@ -18,13 +18,13 @@ use std::marker::Model;
 /// How many groups nest at most.
 const MAX_GROUPS: usize = 16;
 
-/// An open value that is being built, event by event. After each fault it is as it was.
+/// An open value (clause 20.2) that is being built, event by event. After each fault it is as it was.
 #[derive(Debug, Drop)]
 pub struct AnyBuilder {
     octets: Vec<u8>,
     nodes: Vec<Node>,
     /// The numbers of the open groups, the outermost first.
-    groups: ArrayVec<u8, 16>,
+    groups: ArrayVec<u8, MAX_GROUPS>,
 }
 
 impl Model for AnyBuilder {
@@ -57,7 +57,7 @@ impl AnyBuilder {
         })
     }
 
-    /// Appends an application primitive. Where memory is refused it comes back.
+    /// Appends an application primitive (clause 20.2.1.4). Where memory is refused it comes back.
     pub fn push(&mut self, prim: Prim) -> Result<(), (Prim, BuildFault)>
         ensures ok { OnOk result (self.new ≡ self.old ++ application prim ∷ []) }
         ensures err { IfErr result (λ back. (back.0 ≡ prim) × (back.1 ≡ BuildFault.OutOfMemory) × (self.new ≡ self.old)) }
@@ -65,8 +65,8 @@ impl AnyBuilder {
         append_primitive(&mut self.octets, &mut self.nodes, prim)
     }
 
-    /// Appends a context primitive: its number, at most 254, and its contents, at most 1,048,576 octets, which
-    /// are copied.
+    /// Appends a context primitive (clause 20.2.1.5): its number, at most 254, and its contents, at most 1,048,576
+    /// octets, which are copied.
     ///
     /// # Errors
     /// `Number` for 255, else `TooLong` for more octets, else `OutOfMemory`.
@@ -86,7 +86,7 @@ impl AnyBuilder {
         append_context(&mut self.octets, &mut self.nodes, number, octets)
     }
 
-    /// Begins a group with this number, at most 254.
+    /// Begins a group with this number, at most 254 (clause 20.2.1.3.2).
     ///
     /// # Errors
     /// `Number` for 255, else `Depth` where sixteen groups are open, else `OutOfMemory`.

@@ -1,18 +1,21 @@
 //! What stands next in an open value.
 
-ghost use Rattle.std.specs.Prelude.{◌≡◌, ◌≢◌, ◌≤◌, ◌<◌, ◌⊎◌, true, IsTrue, length, take, [], IfOk, IfErr};
-ghost use Rattle.bac_tag.specs.Spelling.{IsRefusal, Takes};
-ghost use Rattle.bac_tag.specs.Expected.{HeadsOfOne};
+ghost use Rattle.std.specs.Prelude.{◌≡◌, ◌≢◌, ◌≤◌, ◌<◌, ◌⊎◌, ◌++◌, true, IsTrue, ℕ, List, length, take, [], IfOk, IfErr};
+ghost use Rattle.bac_tag.specs.Octets.{IsMark};
+ghost use Rattle.bac_tag.specs.Spelling.{IsLeast, IsRefusal, Takes};
+ghost use Rattle.bac_tag.specs.Heads.{Heads, IsValid};
+ghost use Rattle.bac_tag.specs.Expected.{FitsOne, HeadsOfOne};
 ghost use Rattle.bac_value.specs.declared.prim.PrimitiveValue.{PrimitiveValue};
 ghost use Rattle.bac_value.specs.Primitives.{IsBegun};
 ghost use Rattle.bac_value.specs.PrimContents.{ContentsOf};
 ghost use Rattle.bac_data.specs.Under.{Under, HasContents};
-ghost use Rattle.bac_data.specs.Reading.{SpellsStanding, next_heads, OfSize, item_event, IsItem};
+ghost use Rattle.bac_data.specs.Events.{SpellsEvent};
+ghost use Rattle.bac_data.specs.Reading.{SpellsStanding, next_heads, OfSize, item_event, item_contents, IsItem, LiesInFront};
 
-use bac_tag::{Expected, Refusal, TagHead, Why, read_one_of};
+use bac_tag::{Expected, Refusal, TagHead, Why, joined_marks, mark_head, read_head, read_one_of};
 use bac_value::{
     Bits, Date, DoubleBits, Enumerated, Null, ObjectId, Octets, Prim, Primitive, RealBits, Signed,
-    Text, Time, Unsigned,
+    Text, Time, Unsigned, mark_contents, written_len_of,
 };
 
 /// What stands next in an open value: a primitive with its contents as they lie, or a tag.
@@ -66,6 +69,7 @@ fn read_under(head: TagHead, octets: &[u8]) -> Result<(Item<'_>, usize), Refusal
     requires { HasContents head }
     ensures within { IfOk result (λ found. found.1 ≤ length octets.now) }
     ensures found { IfOk result (λ found. Under head (item_event found.0) (take found.1 octets.now)) }
+    ensures contents { IfOk result (λ found. take found.1 octets.now ≡ item_contents found.0) }
     ensures item { IfOk result (λ found. IsItem found.0) }
     ensures refused { IfErr result (IsRefusal (Under head) octets.now) }
     ensures known { IfErr result (λ refusal. refusal.why ≢ Why.OutOfMemory) }
@@ -147,12 +151,45 @@ fn begins_group(octets: &[u8]) -> bool
     }
 }
 
+/// Whether the head may stand next: it does not say that another one may not.
+fn may_stand(head: TagHead, room: bool, closing: u8) -> bool
+    requires { IsValid head }
+    ensures { IsTrue result → FitsOne (next_heads room closing) head }
+{
+    match head {
+        TagHead::App { number, len } => {
+            let (shortest, longest) = Prim::lengths(number);
+            shortest <= len as usize && len as usize <= longest
+        }
+        TagHead::AppBool(_) => true,
+        TagHead::Ctx { len, .. } => len as usize <= Octets::LONGEST,
+        TagHead::Open(_) => room,
+        TagHead::Close(number) => number == closing,
+    }
+}
+
 /// The head of what stands next, and how many octets it takes. A group may begin where there is room for one,
 /// and the innermost group, or the value, has this number.
 ///
 /// # Errors
-/// As `bac_tag::read_one_of`; but `Depth` where a group begins and there is no room for one.
+/// As [`read_listed_head`].
 fn read_next_head(octets: &[u8], room: bool, closing: u8) -> Result<(TagHead, usize), Refusal>
+    requires { closing ≤ 254 }
+    ensures found { IfOk result (Takes (HeadsOfOne (next_heads room closing)) octets.now) }
+    ensures refused { IfErr result (IsRefusal (HeadsOfOne (next_heads room closing)) octets.now) }
+    ensures known { IfErr result (λ refusal. refusal.why ≢ Why.OutOfMemory) }
+{
+    match read_head(octets) {
+        Ok((head, start)) if may_stand(head, room, closing) => Ok((head, start)),
+        _ => read_listed_head(octets, room, closing),
+    }
+}
+
+/// The same by the list of all heads that may stand next, which is slow and has the place of a refusal.
+///
+/// # Errors
+/// As `bac_tag::read_one_of`; but `Depth` where a group begins and there is no room for one.
+fn read_listed_head(octets: &[u8], room: bool, closing: u8) -> Result<(TagHead, usize), Refusal>
     requires { closing ≤ 254 }
     ensures found { IfOk result (Takes (HeadsOfOne (next_heads room closing)) octets.now) }
     ensures refused { IfErr result (IsRefusal (HeadsOfOne (next_heads room closing)) octets.now) }
@@ -180,8 +217,8 @@ fn told(refusal: Refusal, octets: &[u8], room: bool) -> Refusal
     }
 }
 
-/// What stands next, and how many octets it takes. A group may begin where there is room for one, and the
-/// innermost group, or the value, has this number.
+/// What stands next, how many octets its head takes, and how many it takes in all. A group may begin where there
+/// is room for one, and the innermost group, or the value, has this number.
 ///
 /// # Errors
 /// At the first octet with which nothing begins that may stand there: `Tag`, `Length` or `Depth` in a head,
@@ -190,20 +227,43 @@ pub(crate) fn read_item(
     octets: &[u8],
     room: bool,
     closing: u8,
-) -> Result<(Item<'_>, usize), Refusal>
+) -> Result<(Item<'_>, usize, usize), Refusal>
     requires { closing ≤ 254 }
-    ensures found { IfOk result (λ found. Takes (SpellsStanding room closing) octets.now (item_event found.0, found.1)) }
-    ensures some { IfOk result (λ found. 0 < found.1) }
+    ensures found { IfOk result (λ found. Takes (SpellsStanding room closing) octets.now (item_event found.0, found.2)) }
+    ensures parts { IfOk result (λ found. LiesInFront found.0 found.1 found.2 octets.now) }
+    ensures some { IfOk result (λ found. 0 < found.2) }
     ensures item { IfOk result (λ found. IsItem found.0) }
     ensures refused { IfErr result (IsRefusal (SpellsStanding room closing) octets.now) }
     ensures known { IfErr result (λ refusal. refusal.why ≢ Why.OutOfMemory) }
 {
     let (head, start) = read_next_head(octets, room, closing)?;
     match read_under(head, &octets[start..]) {
-        Ok((item, size)) => Ok((item, start + size)),
+        Ok((item, size)) => Ok((item, start, start + size)),
         Err(refusal) => Err(Refusal {
             place: start + refusal.place,
             why: refusal.why,
         }),
+    }
+}
+
+/// The first octet of an item, whose head has these octets, that differs from the canonical ones.
+pub(crate) fn mark_item(head: &[u8], item: Item<'_>) -> Option<usize>
+    requires item { IsItem item }
+    requires headed { (of : TagHead) × Heads of head.now × Under of (item_event item) (item_contents item) }
+    ensures { (b : List ℕ) → IsLeast (SpellsEvent (item_event item.entry)) b → IsMark (head.now ++ item_contents item.entry) b result }
+{
+    match item {
+        Item::Boolean(bit) => mark_head(head, TagHead::AppBool(bit)),
+        Item::Application { number, contents } => {
+            let len = written_len_of(number, contents) as u32;
+            let mark = mark_head(head, TagHead::App { number, len });
+            joined_marks(mark, head.len(), mark_contents(number, contents))
+        }
+        Item::Context { number, octets } => {
+            let len = octets.len() as u32;
+            mark_head(head, TagHead::Ctx { number, len })
+        }
+        Item::Open(number) => mark_head(head, TagHead::Open(number)),
+        Item::Close(number) => mark_head(head, TagHead::Close(number)),
     }
 }

@@ -16,6 +16,6 @@ mod writing;
 pub use build_faults::BuildFault;
 pub use building::AnyBuilder;
 pub use open_value::Any;
-pub use reading::read_any;
+pub use reading::{read_any, read_any_marked};
 pub use walking::{Event, Events};
 pub use writing::write_any;

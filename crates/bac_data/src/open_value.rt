@@ -1,7 +1,8 @@
 //! An open value (clause 20.2).
 
-ghost use Rattle.std.specs.Prelude.{◌≡◌, ◌≤◌, [], length};
+ghost use Rattle.std.specs.Prelude.{◌≡◌, ◌≤◌, ℕ, List, [], length};
 ghost use Rattle.bac_data.specs.OpenValue.{depth};
+ghost use Rattle.bac_data.specs.Spells.{SpellsAll};
 ghost use Rattle.bac_data.specs.Events.{events, Opens};
 ghost use Rattle.bac_data.specs.Nodes.{nodes_events, AreNodes};
 
@@ -59,9 +60,11 @@ impl Any {
         Events::over(&self.octets, &self.nodes)
     }
 
-    /// How many events a walk over the value has.
+    /// How many events a walk over the value has. They are no more than the octets of any of its spellings, the
+    /// tags around it not counted.
     pub fn count(&self) -> usize
-        ensures { result ≡ length (events self.now) }
+        ensures count { result ≡ length (events self.now) }
+        ensures most { (b : List ℕ) → SpellsAll self.now b → result ≤ length b }
     {
         self.nodes.len()
     }

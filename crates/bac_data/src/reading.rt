@@ -1,15 +1,16 @@
 //! Reading an open value.
 
-ghost use Rattle.std.specs.Prelude.{◌≡◌, ◌≢◌, ◌≤◌, ◌↔◌, IsTrue, IfOk, IfErr};
-ghost use Rattle.bac_tag.specs.Spelling.{IsRefusal, Takes};
+ghost use Rattle.std.specs.Prelude.{◌≡◌, ◌≢◌, ◌≤◌, ◌↔◌, IsTrue, ℕ, List, take, IfOk, IfErr};
+ghost use Rattle.bac_tag.specs.Octets.{IsMark};
+ghost use Rattle.bac_tag.specs.Spelling.{IsLeast, IsRefusal, Takes};
 ghost use Rattle.bac_data.specs.Spells.{SpellsOpen};
 ghost use Rattle.bac_data.specs.Events.{closing};
 ghost use Rattle.bac_data.specs.Reading.{item_event};
 
 use crate::building::AnyBuilder;
-use crate::items::{Item, read_item};
+use crate::items::{Item, mark_item, read_item};
 use crate::open_value::Any;
-use bac_tag::{Expected, Refusal, Why, read_expected};
+use bac_tag::{Expected, Refusal, TagHead, Why, joined_marks, mark_head, read_expected};
 use std::alloc::Global;
 
 /// Memory was refused.
@@ -28,8 +29,53 @@ fn ends(item: Item<'_>, number: u8) -> bool
     }
 }
 
-/// Reads the open value at the front of the octets, between an opening and a closing tag of this number, which
-/// is at most 254, and how many octets it takes with its tags.
+/// The open value at the front of the octets, how many octets it takes, and where marks are asked for its mark.
+fn read_value(
+    alloc: Global,
+    octets: &[u8],
+    number: u8,
+    marks: bool,
+) -> Result<(Any, usize, Option<usize>), Refusal>
+    requires { number ≤ 254 }
+    ensures found { IfOk result (λ found. Takes (SpellsOpen 16 number) octets.now (found.0, found.1)) }
+    ensures mark { IfOk result (λ found. IsTrue marks → (b : List ℕ) → IsLeast (SpellsOpen 16 number found.0) b → IsMark (take found.1 octets.now) b found.2) }
+    ensures refused { IfErr result (λ refusal. refusal.why ≢ Why.OutOfMemory → IsRefusal (SpellsOpen 16 number) octets.now refusal) }
+    ensures memory { IfErr result (λ refusal. refusal.why ≡ Why.OutOfMemory → refusal.place ≡ 0) }
+{
+    let (_, mut place) = read_expected(octets, Expected::Open(Some(number)))?;
+    let mut mark = mark_head(&octets[..place], TagHead::Open(number));
+    let Ok(mut builder) = AnyBuilder::new(alloc) else {
+        return Err(OUT_OF_MEMORY);
+    };
+    loop {
+        let (room, closing) = builder.place(number);
+        let (item, start, taken) = match read_item(&octets[place..], room, closing) {
+            Ok(found) => found,
+            Err(refusal) => {
+                return Err(Refusal {
+                    place: place + refusal.place,
+                    why: refusal.why,
+                });
+            }
+        };
+        if marks {
+            mark = joined_marks(mark, place, mark_item(&octets[place..place + start], item));
+        }
+        place += taken;
+        if builder.is_complete() && ends(item, number) {
+            return match builder.finish() {
+                Ok(value) => Ok((value, place, mark)),
+                Err(_) => Err(OUT_OF_MEMORY),
+            };
+        }
+        if builder.take(item).is_err() {
+            return Err(OUT_OF_MEMORY);
+        }
+    }
+}
+
+/// Reads the open value (clause 20.2) at the front of the octets, between an opening and a closing tag of this
+/// number (clause 20.2.1.3.2), which is at most 254, and how many octets it takes with its tags.
 ///
 /// # Errors
 /// At the first octet with which no such value begins: `Tag`, `Length` or `Depth` in a head, `Content` in
@@ -41,30 +87,25 @@ pub fn read_any(alloc: Global, octets: &[u8], number: u8) -> Result<(Any, usize)
     ensures refused { IfErr result (λ refusal. refusal.why ≢ Why.OutOfMemory → IsRefusal (SpellsOpen 16 number) octets.now refusal) }
     ensures memory { IfErr result (λ refusal. refusal.why ≡ Why.OutOfMemory → refusal.place ≡ 0) }
 {
-    let (_, mut place) = read_expected(octets, Expected::Open(Some(number)))?;
-    let Ok(mut builder) = AnyBuilder::new(alloc) else {
-        return Err(OUT_OF_MEMORY);
-    };
-    loop {
-        let (room, closing) = builder.place(number);
-        let (item, taken) = match read_item(&octets[place..], room, closing) {
-            Ok((item, taken)) => (item, taken),
-            Err(refusal) => {
-                return Err(Refusal {
-                    place: place + refusal.place,
-                    why: refusal.why,
-                });
-            }
-        };
-        place += taken;
-        if builder.is_complete() && ends(item, number) {
-            return match builder.finish() {
-                Ok(value) => Ok((value, place)),
-                Err(_) => Err(OUT_OF_MEMORY),
-            };
-        }
-        if builder.take(item).is_err() {
-            return Err(OUT_OF_MEMORY);
-        }
-    }
+    let (value, taken, _) = read_value(alloc, octets, number, false)?;
+    Ok((value, taken))
+}
+
+/// Reads the same, and the first place where its octets, the tags among them, differ from the canonical ones:
+/// None where they are canonical.
+///
+/// # Errors
+/// As [`read_any`].
+pub fn read_any_marked(
+    alloc: Global,
+    octets: &[u8],
+    number: u8,
+) -> Result<(Any, usize, Option<usize>), Refusal>
+    requires { number ≤ 254 }
+    ensures found { IfOk result (λ found. Takes (SpellsOpen 16 number) octets.now (found.0, found.1)) }
+    ensures mark { IfOk result (λ found. (b : List ℕ) → IsLeast (SpellsOpen 16 number found.0) b → IsMark (take found.1 octets.now) b found.2) }
+    ensures refused { IfErr result (λ refusal. refusal.why ≢ Why.OutOfMemory → IsRefusal (SpellsOpen 16 number) octets.now refusal) }
+    ensures memory { IfErr result (λ refusal. refusal.why ≡ Why.OutOfMemory → refusal.place ≡ 0) }
+{
+    read_value(alloc, octets, number, true)
 }

@@ -9,7 +9,7 @@ use crate::nodes::Node;
 use bac_value::PrimRef;
 use std::marker::Model;
 
-/// One step of a walk over an open value.
+/// One step of a walk over an open value: a primitive, or the opening or closing tag of a group (clause 20.2.1).
 #[derive(Clone, Copy, Debug, PartialEq, Eq)]
 pub enum Event<'a> {
     /// An application primitive.

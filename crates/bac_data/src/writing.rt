@@ -78,6 +78,15 @@ fn append_nodes(octets: &[u8], nodes: &[Node], out: &mut Vec<u8>) -> Result<(), 
     Ok(())
 }
 
+/// Room for most values, so that a large one is not copied while the vector grows: for the contents, for two
+/// octets of head each, and for longer heads of a few.
+fn room_for(octets: &[u8], nodes: &[Node]) -> usize {
+    octets
+        .len()
+        .saturating_add(nodes.len().saturating_mul(2))
+        .saturating_add(16)
+}
+
 /// Appends an open value with its tags. Where memory is refused some octets may be there.
 fn append_any(value: &Any, number: u8, out: &mut Vec<u8>) -> Result<(), OutOfMemory>
     requires { number ≤ 254 }
@@ -85,13 +94,14 @@ fn append_any(value: &Any, number: u8, out: &mut Vec<u8>) -> Result<(), OutOfMem
     ensures err { OnErr result (Extends out.old.items out.new.items) }
 {
     let (octets, nodes) = value.parts();
+    out.reserve(room_for(octets, nodes))?;
     append_head(TagHead::Open(number), out)?;
     append_nodes(octets, nodes, out)?;
     append_head(TagHead::Close(number), out)
 }
 
-/// Appends the least spelling of an open value, with the opening and the closing tag of this number around
-/// it, which is at most 254. Where memory is refused `out` stays as it was.
+/// Appends the least spelling of an open value (clause 20.2), with the opening and the closing tag of this
+/// number around it (clause 20.2.1.3.2), which is at most 254. Where memory is refused `out` stays as it was.
 pub fn write_any(value: &Any, number: u8, out: &mut Vec<u8>) -> Result<(), OutOfMemory>
     requires { number ≤ 254 }
     ensures ok { OnOk result (Appends (IsLeast (SpellsOpen 16 number value.now)) out.old.items out.new.items) }

@@ -2,7 +2,8 @@
 use Rattle.std.proofs.Common.{◌≡◌, ℕ, zero, suc, ◌+◌, ◌-◌, ◌<◌, ◌≤◌, inl, inr, List, [], ◌∷◌, ◌++◌, length, get_or, take, drop, replicate, Option, None, Some, refl, sym, ap, ◌∙◌, arith}
 use Rattle.std.proofs.Math.Seq.{take-append-add}
 use Rattle.std.proofs.lemmas.Bool.{cases_lt}
-use Rattle.std.proofs.lemmas.List.{length-append, get_or_append_left, get_or-append_right, get_or-append-add, ext_get_or, length-replicate, take-append-le}
+use Rattle.std.proofs.lemmas.List.{length-append, get_or_append_left, get_or-append_right, get_or-append-add, ext_get_or, length-replicate, take-append-le, take_all}
+use Rattle.std.specs.Prelude.{IfNone, IfSome, slice_get}
 use Rattle.std.proofs.lemmas.Option.{slice_get-get_or}
 use Rattle.std.proofs.lemmas.List.Elements.{recursion_from_All, All-from_get_or, All-from_recursion, All-take, All-drop}
 use Rattle.bac_tag.specs.Octets.{IsOctets, NoGreater, FirstDifference, IsMark, joined_mark}
@@ -103,16 +104,42 @@ differs_at b c place p q before differ =
 pub differ_there : (b c : List ℕ) (place : ℕ) → place < length b → place < length c → FirstDifference b c place → get_or b place 0 ≡ get_or c place 0 → ⊥
 differ_there b c place p q d e = d.differ (slice_get-get_or b place 0 p ∙ ap (λ (x : ℕ). Some x) e ∙ sym (slice_get-get_or c place 0 q))
 
+-- lists that are as long differ at a place of both
+pub mark_as_long : (a b : List ℕ) (place : ℕ) → length a ≡ length b → FirstDifference a b place → IsMark a b (Some place)
+mark_as_long a b place long d = elim (cases_lt place (length a)) [
+  | inl lt ↦ (lt, omega arith, d)
+  | inr le ↦
+      (let same : a ≡ b = sym (take_all place a le) ∙ d.before ∙ take_all place b (omega arith) in
+      absurd (d.differ (ap (λ (l : List ℕ). slice_get l place) same)))
+]
+
+pub mark_by : (a b : List ℕ) (m : Option ℕ) → length a ≡ length b → IfNone m (a ≡ b) → IfSome m (FirstDifference a b) → IsMark a b m
+mark_by a b None long none some = none
+mark_by a b (Some place) long none some = mark_as_long a b place long some
+
+-- where two lists differ first is no place behind both
+pub difference_below : (a b : List ℕ) (place n : ℕ) → length a ≤ n → length b ≤ n → FirstDifference a b place → place < n
+difference_below a b place n p q d = elim (cases_lt place n) [
+  | inl lt ↦ lt
+  | inr le ↦
+      (let same : a ≡ b = sym (take_all place a (omega arith)) ∙ d.before ∙ take_all place b (omega arith) in
+      absurd (d.differ (ap (λ (l : List ℕ). slice_get l place) same)))
+]
+
+-- a mark within the first of two parts is one of the whole
+pub mark_first : (a b c d : List ℕ) (place : ℕ) → IsMark a c (Some place) → IsMark (a ++ b) (c ++ d) (Some place)
+mark_first a b c d place h = (
+  omega (arith, h.0, length-append a b),
+  omega (arith, h.1, length-append c d),
+  differs_at (a ++ b) (c ++ d) place (omega (arith, h.0, length-append a b)) (omega (arith, h.1, length-append c d))
+      (take-append-le place a b (omega (arith, h.0)) ∙ h.2.before ∙ sym (take-append-le place c d (omega (arith, h.1))))
+      (λ e. differ_there a c place h.0 h.1 h.2 (sym (get_or_append_left a b 0 place h.0) ∙ e ∙ get_or_append_left c d 0 place h.1)),
+)
+
 -- the mark of two parts joined
 pub mark-append : (a b c d : List ℕ) (m o : Option ℕ) → IsMark a c m → IsMark b d o → IsMark (a ++ b) (c ++ d) (joined_mark m (length a) o)
 mark-append a b c d None None h k = cc
-mark-append a b c d (Some i) o h k = (
-  omega (arith, h.0, length-append a b),
-  omega (arith, h.1, length-append c d),
-  differs_at (a ++ b) (c ++ d) i (omega (arith, h.0, length-append a b)) (omega (arith, h.1, length-append c d))
-      (take-append-le i a b (omega (arith, h.0)) ∙ h.2.before ∙ sym (take-append-le i c d (omega (arith, h.1))))
-      (λ e. differ_there a c i h.0 h.1 h.2 (sym (get_or_append_left a b 0 i h.0) ∙ e ∙ get_or_append_left c d 0 i h.1)),
-)
+mark-append a b c d (Some i) o h k = mark_first a b c d i h
 mark-append a b c d None (Some i) h k =
     rw (← h) (
       omega (arith, k.0, length-append a b),

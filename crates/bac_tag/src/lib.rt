@@ -15,7 +15,7 @@ mod writing;
 
 pub use expecting::Expected;
 pub use heads::TagHead;
-pub use marks::{first_difference, mark_head};
+pub use marks::{first_difference, joined_marks, mark_head};
 pub use numbers::{first_hopeless, number_of};
 pub use reading::{read_expected, read_head, read_one_of};
 pub use refusals::{OutOfMemory, Refusal, Why};

@@ -1,7 +1,7 @@
 //! The first place where octets differ from canonical ones.
 
-ghost use Rattle.std.specs.Prelude.{◌≡◌, List, ℕ, IfNone, IfSome};
-ghost use Rattle.bac_tag.specs.Octets.{FirstDifference, IsMark};
+ghost use Rattle.std.specs.Prelude.{◌≡◌, ◌+◌, ◌^◌, ◌<◌, List, ℕ, IfNone, IfSome};
+ghost use Rattle.bac_tag.specs.Octets.{FirstDifference, IsMark, joined_mark};
 ghost use Rattle.bac_tag.specs.Spelling.{IsLeast, IsSpelling};
 ghost use Rattle.bac_tag.specs.Heads.{IsValid, Heads};
 
@@ -33,4 +33,12 @@ pub fn mark_head(taken: &[u8], head: TagHead) -> Option<usize>
     ensures { (b : List ℕ) → IsLeast (Heads head) b → IsMark taken.now b result }
 {
     first_difference(taken, write_head(head).as_slice())
+}
+
+/// The mark of two parts, one behind the other, by their marks and the number of octets of the first.
+pub fn joined_marks(first: Option<usize>, count: usize, second: Option<usize>) -> Option<usize>
+    requires { IfSome second (λ place. count + place < 2 ^ 64) }
+    ensures { result ≡ joined_mark first count second }
+{
+    first.or(second.map(|place| count + place))
 }

@@ -1,14 +1,13 @@
 -- Fields: a head and the contents behind it.
 use Rattle.std.proofs.Common.{◌≡◌, ℕ, ◌+◌, ◌-◌, ◌^◌, ◌<◌, ◌≤◌, inl, inr, Option, None, Some, List, [], ◌++◌, length, take, drop, arith, refl, sym, ap, subst, ◌∙◌, append_assoc, length-append, length-take, length-drop, take-append-drop}
-use Rattle.std.specs.Prelude.{IfNone, IfSome, slice_get}
-use Rattle.std.proofs.lemmas.Bool.{cases_lt}
-use Rattle.std.proofs.lemmas.List.{take_all, take-append-le, get_or_append_left, append_cancel_left}
+use Rattle.std.specs.Prelude.{IfNone, IfSome}
+use Rattle.std.proofs.lemmas.List.{take_all, append_cancel_left}
 use Rattle.bac_tag.specs.declared.refusals.Refusal.{Refusal}
 use Rattle.bac_tag.specs.declared.heads.TagHead.{TagHead}
 use Rattle.bac_tag.specs.declared.heads.TagHead.TheVariants.{App, AppBool, Ctx, Open, Close}
 use Rattle.bac_tag.specs.declared.expecting.Expected.TheVariants as expected
 use Rattle.bac_tag.specs.Octets.{NoGreater, FirstDifference, IsMark, joined_mark}
-use Rattle.bac_tag.specs.OctetsLaws.{NoGreater-append, differs_at, differ_there, mark-append}
+use Rattle.bac_tag.specs.OctetsLaws.{NoGreater-append, mark-append, mark_first, mark_by}
 use Rattle.bac_tag.specs.Spelling.{EndsItself, IsLeast, IsRefusal, Takes, Joined}
 use Rattle.bac_tag.specs.SpellingLaws.{refused_first, refused_second, refused_alike, IsLeast-one}
 use Rattle.bac_tag.specs.Heads.{Heads}
@@ -19,31 +18,6 @@ use Rattle.bac_tag.proofs.WritingLemmas.{least_ctx, ctx_grows}
 use Rattle.bac_value.specs.Primitives.{IsBegun}
 use Rattle.bac_tool.proofs.PartLemmas.{same_fronts, taken_octets}
 use Rattle.bac_tool.specs.Fields.{OfSize, Field, least_field}
-
--- ---- marks
-
--- a mark within the first of two parts is one of the whole
-pub mark_first : (a b c d : List ℕ) (place : ℕ) → IsMark a c (Some place) → IsMark (a ++ b) (c ++ d) (Some place)
-mark_first a b c d place h = (
-  omega (arith, h.0, length-append a b),
-  omega (arith, h.1, length-append c d),
-  differs_at (a ++ b) (c ++ d) place (omega (arith, h.0, length-append a b)) (omega (arith, h.1, length-append c d))
-      (take-append-le place a b (omega (arith, h.0)) ∙ h.2.before ∙ sym (take-append-le place c d (omega (arith, h.1))))
-      (λ e. differ_there a c place h.0 h.1 h.2 (sym (get_or_append_left a b 0 place h.0) ∙ e ∙ get_or_append_left c d 0 place h.1)),
-)
-
--- lists that are as long differ at a place of both
-pub mark_as_long : (a b : List ℕ) (place : ℕ) → length a ≡ length b → FirstDifference a b place → IsMark a b (Some place)
-mark_as_long a b place long d = elim (cases_lt place (length a)) [
-  | inl lt ↦ (lt, omega arith, d)
-  | inr le ↦
-      (let same : a ≡ b = sym (take_all place a le) ∙ d.before ∙ take_all place b (omega arith) in
-      absurd (d.differ (ap (λ (l : List ℕ). slice_get l place) same)))
-]
-
-pub mark_by : (a b : List ℕ) (m : Option ℕ) → length a ≡ length b → IfNone m (a ≡ b) → IfSome m (FirstDifference a b) → IsMark a b m
-mark_by a b None long none some = none
-mark_by a b (Some place) long none some = mark_as_long a b place long some
 
 -- ---- heads
 
@@ -70,15 +44,6 @@ mark_of_contents number head body w m fits small headed same none some =
     let least = narrow_least number (length w) fits small in
     let long : length body ≡ length w = one_length number (length body) (length w) head headed (subst (λ (l : List ℕ). Heads (Ctx number (length w)) l) (sym same) least.member) in
     mark-append head body (narrow_head 1 number (length w)) w None m same (mark_by body w m long none some)
-
--- where two lists differ first is no place behind both
-pub difference_below : (a b : List ℕ) (place n : ℕ) → length a ≤ n → length b ≤ n → FirstDifference a b place → place < n
-difference_below a b place n p q d = elim (cases_lt place n) [
-  | inl lt ↦ lt
-  | inr le ↦
-      (let same : a ≡ b = sym (take_all place a (omega arith)) ∙ d.before ∙ take_all place b (omega arith) in
-      absurd (d.differ (ap (λ (l : List ℕ). slice_get l place) same)))
-]
 
 pub mark_of_field : (number : ℕ) (head body w : List ℕ) (m o r : Option ℕ) → number ≤ 254 → length w < 2 ^ 32 → Heads (Ctx number (length body)) head
     → IsMark head (narrow_head 1 number (length w)) m → IfNone o (body ≡ w) → IfSome o (FirstDifference body w) → r ≡ joined_mark m (length head) o → IsMark (head ++ body) (least_field number w) r

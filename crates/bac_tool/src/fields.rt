@@ -1,13 +1,16 @@
 //! Fields of a production: contents under a context head (clause 21).
 
-ghost use Rattle.std.specs.Prelude.{◌≡◌, ◌+◌, ◌^◌, ◌<◌, ◌≤◌, ◌++◌, false, IfOk, IfErr, IfSome, OnOk, OnErr, length, take};
-ghost use Rattle.bac_tag.specs.Octets.{IsMark, joined_mark};
+ghost use Rattle.std.specs.Prelude.{◌≡◌, ◌+◌, ◌≤◌, ◌++◌, false, IfOk, IfErr, OnOk, OnErr, length, take};
+ghost use Rattle.bac_tag.specs.Octets.{IsMark};
 ghost use Rattle.bac_tag.specs.Heads.{Heads};
 ghost use Rattle.bac_tag.specs.Spelling.{IsRefusal, Takes};
 ghost use Rattle.bac_tool.specs.Fields.{OfSize, Field, least_field, IsFieldReason};
 ghost use Rattle.bac_tool.specs.Appending.{Extends};
 
-use bac_tag::{Expected, OutOfMemory, Refusal, TagHead, Why, mark_head, read_expected, write_head};
+use bac_tag::{
+    Expected, OutOfMemory, Refusal, TagHead, Why, joined_marks, mark_head, read_expected,
+    write_head,
+};
 use bac_value::Primitive;
 use std::alloc::Global;
 
@@ -41,14 +44,6 @@ fn read_contents<T: Primitive>(alloc: Global, octets: &[u8], size: usize) -> Res
             why: Why::Short,
         }),
     }
-}
-
-/// The mark of two parts, one behind the other, by their marks and the number of octets of the first.
-pub fn joined_marks(first: Option<usize>, count: usize, second: Option<usize>) -> Option<usize>
-    requires { IfSome second (λ place. count + place < 2 ^ 64) }
-    ensures { result ≡ joined_mark first count second }
-{
-    first.or(second.map(|place| count + place))
 }
 
 /// The first octet of a field that differs from the written one.

@@ -10,9 +10,9 @@ ghost use Rattle.bac_tool.specs.WholeInput.{IsWholeRefusal};
 ghost use Rattle.bac_tool.specs.ThinFrame.{IsThinFrame, IndexField, SpellsRequest, SpellsRequired, SpellsThin, request_octets, index_octets, thin_octets, IsThinReason};
 
 use crate::array_index::ArrayIndex;
-use crate::fields::{Part, append_field, field_len, joined_marks, read_field};
+use crate::fields::{Part, append_field, field_len, read_field};
 use crate::thin_header::{SIZE, ThinHeader};
-use bac_tag::{OutOfMemory, Refusal, Why};
+use bac_tag::{OutOfMemory, Refusal, Why, joined_marks};
 use bac_value::{Enumerated, ObjectId};
 use std::alloc::Global;
 

@@ -12,7 +12,7 @@ ghost use Rattle.bac_value.specs.BitsLaws.{bits_once, bits_only_values, bits_wri
 
 use crate::primitives::Primitive;
 use crate::value_faults::{LIMIT, ValueFault};
-use bac_tag::{OutOfMemory, Refusal, Why, first_difference};
+use bac_tag::{OutOfMemory, Refusal, Why};
 use std::alloc::{AllocError, Global};
 use std::marker::Model;
 
@@ -260,7 +260,7 @@ impl Primitive for Bits {
     }
 
     fn mark(&self, octets: &[u8]) -> Option<usize> {
-        first_difference(octets, &self.contents)
+        mark_unused(octets)
     }
 
     fn write(&self, out: &mut Vec<u8>) -> Result<(), OutOfMemory> {

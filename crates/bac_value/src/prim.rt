@@ -26,7 +26,7 @@ use crate::variants::{hopeless_variant, lengths_of, read_variant};
 use bac_tag::{OutOfMemory, Refusal, Why};
 use std::alloc::Global;
 
-/// A value of any primitive type, under the name of its type.
+/// A value of any primitive type (clauses 20.2.2 to 20.2.14), under the name of its type.
 #[derive(Debug, PartialEq, Eq, Drop)]
 pub enum PrimitiveValue {
     Null(Null),

@@ -4,8 +4,8 @@ use Rattle.bac_tag.specs.Expected.{HeadsOfOne}
 use Rattle.bac_tag.specs.Spelling.{IsRefusal}
 use Rattle.bac_data.specs.Reading.{next_heads}
 use Rattle.bac_data.proofs.StandingLemmas.{told_refused, some_heads}
-use Rattle.bac_data.proofs.items.read_next_head.Goals as goal
-use Rattle.bac_data.proofs.items.read_next_head.Goals.{then-room, else-room}
+use Rattle.bac_data.proofs.items.read_listed_head.Goals as goal
+use Rattle.bac_data.proofs.items.read_listed_head.Goals.{then-room, else-room}
 
 pub returns-in-Err-clause-refused : goal.returns-in-Err-clause-refused
 returns-in-Err-clause-refused c =
