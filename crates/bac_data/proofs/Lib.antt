@@ -1,15 +1,16 @@
-mod EventLemmas
+pub mod EventLemmas
 mod HeadLemmas
-mod OpenLemmas
+pub mod OpenLemmas
 mod BalancedLemmas
 mod ViableLemmas
-mod LeastLemmas
+pub mod LeastLemmas
 mod NodeLemmas
 mod BuildingLemmas
-mod EventLeastLemmas
+pub mod EventLeastLemmas
 mod ReadingLemmas
 mod NextHeadLemmas
 mod StandingLemmas
 mod AnyLemmas
 mod EventCounts
 mod MarkLemmas
+mod ReasonLemmas

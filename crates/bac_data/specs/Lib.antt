@@ -7,6 +7,7 @@ pub mod Walks
 pub mod Building
 pub mod Adding
 pub mod Writing
+pub mod Refusals
 pub mod Under
 pub mod Reading
 pub mod Marks

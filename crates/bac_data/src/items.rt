@@ -8,6 +8,7 @@ ghost use Rattle.bac_tag.specs.Expected.{FitsOne, HeadsOfOne};
 ghost use Rattle.bac_value.specs.declared.prim.PrimitiveValue.{PrimitiveValue};
 ghost use Rattle.bac_value.specs.Primitives.{IsBegun};
 ghost use Rattle.bac_value.specs.PrimContents.{ContentsOf};
+ghost use Rattle.bac_data.specs.Refusals.{IsItemReason};
 ghost use Rattle.bac_data.specs.Under.{Under, HasContents};
 ghost use Rattle.bac_data.specs.Events.{SpellsEvent};
 ghost use Rattle.bac_data.specs.Reading.{SpellsStanding, next_heads, OfSize, item_event, item_contents, IsItem, LiesInFront};
@@ -43,7 +44,7 @@ fn read_contents(number: u8, size: usize, octets: &[u8]) -> Result<&[u8], Refusa
     ensures front { IfOk result (λ contents. (contents.now ≡ take size octets.now) × (size ≤ length octets.now)) }
     ensures found { IfOk result (λ contents. (prim : PrimitiveValue) × ContentsOf number prim contents.now) }
     ensures refused { IfErr result (IsRefusal (OfSize number size) octets.now) }
-    ensures known { IfErr result (λ refusal. refusal.why ≢ Why.OutOfMemory) }
+    ensures reasons { IfErr result (λ refusal. IsItemReason refusal.why) }
 {
     let seen = &octets[..size.min(octets.len())];
     if let Some(place) = Prim::hopeless(number, seen, size) {
@@ -72,7 +73,7 @@ fn read_under(head: TagHead, octets: &[u8]) -> Result<(Item<'_>, usize), Refusal
     ensures contents { IfOk result (λ found. take found.1 octets.now ≡ item_contents found.0) }
     ensures item { IfOk result (λ found. IsItem found.0) }
     ensures refused { IfErr result (IsRefusal (Under head) octets.now) }
-    ensures known { IfErr result (λ refusal. refusal.why ≢ Why.OutOfMemory) }
+    ensures reasons { IfErr result (λ refusal. IsItemReason refusal.why) }
 {
     match head {
         TagHead::App { number, len } => {
@@ -177,7 +178,7 @@ fn read_next_head(octets: &[u8], room: bool, closing: u8) -> Result<(TagHead, us
     requires { closing ≤ 254 }
     ensures found { IfOk result (Takes (HeadsOfOne (next_heads room closing)) octets.now) }
     ensures refused { IfErr result (IsRefusal (HeadsOfOne (next_heads room closing)) octets.now) }
-    ensures known { IfErr result (λ refusal. refusal.why ≢ Why.OutOfMemory) }
+    ensures reasons { IfErr result (λ refusal. IsItemReason refusal.why) }
 {
     match read_head(octets) {
         Ok((head, start)) if may_stand(head, room, closing) => Ok((head, start)),
@@ -193,7 +194,7 @@ fn read_listed_head(octets: &[u8], room: bool, closing: u8) -> Result<(TagHead, 
     requires { closing ≤ 254 }
     ensures found { IfOk result (Takes (HeadsOfOne (next_heads room closing)) octets.now) }
     ensures refused { IfErr result (IsRefusal (HeadsOfOne (next_heads room closing)) octets.now) }
-    ensures known { IfErr result (λ refusal. refusal.why ≢ Why.OutOfMemory) }
+    ensures reasons { IfErr result (λ refusal. IsItemReason refusal.why) }
 {
     let heads = next_heads(closing);
     let count = if room { 16 } else { 15 };
@@ -206,6 +207,7 @@ fn read_listed_head(octets: &[u8], room: bool, closing: u8) -> Result<(TagHead, 
 /// The refusal, with the reason `Depth` where a group begins and there is no room for one.
 fn told(refusal: Refusal, octets: &[u8], room: bool) -> Refusal
     ensures place { result.place ≡ refusal.place }
+    ensures reasons { IsItemReason refusal.why → IsItemReason result.why }
     ensures why { (result.why ≡ refusal.why) ⊎ ((result.why ≡ Why.Depth) × (refusal.place ≡ 0) × (0 < length octets.now)) }
 {
     if room || refusal.place != 0 || !begins_group(octets) {
@@ -234,7 +236,7 @@ pub(crate) fn read_item(
     ensures some { IfOk result (λ found. 0 < found.2) }
     ensures item { IfOk result (λ found. IsItem found.0) }
     ensures refused { IfErr result (IsRefusal (SpellsStanding room closing) octets.now) }
-    ensures known { IfErr result (λ refusal. refusal.why ≢ Why.OutOfMemory) }
+    ensures reasons { IfErr result (λ refusal. IsItemReason refusal.why) }
 {
     let (head, start) = read_next_head(octets, room, closing)?;
     match read_under(head, &octets[start..]) {

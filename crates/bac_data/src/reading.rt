@@ -6,6 +6,7 @@ ghost use Rattle.bac_tag.specs.Spelling.{IsLeast, IsRefusal, Takes};
 ghost use Rattle.bac_data.specs.Spells.{SpellsOpen};
 ghost use Rattle.bac_data.specs.Events.{closing};
 ghost use Rattle.bac_data.specs.Reading.{item_event};
+ghost use Rattle.bac_data.specs.Refusals.{IsOpenValueReason};
 
 use crate::building::AnyBuilder;
 use crate::items::{Item, mark_item, read_item};
@@ -41,6 +42,7 @@ fn read_value(
     ensures mark { IfOk result (λ found. IsTrue marks → (b : List ℕ) → IsLeast (SpellsOpen 16 number found.0) b → IsMark (take found.1 octets.now) b found.2) }
     ensures refused { IfErr result (λ refusal. refusal.why ≢ Why.OutOfMemory → IsRefusal (SpellsOpen 16 number) octets.now refusal) }
     ensures memory { IfErr result (λ refusal. refusal.why ≡ Why.OutOfMemory → refusal.place ≡ 0) }
+    ensures reasons { IfErr result (λ refusal. IsOpenValueReason refusal.why) }
 {
     let (_, mut place) = read_expected(octets, Expected::Open(Some(number)))?;
     let mut mark = mark_head(&octets[..place], TagHead::Open(number));
@@ -86,6 +88,7 @@ pub fn read_any(alloc: Global, octets: &[u8], number: u8) -> Result<(Any, usize)
     ensures found { IfOk result (Takes (SpellsOpen 16 number) octets.now) }
     ensures refused { IfErr result (λ refusal. refusal.why ≢ Why.OutOfMemory → IsRefusal (SpellsOpen 16 number) octets.now refusal) }
     ensures memory { IfErr result (λ refusal. refusal.why ≡ Why.OutOfMemory → refusal.place ≡ 0) }
+    ensures reasons { IfErr result (λ refusal. IsOpenValueReason refusal.why) }
 {
     let (value, taken, _) = read_value(alloc, octets, number, false)?;
     Ok((value, taken))
@@ -106,6 +109,7 @@ pub fn read_any_marked(
     ensures mark { IfOk result (λ found. (b : List ℕ) → IsLeast (SpellsOpen 16 number found.0) b → IsMark (take found.1 octets.now) b found.2) }
     ensures refused { IfErr result (λ refusal. refusal.why ≢ Why.OutOfMemory → IsRefusal (SpellsOpen 16 number) octets.now refusal) }
     ensures memory { IfErr result (λ refusal. refusal.why ≡ Why.OutOfMemory → refusal.place ≡ 0) }
+    ensures reasons { IfErr result (λ refusal. IsOpenValueReason refusal.why) }
 {
     read_value(alloc, octets, number, true)
 }

@@ -8,6 +8,7 @@ use Rattle.bac_data.specs.Reading.{SpellsStanding, LiesInFront, item_event}
 use Rattle.bac_data.proofs.MarkLemmas.{ItemMark, mark_inside, marked_opening, marked_more, value_marked, ended_events}
 use Rattle.bac_data.proofs.AnyLemmas.{has_read_opening, refused_opening, has_read_more, refused_behind_events, may_follow, value_read, where_ok}
 use Rattle.bac_data.proofs.StandingLemmas.{rest_is}
+use Rattle.bac_data.proofs.ReasonLemmas.{item_memory}
 use Rattle.bac_data.proofs.reading.read_value.Goals.{then-marks, else-marks, in-Ok-finish, in-Err-finish, else-is_complete-via-then-is_complete+else-ends, else-is_complete-via-else-is_complete}
 use Rattle.bac_data.proofs.reading.read_value.Goals as goal
 
@@ -22,7 +23,7 @@ returns-in-Err-clause-refused c = λ w.
     (subst (λ (l : List ℕ). IsRefusal (SpellsStanding c.place-room.result.0 c.place-room.result.1) l c.in-Err.refusal) (rest_is c.args.octets.now c.loop-found.place) c.in-Err.ensures.refused)
 
 pub returns-in-Err-clause-memory : goal.returns-in-Err-clause-memory
-returns-in-Err-clause-memory c = λ w. absurd (c.in-Err.ensures.known w)
+returns-in-Err-clause-memory c = λ w. absurd (item_memory c.in-Err.refusal.why c.in-Err.ensures.reasons w)
 
 pub returns-then-ends-clause-found : goal.returns-then-ends-clause-found
 returns-then-ends-clause-found c =
