@@ -1,22 +1,26 @@
 -- What a builder's steps do.
-use Rattle.std.proofs.Common.{◌≡◌, ℕ, ◌≤◌, ◌<◌, Bool, true, false, List, [], ◌∷◌, ◌++◌, length, reverse, refl, sym, ◌∙◌, ap, subst, arith}
-use Rattle.std.specs.Prelude.{Result, Ok, Err, OnOk, OnErr, IfErr, IsErrOf, IsTrue, ◌↔◌, if◌then◌else◌, Option, Some}
+use Rattle.std.proofs.Common.{◌≡◌, ℕ, suc, ◌+◌, ◌-◌, ◌≤◌, ◌<◌, Bool, true, false, List, [], ◌∷◌, ◌++◌, take, set, get_or, length, reverse, refl, sym, ◌∙◌, ap, subst, arith, append_assoc}
+use Rattle.std.specs.Prelude.{Result, Ok, Err, OnOk, OnErr, IfErr, IsErrOf, IsTrue, ◌↔◌, if◌then◌else◌, Option, Some, nat_lt}
 use Rattle.std.specs.Prelude.{◌==◌}
-use Rattle.std.proofs.lemmas.Bool.{eqb-false, eqb-true}
+use Rattle.std.proofs.lemmas.Bool.{eqb-false, eqb-true, ltb-true, lt-ltb}
 use Rattle.std.proofs.Common.{eq-eqb}
+use Rattle.std.proofs.ByRecursion.{All-get_or}
 use mir.Val.{bool_byte}
 use Rattle.std.specs.Option.{option_to_list}
 use Rattle.std.specs.Result.{is_ok, is_err}
-use Rattle.std.specs.List.{AllByRecursion}
-use Rattle.std.proofs.lemmas.List.{length-reverse, reverse-append}
+use Rattle.std.proofs.lemmas.List.{length-reverse, reverse-append, map-append, same_from_push, take_all, take_more}
 use Rattle.bac_value.specs.declared.prim.PrimitiveValue.{PrimitiveValue}
 use Rattle.bac_data.specs.declared.build_faults.BuildFault.{BuildFault}
 use Rattle.bac_data.specs.declared.nodes.Node.{Node}
 use Rattle.bac_data.specs.Events.{Event, application, contextual, opening, closing, Opens}
-use Rattle.bac_data.specs.Nodes.{nodes_events}
+use Rattle.bac_data.specs.declared.nodes.Node.TheVariants.{Open, Close}
+use Rattle.bac_data.specs.Nodes.{node_event, node_number, nodes_events, IsNode, AreNodes}
+use Rattle.bac_data.specs.Endings.{HoldEndings, AreOpen}
 use Rattle.bac_data.specs.Adding.{Adds}
-use Rattle.bac_data.specs.Building.{HasOpen, IsInnermost, IsBuilding, MayFollow}
+use Rattle.bac_data.specs.Building.{HasOpen, IsInnermost, IsBuilding, IsPlace, MayFollow}
 use Rattle.bac_data.proofs.OpenLemmas.{Opens-append, Opens-one}
+use Rattle.bac_data.proofs.NodeLemmas.{added_closing, nodes_ending, events_ending}
+use Rattle.bac_data.proofs.EndingLemmas.{AreOpen-append, length-AreOpen, AreOpen-opened, IsOpening, innermost_opening, opening_node, opening_within, nodes_set, AreOpen-closed, closed_node}
 
 -- ---- what a test of a result tells
 
@@ -43,7 +47,10 @@ pub has_open_one : (es : List Event) (m n : ℕ) → HasOpen 16 es m → HasOpen
 has_open_one es m n (s, o, l) (t, p, k) = sym l ∙ ap length (Opens-one 16 es [] s t o p) ∙ k
 
 pub groups_open : (octets : List ℕ) (nodes : List Node) (groups : List ℕ) → IsBuilding octets nodes groups → HasOpen 16 (nodes_events octets nodes) (length groups)
-groups_open octets nodes groups h = (reverse groups, h.opened, length-reverse groups)
+groups_open octets nodes groups h = (h.numbers, h.opened, length-AreOpen nodes (reverse groups) h.numbers h.groups_are ∙ length-reverse groups)
+
+pub so_many_open : (octets : List ℕ) (nodes : List Node) (groups : List ℕ) (es : List Event) (n : ℕ) → IsBuilding octets nodes groups → nodes_events octets nodes ≡ es → length groups ≡ n → HasOpen 16 es n
+so_many_open octets nodes groups es n h e l = subst (λ (es : List Event). HasOpen 16 es n) e (subst (HasOpen 16 (nodes_events octets nodes)) l (groups_open octets nodes groups h))
 
 -- another number of groups is not open
 pub not_open : (octets : List ℕ) (nodes : List Node) (groups : List ℕ) (es : List Event) (n : ℕ) → IsBuilding octets nodes groups → nodes_events octets nodes ≡ es → (length groups ≡ n → ⊥) → HasOpen 16 es n → ⊥
@@ -53,11 +60,15 @@ not_open octets nodes groups es n h e other p = other (has_open_one (nodes_event
 
 -- an event that opens and closes nothing
 pub building_more : (o o' : List ℕ) (ns ns' : List Node) (gs : List ℕ) (event : Event) → IsBuilding o ns gs → Adds o o' ns ns' event → ((s : List ℕ) → Opens 16 s (event ∷ []) s) → IsBuilding o' ns' gs
-building_more o o' ns ns' gs event h a keeps = record {
-  are_nodes = a.are_nodes;
-  opened = subst (λ (es : List Event). Opens 16 [] es (reverse gs)) (sym a.events_are) (Opens-append 16 (nodes_events o ns) (event ∷ []) [] (reverse gs) (reverse gs) h.opened (keeps (reverse gs)));
-  numbers = h.numbers;
-}
+building_more o o' ns ns' gs event h a keeps =
+    let is : node_event o' a.node ≡ event = (same_from_push (nodes_events o' ns) (nodes_events o ns) (node_event o' a.node) event (sym (map-append (node_event o') ns (a.node ∷ [])) ∙ ap (nodes_events o') (sym a.nodes_are) ∙ a.events_are)).1 in
+    let closed : HoldEndings (length ns) (a.node ∷ []) = closed_node o' a.node (length ns) (subst (λ (event : Event). (s : List ℕ) → Opens 16 s (event ∷ []) s) (sym is) keeps) in
+    record {
+      are_nodes = a.are_nodes;
+      numbers = h.numbers;
+      opened = subst (λ (es : List Event). Opens 16 [] es h.numbers) (sym a.events_are) (Opens-append 16 (nodes_events o ns) (event ∷ []) [] h.numbers h.numbers h.opened (keeps h.numbers));
+      groups_are = subst (λ (ns : List Node). AreOpen ns (reverse gs) h.numbers) (sym a.nodes_are) (AreOpen-append ns (a.node ∷ []) (reverse gs) h.numbers h.groups_are closed);
+    }
 
 pub building_primitive : (r : Result (Unit {0}) (PrimitiveValue × BuildFault)) (o o' : List ℕ) (ns ns' : List Node) (gs : List ℕ) (prim : PrimitiveValue) (fault : BuildFault) → IsBuilding o ns gs → OnOk r (Adds o o' ns ns' (application prim))
     → IfErr r (λ back. (back.0 ≡ prim) × (back.1 ≡ fault) × (o' ≡ o) × (ns' ≡ ns)) → IsBuilding o' ns' gs
@@ -69,41 +80,83 @@ pub building_context : (r : Result (Unit {0}) BuildFault) (o o' : List ℕ) (ns 
 building_context (Ok x) o o' ns ns' gs number contents f h a e = building_more o o' ns ns' gs (contextual number contents) h a (λ s. refl)
 building_context (Err x) o o' ns ns' gs number contents f h a e = rw (e.1, e.2) h
 
-reverse_last : (gs : List ℕ) (number : ℕ) → reverse (gs ++ number ∷ []) ≡ number ∷ reverse gs
-reverse_last gs number = reverse-append gs (number ∷ [])
+reverse_last : (gs : List ℕ) (index : ℕ) → reverse (gs ++ index ∷ []) ≡ index ∷ reverse gs
+reverse_last gs index = reverse-append gs (index ∷ [])
 
-all_more : {X : Type 0} (P : X → Type 0) (xs : List X) (y : X) → AllByRecursion P xs → P y → AllByRecursion P (xs ++ y ∷ [])
-all_more P [] y all h = (h, tt)
-all_more P (x ∷ xs) y all h = (all.0, all_more P xs y all.1 h)
-
-pub all_but_last : {X : Type 0} (P : X → Type 0) (xs : List X) (y : X) → AllByRecursion P (xs ++ y ∷ []) → AllByRecursion P xs × P y
-all_but_last P [] y all = (tt, all.0)
-all_but_last P (x ∷ xs) y all = let rest = all_but_last P xs y all.1 in ((all.0, rest.0), rest.1)
-
-pub building_open : (o : List ℕ) (ns ns' : List Node) (gs gs' : List ℕ) (number : ℕ) → IsBuilding o ns gs → Adds o o ns ns' (opening number) → gs' ≡ gs ++ number ∷ [] → length gs < 16 → number ≤ 254 → IsBuilding o ns' gs'
-building_open o ns ns' gs gs' number h a e room small =
-    let short : length (reverse gs) < 16 = omega (arith, length-reverse gs) in
+pub building_open : (o : List ℕ) (ns ns' : List Node) (gs gs' : List ℕ) (number ending : ℕ) → IsBuilding o ns gs → Adds o o ns ns' (opening number) → ns' ≡ ns ++ Open number ending ∷ [] → gs' ≡ gs ++ length ns ∷ [] → length gs < 16 → IsBuilding o ns' gs'
+building_open o ns ns' gs gs' number ending h a f e room =
+    let short : length h.numbers < 16 = omega (arith, length-AreOpen ns (reverse gs) h.numbers h.groups_are, length-reverse gs) in
     record {
       are_nodes = a.are_nodes;
-      opened = rw (a.events_are, e, reverse_last gs number) (Opens-append 16 (nodes_events o ns) (opening number ∷ []) [] (reverse gs) (number ∷ reverse gs) h.opened (short, refl));
-      numbers = rw e (all_more (λ number. number ≤ 254) gs number h.numbers small);
+      numbers = number ∷ h.numbers;
+      opened = rw a.events_are (Opens-append 16 (nodes_events o ns) (opening number ∷ []) [] h.numbers (number ∷ h.numbers) h.opened (short, refl));
+      groups_are = rw (f, e, reverse_last gs (length ns)) (AreOpen-opened ns (reverse gs) h.numbers number ending h.groups_are);
     }
 
-pub building_close : (o : List ℕ) (ns ns' : List Node) (gs gs' : List ℕ) (number : ℕ) → IsBuilding o ns gs → Adds o o ns ns' (closing number) → gs ≡ gs' ++ number ∷ [] → IsBuilding o ns' gs'
-building_close o ns ns' gs gs' number h a e =
-    let before : reverse gs ≡ number ∷ reverse gs' = ap reverse e ∙ reverse_last gs' number in
-    record {
-      are_nodes = a.are_nodes;
-      opened = rw a.events_are (Opens-append 16 (nodes_events o ns) (closing number ∷ []) [] (reverse gs) (reverse gs') h.opened (reverse gs', before, refl));
-      numbers = (all_but_last (λ number. number ≤ 254) gs' number (subst (AllByRecursion (λ (number : ℕ). number ≤ 254)) e h.numbers)).0;
-    }
+-- the last of the indices is that of the innermost one
+pub last_group : (gs : List ℕ) (last : ℕ) → suc last ≡ length gs → gs ≡ take last gs ++ get_or gs last 0 ∷ []
+last_group gs last e = sym (take_all (last + 1) gs (omega (arith, e))) ∙ take_more gs last 0 (omega (arith, e))
 
 -- the innermost open group
-pub innermost : (o : List ℕ) (ns : List Node) (gs gs' : List ℕ) (number : ℕ) → IsBuilding o ns gs → gs ≡ gs' ++ number ∷ [] → IsInnermost 16 (nodes_events o ns) number × (number ≤ 254)
-innermost o ns gs gs' number h e = (
-  (reverse gs', subst (Opens 16 [] (nodes_events o ns)) (ap reverse e ∙ reverse_last gs' number) h.opened),
-  (all_but_last (λ number. number ≤ 254) gs' number (subst (AllByRecursion (λ (number : ℕ). number ≤ 254)) e h.numbers)).1,
-)
+pub innermost : (o : List ℕ) (ns : List Node) (gs gs' : List ℕ) (index : ℕ) (h : IsBuilding o ns gs) → gs ≡ gs' ++ index ∷ [] → IsOpening ns index (reverse gs') h.numbers
+innermost o ns gs gs' index h e =
+    innermost_opening ns index (reverse gs') h.numbers (subst (λ (l : List ℕ). AreOpen ns l h.numbers) (ap reverse e ∙ reverse_last gs' index) h.groups_are)
+
+module _ (o : List ℕ) (ns : List Node) (gs gs' : List ℕ) (index : ℕ) (h : IsBuilding o ns gs) (i : IsOpening ns index (reverse gs') h.numbers) where
+  -- its index lies among the nodes
+  pub innermost_within : index < length ns
+  innermost_within = omega (arith, opening_within i.front ns index i.number i.begins)
+
+  -- its number is that of its node
+  pub innermost_number : (number : ℕ) (node : Node) → number ≡ node_number node → node ≡ get_or ns index node → number ≡ i.number
+  innermost_number number node n is = n ∙ ap node_number (is ∙ opening_node i.front ns index i.number i.begins node)
+
+  innermost_small : i.number ≤ 254
+  innermost_small =
+      let node : Node = Open i.number i.begins.closing in
+      let is : IsNode o node = subst (IsNode o) (opening_node i.front ns index i.number i.begins node) (All-get_or (IsNode o) ns index node innermost_within h.are_nodes.each) in is
+
+  pub innermost_opened : Opens 16 [] (nodes_events o ns) (i.number ∷ i.others)
+  innermost_opened = subst (Opens 16 [] (nodes_events o ns)) i.numbers_are h.opened
+
+  -- the nodes where it is closed
+  abbrev pub closed_nodes : List Node
+  closed_nodes = i.front ++ Open i.number (length ns) ∷ (i.begins.inner ++ Close i.number ∷ [])
+
+  pub closed_nodes_are : (ns' : List Node) (number ending : ℕ) → number ≡ i.number → ending ≡ length ns → ns' ≡ set (ns ++ Close number ∷ []) index (Open number ending) → ns' ≡ closed_nodes
+  closed_nodes_are ns' number ending n s is =
+      is ∙ ap (λ (k : ℕ). set (ns ++ Close k ∷ []) index (Open k ending)) n ∙ ap (λ (k : ℕ). set (ns ++ Close i.number ∷ []) index (Open i.number k)) s ∙ nodes_set i.front ns index i.number i.begins (Close i.number) (Open i.number (length ns))
+
+  with_closing : Adds o o ns (ns ++ Close i.number ∷ []) (closing i.number)
+  with_closing = added_closing o ns (ns ++ Close i.number ∷ []) i.number h.are_nodes refl innermost_small
+
+  with_closing_are : ns ++ Close i.number ∷ [] ≡ i.front ++ Open i.number i.begins.closing ∷ (i.begins.inner ++ Close i.number ∷ [])
+  with_closing_are = ap (λ (l : List Node). l ++ Close i.number ∷ []) i.begins.nodes_are ∙ append_assoc i.front (Open i.number i.begins.closing ∷ i.begins.inner) (Close i.number ∷ [])
+
+  pub closed_events : nodes_events o closed_nodes ≡ nodes_events o ns ++ closing i.number ∷ []
+  closed_events = events_ending o i.number i.begins.closing (length ns) (i.begins.inner ++ Close i.number ∷ []) i.front ∙ ap (nodes_events o) (sym with_closing_are) ∙ with_closing.events_are
+
+  pub building_close : IsBuilding o closed_nodes gs'
+  building_close = record {
+    are_nodes = nodes_ending o i.number i.begins.closing (length ns) (i.begins.inner ++ Close i.number ∷ []) i.front (subst (AreNodes o 0) with_closing_are with_closing.are_nodes);
+    numbers = i.others;
+    opened = subst (λ (es : List Event). Opens 16 [] es i.others) (sym closed_events) (Opens-append 16 (nodes_events o ns) (closing i.number ∷ []) [] (i.number ∷ i.others) i.others innermost_opened (i.others, refl, refl));
+    groups_are = AreOpen-closed i.front ns index i.number i.begins (reverse gs') i.others i.outside;
+  }
+
+-- what may begin and what may end, where a group is open
+pub innermost_place : (o : List ℕ) (ns : List Node) (gs : List ℕ) (es : List Event) (number last size : ℕ) (node : Node) → IsBuilding o ns gs → nodes_events o ns ≡ es → 0 < length gs → size ≡ length gs
+    → node ≡ get_or ns (get_or gs (length gs - 1) 0) node → last ≡ node_number node → IsPlace 16 number es (nat_lt size 16) last
+innermost_place o ns gs es number last size node h view some s is n =
+    let outer : List ℕ = take (length gs - 1) gs in
+    let index : ℕ = get_or gs (length gs - 1) 0 in
+    let i = innermost o ns gs outer index h (last_group gs (length gs - 1) (omega (arith, some))) in
+    let many : length (i.number ∷ i.others) ≡ size = sym (ap length i.numbers_are) ∙ length-AreOpen ns (reverse gs) h.numbers h.groups_are ∙ length-reverse gs ∙ sym s in (
+      i.number ∷ i.others,
+      subst (λ (es : List Event). Opens 16 [] es (i.number ∷ i.others)) view (innermost_opened o ns gs outer index h i),
+      (λ t. let few : size < 16 = ltb-true size 16 t in omega (arith, many, few), λ l. lt-ltb size 16 (omega (arith, many, l))),
+      innermost_number o ns gs outer index h i last node n is,
+    )
 
 -- a list that is not empty
 pub not_none : (n : ℕ) (b : Bool) → b ≡ (n == 0) → b ≡ false → n ≡ 0 → ⊥
@@ -146,7 +199,7 @@ closing_follows old new n (s, t, o, (r, e, h)) (number, (outer, p), is) =
 pub complete_open : (octets : List ℕ) (nodes : List Node) (groups : List ℕ) (es : List Event) (b : Bool) → IsBuilding octets nodes groups → nodes_events octets nodes ≡ es → b ≡ (length groups == 0) → IsTrue b ↔ HasOpen 16 es 0
 complete_open octets nodes groups es b h e test = (
   λ t. let empty : length groups ≡ 0 = eqb-true (length groups) 0 (sym test ∙ t) in
-      (reverse groups, subst (λ (es : List Event). Opens 16 [] es (reverse groups)) e h.opened, length-reverse groups ∙ empty),
+      so_many_open octets nodes groups es 0 h e empty,
   λ p. test ∙ eq-eqb (length groups) 0 (has_open_one (nodes_events octets nodes) (length groups) 0 (groups_open octets nodes groups h) (subst (λ (es : List Event). HasOpen 16 es 0) (sym e) p)),
 )
 

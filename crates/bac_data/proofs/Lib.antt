@@ -5,6 +5,7 @@ mod BalancedLemmas
 mod ViableLemmas
 pub mod LeastLemmas
 mod NodeLemmas
+mod EndingLemmas
 mod BuildingLemmas
 pub mod EventLeastLemmas
 mod ReadingLemmas

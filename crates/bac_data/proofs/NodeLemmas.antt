@@ -35,14 +35,14 @@ pub ranges_le : (place : ℕ) (ns : List Node) (last : ℕ) → Ranges place ns 
 ranges_le place [] last h = omega (arith, h)
 ranges_le place (Application number start end ∷ ns) last (s, le, h) = omega (arith, le, ranges_le end ns last h)
 ranges_le place (Context number start end ∷ ns) last (s, le, h) = omega (arith, le, ranges_le end ns last h)
-ranges_le place (Open number ∷ ns) last h = ranges_le place ns last h
+ranges_le place (Open number ending ∷ ns) last h = ranges_le place ns last h
 ranges_le place (Close number ∷ ns) last h = ranges_le place ns last h
 
 ranges_more : (place mid last : ℕ) (ns ms : List Node) → Ranges place ns mid → Ranges mid ms last → Ranges place (ns ++ ms) last
 ranges_more place mid last [] ms h k = subst (λ (n : ℕ). Ranges n ms last) (sym h) k
 ranges_more place mid last (Application number start end ∷ ns) ms (s, le, h) k = (s, le, ranges_more end mid last ns ms h k)
 ranges_more place mid last (Context number start end ∷ ns) ms (s, le, h) k = (s, le, ranges_more end mid last ns ms h k)
-ranges_more place mid last (Open number ∷ ns) ms h k = ranges_more place mid last ns ms h k
+ranges_more place mid last (Open number ending ∷ ns) ms h k = ranges_more place mid last ns ms h k
 ranges_more place mid last (Close number ∷ ns) ms h k = ranges_more place mid last ns ms h k
 
 -- ---- more octets behind
@@ -56,7 +56,7 @@ module _ (o p : List ℕ) where
   events_front place last (Context number start end ∷ ns) (s, le, h) within =
       let part : slice_range (o ++ p) start end ≡ slice_range o start end = slice_front o p start end (omega arith) (omega (arith, ranges_le end ns last h)) in
       ap (λ (l : List ℕ). contextual number l ∷ nodes_events (o ++ p) ns) part ∙ ap (λ (es : List Event). contextual number (slice_range o start end) ∷ es) (events_front end last ns h within)
-  events_front place last (Open number ∷ ns) h within = ap (λ (es : List Event). opening number ∷ es) (events_front place last ns h within)
+  events_front place last (Open number ending ∷ ns) h within = ap (λ (es : List Event). opening number ∷ es) (events_front place last ns h within)
   events_front place last (Close number ∷ ns) h within = ap (λ (es : List Event). closing number ∷ es) (events_front place last ns h within)
 
   each_front : (place last : ℕ) (ns : List Node) → Ranges place ns last → last ≤ length o → AllByRecursion (IsNode o) ns → AllByRecursion (IsNode (o ++ p)) ns
@@ -67,7 +67,7 @@ module _ (o p : List ℕ) where
   each_front place last (Context number start end ∷ ns) (s, le, h) within (n, all) =
       let part : slice_range (o ++ p) start end ≡ slice_range o start end = slice_front o p start end (omega arith) (omega (arith, ranges_le end ns last h)) in
       ((n.0, subst IsOctetString (sym part) n.1), each_front end last ns h within all)
-  each_front place last (Open number ∷ ns) h within (n, all) = (n, each_front place last ns h within all)
+  each_front place last (Open number ending ∷ ns) h within (n, all) = (n, each_front place last ns h within all)
   each_front place last (Close number ∷ ns) h within (n, all) = (n, each_front place last ns h within all)
 
 all_more : {X : Type 0} (P : X → Type 0) (xs : List X) (y : X) → AllByRecursion P xs → P y → AllByRecursion P (xs ++ y ∷ [])
@@ -84,6 +84,8 @@ added o p o' ns ns' node event h e f ranges is same =
         ranges = ranges_more 0 (length o) (length (o ++ p)) ns (node ∷ []) h.ranges ranges;
         each = all_more (IsNode (o ++ p)) ns node (each_front o p 0 (length o) ns h.ranges (omega arith) h.each) is;
       };
+      node = node;
+      nodes_are = refl;
       events_are = map-append (node_event (o ++ p)) ns (node ∷ []) ∙ ap (λ (es : List Event). es ++ node_event (o ++ p) node ∷ []) (events_front o p 0 (length o) ns h.ranges (omega arith)) ∙ ap (λ (event : Event). nodes_events o ns ++ event ∷ []) same;
     })
 
@@ -122,8 +124,8 @@ added_context o p o' ns ns' number start end h e f s t small is =
     (small, subst IsOctetString (sym part) is)
     (ap (contextual number) part)
 
-pub added_opening : (o : List ℕ) (ns ns' : List Node) (number : ℕ) → AreNodes o 0 ns → ns' ≡ ns ++ Open number ∷ [] → number ≤ 254 → Adds o o ns ns' (opening number)
-added_opening o ns ns' number h f small = added o [] o ns ns' (Open number) (opening number) h (sym (append-nil o)) f (omega (arith, length-append {A = ℕ} o [])) small refl
+pub added_opening : (o : List ℕ) (ns ns' : List Node) (number ending : ℕ) → AreNodes o 0 ns → ns' ≡ ns ++ Open number ending ∷ [] → number ≤ 254 → Adds o o ns ns' (opening number)
+added_opening o ns ns' number ending h f small = added o [] o ns ns' (Open number ending) (opening number) h (sym (append-nil o)) f (omega (arith, length-append {A = ℕ} o [])) small refl
 
 pub added_closing : (o : List ℕ) (ns ns' : List Node) (number : ℕ) → AreNodes o 0 ns → ns' ≡ ns ++ Close number ∷ [] → number ≤ 254 → Adds o o ns ns' (closing number)
 added_closing o ns ns' number h f small = added o [] o ns ns' (Close number) (closing number) h (sym (append-nil o)) f (omega (arith, length-append {A = ℕ} o [])) small refl
@@ -136,7 +138,7 @@ restored o p o' start e s = ap (λ (l : List ℕ). take start l) e ∙ ap (λ (n
 pub within_of : (octets : List ℕ) (place : ℕ) (node : Node) (ns : List Node) → AreNodes octets place (node ∷ ns) → IsWithin (length octets) node
 within_of octets place (Application number start end) ns h = (omega (arith, h.ranges.0, h.ranges.1), ranges_le end ns (length octets) h.ranges.2)
 within_of octets place (Context number start end) ns h = (omega (arith, h.ranges.0, h.ranges.1), ranges_le end ns (length octets) h.ranges.2)
-within_of octets place (Open number) ns h = tt
+within_of octets place (Open number ending) ns h = tt
 within_of octets place (Close number) ns h = tt
 
 -- and so has each
@@ -144,5 +146,25 @@ pub all_within : (octets : List ℕ) (place : ℕ) (ns : List Node) → Ranges p
 all_within octets place [] h = tt
 all_within octets place (Application number start end ∷ ns) h = ((omega (arith, h.0, h.1), ranges_le end ns (length octets) h.2), all_within octets end ns h.2)
 all_within octets place (Context number start end ∷ ns) h = ((omega (arith, h.0, h.1), ranges_le end ns (length octets) h.2), all_within octets end ns h.2)
-all_within octets place (Open number ∷ ns) h = (tt, all_within octets place ns h)
+all_within octets place (Open number ending ∷ ns) h = (tt, all_within octets place ns h)
 all_within octets place (Close number ∷ ns) h = (tt, all_within octets place ns h)
+
+-- ---- another ending in an opening
+
+module _ (o : List ℕ) (number ending other : ℕ) (inner : List Node) where
+  ranges_ending : (place last : ℕ) (front : List Node) → Ranges place (front ++ Open number ending ∷ inner) last → Ranges place (front ++ Open number other ∷ inner) last
+  ranges_ending place last [] h = h
+  ranges_ending place last (Application n start end ∷ front) (s, le, h) = (s, le, ranges_ending end last front h)
+  ranges_ending place last (Context n start end ∷ front) (s, le, h) = (s, le, ranges_ending end last front h)
+  ranges_ending place last (Open n e ∷ front) h = ranges_ending place last front h
+  ranges_ending place last (Close n ∷ front) h = ranges_ending place last front h
+
+  each_ending : (front : List Node) → AllByRecursion (IsNode o) (front ++ Open number ending ∷ inner) → AllByRecursion (IsNode o) (front ++ Open number other ∷ inner)
+  each_ending [] all = all
+  each_ending (node ∷ front) all = (all.0, each_ending front all.1)
+
+  pub nodes_ending : (front : List Node) → AreNodes o 0 (front ++ Open number ending ∷ inner) → AreNodes o 0 (front ++ Open number other ∷ inner)
+  nodes_ending front h = record { ranges = ranges_ending 0 (length o) front h.ranges; each = each_ending front h.each }
+
+  pub events_ending : (front : List Node) → nodes_events o (front ++ Open number other ∷ inner) ≡ nodes_events o (front ++ Open number ending ∷ inner)
+  events_ending front = map-append (node_event o) front (Open number other ∷ inner) ∙ sym (map-append (node_event o) front (Open number ending ∷ inner))

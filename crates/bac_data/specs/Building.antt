@@ -1,9 +1,9 @@
 -- A value that is being built, and the groups that are open.
-use Rattle.std.specs.Prelude.{◌≡◌, ◌↔◌, ℕ, Bool, IsTrue, ◌<◌, ◌≤◌, List, [], ◌∷◌, length, reverse}
-use Rattle.std.specs.List.{AllByRecursion}
+use Rattle.std.specs.Prelude.{◌≡◌, ◌↔◌, ℕ, Bool, IsTrue, ◌<◌, List, [], ◌∷◌, length, reverse}
 use Rattle.bac_data.specs.declared.nodes.Node.{Node}
 use Rattle.bac_data.specs.Events.{Event, Opens}
 use Rattle.bac_data.specs.Nodes.{nodes_events, AreNodes}
+use Rattle.bac_data.specs.Endings.{AreOpen}
 
 -- behind these events so many groups are open
 abbrev pub HasOpen : ℕ → List Event → ℕ → Type 0
@@ -13,11 +13,12 @@ HasOpen limit es count = (s : List ℕ) × Opens limit [] es s × (length s ≡ 
 abbrev pub IsInnermost : ℕ → List Event → ℕ → Type 0
 IsInnermost limit es number = (outer : List ℕ) × Opens limit [] es (number ∷ outer)
 
--- what a builder holds: nodes, and the numbers of the groups that are open behind them, the outermost first
+-- what a builder holds: nodes, and the indices of those that begin the open groups, the outermost first
 pub record IsBuilding (octets : List ℕ) (nodes : List Node) (groups : List ℕ) : Type 0 where
   pub are_nodes : AreNodes octets 0 nodes
-  pub opened : Opens 16 [] (nodes_events octets nodes) (reverse groups)
-  pub numbers : AllByRecursion (λ number. number ≤ 254) groups
+  pub numbers : List ℕ
+  pub opened : Opens 16 [] (nodes_events octets nodes) numbers
+  pub groups_are : AreOpen nodes (reverse groups) numbers
 
 -- the number that ends the innermost group, or the value, which has this one
 abbrev pub closing_number : ℕ → List ℕ → ℕ

@@ -3,6 +3,7 @@ pub mod Spells
 pub mod Events
 pub mod EventsLaws
 pub mod Nodes
+pub mod Endings
 pub mod Walks
 pub mod Building
 pub mod Adding

@@ -23,8 +23,8 @@ const MAX_GROUPS: usize = 16;
 pub struct AnyBuilder {
     octets: Vec<u8>,
     nodes: Vec<Node>,
-    /// The numbers of the open groups, the outermost first.
-    groups: ArrayVec<u8, MAX_GROUPS>,
+    /// The indices of the nodes that begin the open groups, the outermost first.
+    groups: ArrayVec<usize, MAX_GROUPS>,
 }
 
 impl Model for AnyBuilder {
@@ -103,10 +103,13 @@ impl AnyBuilder {
         if self.groups.len() >= MAX_GROUPS {
             return Err(BuildFault::Depth);
         }
-        if self.nodes.push(Node::Open(number)).is_err() {
+        let opening = self.nodes.len();
+        // `close` sets the index
+        let node = Node::Open { number, closing: 0 };
+        if self.nodes.push(node).is_err() {
             return Err(BuildFault::OutOfMemory);
         }
-        self.groups.push(number);
+        self.groups.push(opening);
         Ok(())
     }
 
@@ -123,10 +126,13 @@ impl AnyBuilder {
         if self.groups.is_empty() {
             return Err(BuildFault::NothingOpen);
         }
-        let number = self.groups[self.groups.len() - 1];
+        let opening = self.groups[self.groups.len() - 1];
+        let number = self.nodes[opening].number();
+        let closing = self.nodes.len();
         if self.nodes.push(Node::Close(number)).is_err() {
             return Err(BuildFault::OutOfMemory);
         }
+        self.nodes[opening] = Node::Open { number, closing };
         self.groups.pop();
         Ok(())
     }
@@ -141,7 +147,7 @@ impl AnyBuilder {
         let room = self.groups.len() < MAX_GROUPS;
         match self.groups.as_slice() {
             [] => (room, number),
-            [.., innermost] => (room, *innermost),
+            [.., innermost] => (room, self.nodes[*innermost].number()),
         }
     }
 

@@ -2,7 +2,7 @@
 
 ghost use Rattle.std.specs.Prelude.{◌≡◌, ◌≤◌, ◌∷◌, ◌++◌, [], take, length, IfErr, OnOk};
 ghost use Rattle.bac_data.specs.Events.{application, contextual};
-ghost use Rattle.bac_data.specs.Nodes.{AreNodes};
+ghost use Rattle.bac_data.specs.Nodes.{node_number, AreNodes};
 ghost use Rattle.bac_data.specs.Adding.{Adds};
 ghost use Rattle.bac_value.specs.declared.prim.PrimitiveValue.{PrimitiveValue};
 ghost use Rattle.bac_value.specs.PrimContents.{ContentsOf};
@@ -26,10 +26,27 @@ pub(crate) enum Node {
         start: usize,
         end: usize,
     },
-    /// The beginning of a group.
-    Open(u8),
+    /// The beginning of a group, and the index of the node that ends it.
+    Open {
+        number: u8,
+        closing: usize,
+    },
     /// The end of a group.
     Close(u8),
+}
+
+impl Node {
+    /// The number of its type, its tag or its group.
+    pub(crate) fn number(self) -> u8
+        ensures { result ≡ node_number self }
+    {
+        match self {
+            Node::Application { number, .. }
+            | Node::Context { number, .. }
+            | Node::Open { number, .. }
+            | Node::Close(number) => number,
+        }
+    }
 }
 
 /// Appends a node. Where memory is refused, the octets from `start` on go with it.

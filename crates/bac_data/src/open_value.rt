@@ -5,6 +5,7 @@ ghost use Rattle.bac_data.specs.OpenValue.{depth};
 ghost use Rattle.bac_data.specs.Spells.{SpellsAll};
 ghost use Rattle.bac_data.specs.Events.{events, Opens};
 ghost use Rattle.bac_data.specs.Nodes.{nodes_events, AreNodes};
+ghost use Rattle.bac_data.specs.Endings.{HoldEndings};
 
 use crate::nodes::Node;
 use crate::walking::Events;
@@ -24,6 +25,7 @@ impl Model for Any {
     ghost use Rattle.bac_data.specs.EventsLaws.{elements_code, value_of_events};
     ghost use Rattle.bac_data.specs.Nodes.{nodes_events, AreNodes};
     ghost use Rattle.bac_data.specs.Events.{Opens};
+    ghost use Rattle.bac_data.specs.Endings.{HoldEndings};
 
     ghost Value = { Elements };
 
@@ -31,14 +33,16 @@ impl Model for Any {
 
     ghost view = { λ any. value_of_events (nodes_events any.octets.items any.nodes.items) };
 
-    ghost invariant = { λ any. AreNodes any.octets.items 0 any.nodes.items × Opens 16 [] (nodes_events any.octets.items any.nodes.items) [] };
+    ghost invariant = { λ any. AreNodes any.octets.items 0 any.nodes.items × Opens 16 [] (nodes_events any.octets.items any.nodes.items) [] × HoldEndings 0 any.nodes.items };
 }
 
 impl Any {
-    /// The value of nodes in which each group that is opened is closed.
+    /// The value of nodes in which each group that is opened is closed, and each opening holds the index of its
+    /// closing.
     pub(crate) fn of_nodes(octets: Vec<u8>, nodes: Vec<Node>) -> Any
         requires nodes { AreNodes octets.items 0 nodes.items }
         requires closed { Opens 16 [] (nodes_events octets.items nodes.items) [] }
+        requires endings { HoldEndings 0 nodes.items }
         ensures { events result ≡ nodes_events octets.items nodes.items }
     {
         Any { octets, nodes }

@@ -66,7 +66,7 @@ fn step_of(octets: &[u8], node: Node) -> Event<'_>
             Event::App(PrimRef::of_contents(number, &octets[start..end]))
         }
         Node::Context { number, start, end } => Event::Ctx(number, &octets[start..end]),
-        Node::Open(number) => Event::Open(number),
+        Node::Open { number, .. } => Event::Open(number),
         Node::Close(number) => Event::Close(number),
     }
 }

@@ -60,7 +60,7 @@ fn append_node(octets: &[u8], node: Node, out: &mut Vec<u8>) -> Result<(), OutOf
             out.extend_from_slice(contents)?;
             Ok(())
         }
-        Node::Open(number) => append_head(TagHead::Open(number), out),
+        Node::Open { number, .. } => append_head(TagHead::Open(number), out),
         Node::Close(number) => append_head(TagHead::Close(number), out),
     }
 }
