@@ -4,6 +4,8 @@ pub mod Numbers
 pub mod NumbersLaws
 pub mod UnsignedLaws
 pub mod EnumeratedLaws
+pub mod PriorityLaws
+pub mod InstanceLaws
 pub mod Identifier
 pub mod IdentifierLaws
 pub mod NullContents

@@ -1,13 +1,24 @@
 //! Instances of objects (clause 20.2.14).
 
-ghost use Rattle.std.specs.Prelude.{◌≡◌, ◌≤◌, ◌↔◌, IsSome, IfSome, ℕ};
+ghost use Rattle.std.specs.Prelude.{false, ◌≡◌, ◌≤◌, ◌↔◌, IsSome, IfSome, ℕ};
+ghost use Rattle.std.proofs.Common.{lit≤};
+ghost use Rattle.bac_value.specs.Numbers.{NumberContents, least_number};
+ghost use Rattle.bac_value.specs.NumbersLaws.{number_least, number_lengths};
+ghost use Rattle.bac_value.specs.InstanceLaws.{instance_range, one_instance, instance_written, instance_each_length};
 
+use crate::primitives::Primitive;
+use crate::ranged_numbers::{
+    hopeless_number, mark_number, read_number, write_number, written_number_len,
+};
+use bac_tag::{OutOfMemory, Refusal};
+use std::alloc::Global;
 use std::marker::Model;
 
 /// The number of the last instance: 22 bits.
 const LAST: u32 = 0x3F_FFFF;
 
-/// The instance of an object of some kind: 0 to 4,194,303.
+/// The instance of an object of some kind: 0 to 4,194,303. Its contents are those of an Unsigned (clause
+/// 20.2.4), of which the fewest octets are written.
 #[derive(Clone, Copy, Debug, PartialEq, Eq)]
 pub struct Instance {
     number: u32,
@@ -42,4 +53,62 @@ impl Instance {
     {
         self.number
     }
+}
+
+impl Primitive for Instance {
+    const APP: u8 = 2;
+
+    const SHORTEST: usize = 1;
+
+    const LONGEST: usize = 8;
+
+    ghost APP = { 2 };
+
+    ghost SHORTEST = { 1 };
+
+    ghost LONGEST = { 8 };
+
+    ghost is_value = { λ value. value ≤ 4194303 };
+
+    ghost contents = { λ value octets. NumberContents 0 4194303 value octets };
+
+    ghost written = { λ value. least_number value };
+
+    ghost wants_memory = { false };
+
+    fn read(_alloc: Global, octets: &[u8]) -> Result<Instance, Refusal> {
+        Ok(Instance {
+            number: read_number(octets, 0, LAST as u64)? as u32,
+        })
+    }
+
+    fn hopeless(front: &[u8], size: usize) -> Option<usize> {
+        hopeless_number(front, size, 0, LAST as u64)
+    }
+
+    fn written_len(&self) -> usize {
+        written_number_len(u64::from(self.number()))
+    }
+
+    fn mark(&self, octets: &[u8]) -> Option<usize> {
+        mark_number(u64::from(self.number()), octets)
+    }
+
+    fn write(&self, out: &mut Vec<u8>) -> Result<(), OutOfMemory> {
+        write_number(u64::from(self.number()), out)
+    }
+
+    ghost only_values = { instance_range };
+
+    ghost one_value = { one_instance };
+
+    ghost written_contents = { instance_written };
+
+    ghost written_least = { λ value. number_least 0 4194303 value };
+
+    ghost lengths = { λ value. number_lengths 0 4194303 value };
+
+    ghost each_length = { instance_each_length };
+
+    ghost within_limit = { (lit≤ tt, lit≤ tt) };
 }

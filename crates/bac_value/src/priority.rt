@@ -1,13 +1,27 @@
 //! Priorities of commands (clause 19.2).
 
-ghost use Rattle.std.specs.Prelude.{◌≡◌, ◌≤◌, ◌↔◌, IsSome, IfSome, ℕ};
+ghost use Rattle.std.specs.Prelude.{false, ◌≡◌, ◌≤◌, ◌↔◌, IsSome, IfSome, ℕ};
+ghost use Rattle.std.proofs.Common.{lit≤};
+ghost use Rattle.bac_value.specs.Numbers.{NumberContents, least_number};
+ghost use Rattle.bac_value.specs.NumbersLaws.{number_least, number_lengths};
+ghost use Rattle.bac_value.specs.PriorityLaws.{priority_range, one_priority, priority_written, priority_each_length};
 
+use crate::primitives::Primitive;
+use crate::ranged_numbers::{
+    hopeless_number, mark_number, read_number, write_number, written_number_len,
+};
+use bac_tag::{OutOfMemory, Refusal};
+use std::alloc::Global;
 use std::marker::Model;
+
+/// The number of the first priority.
+const FIRST: u8 = 1;
 
 /// The number of the last priority.
 const LAST: u8 = 16;
 
-/// The priority of a command: 1, which comes first, to 16.
+/// The priority of a command: 1, which comes first, to 16. Its contents are those of an Unsigned (clause
+/// 20.2.4), of which the fewest octets are written.
 #[derive(Clone, Copy, Debug, PartialEq, Eq)]
 pub struct Priority {
     number: u8,
@@ -42,4 +56,62 @@ impl Priority {
     {
         self.number
     }
+}
+
+impl Primitive for Priority {
+    const APP: u8 = 2;
+
+    const SHORTEST: usize = 1;
+
+    const LONGEST: usize = 8;
+
+    ghost APP = { 2 };
+
+    ghost SHORTEST = { 1 };
+
+    ghost LONGEST = { 8 };
+
+    ghost is_value = { λ value. (1 ≤ value) × (value ≤ 16) };
+
+    ghost contents = { λ value octets. NumberContents 1 16 value octets };
+
+    ghost written = { λ value. least_number value };
+
+    ghost wants_memory = { false };
+
+    fn read(_alloc: Global, octets: &[u8]) -> Result<Priority, Refusal> {
+        Ok(Priority {
+            number: read_number(octets, FIRST as u64, LAST as u64)? as u8,
+        })
+    }
+
+    fn hopeless(front: &[u8], size: usize) -> Option<usize> {
+        hopeless_number(front, size, FIRST as u64, LAST as u64)
+    }
+
+    fn written_len(&self) -> usize {
+        written_number_len(u64::from(self.number()))
+    }
+
+    fn mark(&self, octets: &[u8]) -> Option<usize> {
+        mark_number(u64::from(self.number()), octets)
+    }
+
+    fn write(&self, out: &mut Vec<u8>) -> Result<(), OutOfMemory> {
+        write_number(u64::from(self.number()), out)
+    }
+
+    ghost only_values = { priority_range };
+
+    ghost one_value = { one_priority };
+
+    ghost written_contents = { priority_written };
+
+    ghost written_least = { λ value. number_least 1 16 value };
+
+    ghost lengths = { λ value. number_lengths 1 16 value };
+
+    ghost each_length = { priority_each_length };
+
+    ghost within_limit = { (lit≤ tt, lit≤ tt) };
 }

@@ -1,8 +1,8 @@
 //! The tag numbers and the lengths of the types, and the longest values.
 
 use crate::{
-    Bits, Boolean, Date, DoubleBits, Enumerated, Null, ObjectId, Octets, Primitive, RealBits,
-    Signed, Text, Time, Unsigned, ValueFault,
+    Bits, Boolean, Date, DoubleBits, Enumerated, Instance, Null, ObjectId, Octets, Primitive,
+    Priority, RealBits, Signed, Text, Time, Unsigned, ValueFault,
 };
 use bac_tag::{Refusal, Why};
 use std::alloc::Global;
@@ -32,6 +32,8 @@ fn each_type_has_its_tag_and_its_lengths(rt: HostRuntime) {
     has::<Date>(&rt, 10, 4, 4);
     has::<Time>(&rt, 11, 4, 4);
     has::<ObjectId>(&rt, 12, 4, 4);
+    has::<Priority>(&rt, 2, 1, 8);
+    has::<Instance>(&rt, 2, 1, 8);
 }
 
 /// By the bound alone: so many zeros are contents, and one more makes them none.

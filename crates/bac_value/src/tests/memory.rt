@@ -2,8 +2,8 @@
 //! that it can be run with each of its allocations refused in turn (`rt try --test --fail-alloc N`).
 
 use crate::{
-    Bits, Boolean, Date, DoubleBits, Enumerated, ObjectId, Octets, Primitive, RealBits, Signed,
-    Text, Time, Unsigned, ValueFault,
+    Bits, Boolean, Date, DoubleBits, Enumerated, Instance, ObjectId, Octets, Primitive, Priority,
+    RealBits, Signed, Text, Time, Unsigned, ValueFault,
 };
 use bac_tag::{OutOfMemory, Refusal, Why};
 use std::alloc::Global;
@@ -92,5 +92,13 @@ fn refused_memory_leaves_what_was_there(rt: HostRuntime) {
     match ObjectId::new(8, 4) {
         Some(id) => appends(&rt, rt.alloc(), &id, &[2, 0, 0, 4]),
         None => panic!(rt; "8:4 is an identifier"),
+    }
+    match Priority::new(8) {
+        Some(priority) => appends(&rt, rt.alloc(), &priority, &[8]),
+        None => panic!(rt; "8 is a priority"),
+    }
+    match Instance::new(0x0102) {
+        Some(instance) => appends(&rt, rt.alloc(), &instance, &[1, 2]),
+        None => panic!(rt; "258 is an instance"),
     }
 }

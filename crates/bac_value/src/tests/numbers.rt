@@ -2,8 +2,8 @@
 
 use super::{becomes, judge, kept, refused};
 use crate::{
-    Enumerated, Primitive, Signed, Unsigned, hopeless_number, mark_number, read_number,
-    write_number, written_number_len,
+    Enumerated, Instance, Primitive, Priority, Signed, Unsigned, hopeless_number, mark_number,
+    read_number, write_number, written_number_len,
 };
 use bac_tag::{Refusal, Why};
 use std::test::Fail;
@@ -191,6 +191,49 @@ fn in_front_of_an_enumerated_number_stand_zeros(rt: HostRuntime) -> Result<(), F
         refused(&[1; 9], 0, Why::Length),
     ];
     judge::<Enumerated>(&rt, rt.alloc(), &rows)
+}
+
+// Of example 17 of docs/EXAMPLES.md.
+#[test]
+fn a_priority_is_1_to_16(rt: HostRuntime) -> Result<(), Fail> {
+    let rows = [
+        refused(&[], 0, Why::Length),
+        refused(&[0], 0, Why::Content),
+        kept(&[1]),
+        kept(&[8]),
+        kept(&[16]),
+        refused(&[17], 0, Why::Content),
+        refused(&[0, 0], 1, Why::Content),
+        becomes(&[0, 16], &[16], 0),
+        refused(&[0, 17], 1, Why::Content),
+        refused(&[1, 0], 0, Why::Content),
+        becomes(&[0, 0, 0, 0, 0, 0, 0, 8], &[8], 0),
+        refused(&[0; 8], 7, Why::Content),
+        refused(&[0, 0, 0, 0, 0, 0, 1, 0], 6, Why::Content),
+        refused(&[0, 0, 0, 0, 0, 0, 0, 0, 8], 0, Why::Length),
+    ];
+    judge::<Priority>(&rt, rt.alloc(), &rows)
+}
+
+// Of example 5 of docs/EXAMPLES.md.
+#[test]
+fn an_instance_is_at_most_4_194_303(rt: HostRuntime) -> Result<(), Fail> {
+    let rows = [
+        refused(&[], 0, Why::Length),
+        kept(&[0]),
+        kept(&[1, 0]),
+        kept(&[0x3F, 0xFF, 0xFF]),
+        refused(&[0x40, 0, 0], 0, Why::Content),
+        becomes(&[0, 0], &[0], 1),
+        becomes(&[0, 0x3F, 0xFF, 0xFF], &[0x3F, 0xFF, 0xFF], 0),
+        refused(&[0, 0x40, 0, 0], 1, Why::Content),
+        refused(&[1, 0, 0, 0], 0, Why::Content),
+        becomes(&[0; 8], &[0], 1),
+        becomes(&[0, 0, 0, 0, 0, 0x3F, 0xFF, 0xFF], &[0x3F, 0xFF, 0xFF], 0),
+        refused(&[0, 0, 0, 0, 0, 0x40, 0, 0], 5, Why::Content),
+        refused(&[0; 9], 0, Why::Length),
+    ];
+    judge::<Instance>(&rt, rt.alloc(), &rows)
 }
 
 // Of examples 5 and 17 of docs/EXAMPLES.md.
