@@ -15,3 +15,4 @@ mod AnyLemmas
 mod EventCounts
 mod MarkLemmas
 mod ReasonLemmas
+mod RangeLemmas

@@ -1,7 +1,7 @@
 //! An open value (clause 20.2).
 
 ghost use Rattle.std.specs.Prelude.{◌≡◌, ◌≤◌, ℕ, List, [], length};
-ghost use Rattle.bac_data.specs.OpenValue.{depth};
+ghost use Rattle.bac_data.specs.OpenValue.{depth, IsOpenValue};
 ghost use Rattle.bac_data.specs.Spells.{SpellsAll};
 ghost use Rattle.bac_data.specs.Events.{events, Opens};
 ghost use Rattle.bac_data.specs.Nodes.{nodes_events, AreNodes};
@@ -59,7 +59,8 @@ impl Any {
 
     /// A walk over the value. It takes no memory.
     pub fn events(&self) -> Events<'_>
-        ensures { result ≡ events self.now }
+        ensures events { result ≡ events self.now }
+        ensures value { IsOpenValue 16 self.now }
     {
         Events::over(&self.octets, &self.nodes)
     }
