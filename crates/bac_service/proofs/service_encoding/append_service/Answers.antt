@@ -1,0 +1,22 @@
+use Rattle.bac_service.proofs.service_encoding.append_service.Goals as goal
+
+pub returns-in-ReadProperty-clause-ok : goal.returns-in-ReadProperty-clause-ok
+returns-in-ReadProperty-clause-ok c = rw c.in-ReadProperty.is c.write_fields.ensures
+
+pub returns-in-ReadPropertyAck-clause-ok : goal.returns-in-ReadPropertyAck-clause-ok
+returns-in-ReadPropertyAck-clause-ok c = rw c.in-ReadPropertyAck.is c.write_fields-in-ReadPropertyAck.ensures
+
+pub returns-in-WriteProperty-clause-ok : goal.returns-in-WriteProperty-clause-ok
+returns-in-WriteProperty-clause-ok c = rw c.in-WriteProperty.is c.write_fields-in-WriteProperty.ensures
+
+pub returns-in-IAm-clause-ok : goal.returns-in-IAm-clause-ok
+returns-in-IAm-clause-ok c = rw c.in-IAm.is c.write_fields-in-IAm.ensures
+
+pub returns-in-SubscribeCov-clause-ok : goal.returns-in-SubscribeCov-clause-ok
+returns-in-SubscribeCov-clause-ok c = rw c.in-SubscribeCov.is c.write_fields-in-SubscribeCov.ensures
+
+pub returns-in-CovNotification-clause-ok : goal.returns-in-CovNotification-clause-ok
+returns-in-CovNotification-clause-ok c = rw c.in-CovNotification.is c.write_fields-in-CovNotification.ensures
+
+pub returns-in-ServiceError-clause-ok : goal.returns-in-ServiceError-clause-ok
+returns-in-ServiceError-clause-ok c = rw c.in-ServiceError.is c.write_cause.ensures.ok

@@ -1,0 +1,12 @@
+use Rattle.std.proofs.Common.{refl}
+use Rattle.bac_service.specs.declared.kind.Kind.TheVariants.{Unconfirmed}
+use Rattle.bac_service.specs.ServiceValues.{i_am}
+use Rattle.bac_service.specs.TypedLaws.{spelled_as, i_am_named}
+use Rattle.bac_service.specs.Decoded.{found_as, refused_as, false_true}
+use Rattle.bac_service.proofs.typed.decode_i_am.Goals as goal
+
+pub returns-in-Ok : goal.returns-in-Ok
+returns-in-Ok c = found_as Unconfirmed 0 c.args.octets.now _ _ (spelled_as Unconfirmed 0 (i_am c.in-Ok.request.0) refl refl tt) c.in-Ok.ensures.found c.in-Ok.ensures.mark
+
+pub returns-in-Err : goal.returns-in-Err
+returns-in-Err c = refused_as Unconfirmed 0 c.args.octets.now c.in-Err.refusal (i_am_named Unconfirmed 0 (refl, refl)) c.in-Err.ensures.refused (λ w. absurd (false_true (c.in-Err.ensures.memory w).1))

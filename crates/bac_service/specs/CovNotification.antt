@@ -1,0 +1,40 @@
+-- Notifications (clause 21): [0] the process, [1] the device, [2] the object, [3] the time remaining, [4] a group with the values.
+use Rattle.std.specs.Prelude.{ℕ, List, refl}
+use Rattle.bac_data.specs.Spells.{Joins}
+use Rattle.bac_value.specs.Identifier.{Identifier}
+use Rattle.bac_service.specs.declared.unsigned32.Unsigned32.{Unsigned32}
+use Rattle.bac_service.specs.declared.property_value.PropertyValue.{PropertyValue}
+use Rattle.bac_service.specs.declared.cov_notification.CovNotification.{CovNotification}
+use Rattle.bac_service.specs.declared.cov_notification.Notification.{Notification}
+use Rattle.bac_service.specs.Contents.{ObjectField, UnsignedField}
+use Rattle.bac_service.specs.PropertyValue.{SpellsPropertyValue}
+use Rattle.bac_service.specs.Productions.{Both, Items, Grouped, IsRecordOf}
+
+-- what a notification says
+pub record Notified : Type 0 where
+  pub process : Unsigned32
+  pub device : Identifier
+  pub object : Identifier
+  pub remaining : Unsigned32
+  pub values : List PropertyValue
+
+abbrev pub notification_of : Notification → Notified
+notification_of n = record { process = n.process; device = n.device; object = n.object; remaining = n.remaining; values = n.values.items }
+
+abbrev pub notified_of : CovNotification → Notified
+notified_of n = record { process = n.process; device = n.device; object = n.object; remaining = n.remaining; values = n.values.items }
+
+abbrev pub SpellsNotification : Notified → List ℕ → Type 0
+SpellsNotification n =
+    Joins (UnsignedField 0 n.process) (Joins (ObjectField 1 n.device) (Joins (ObjectField 2 n.object) (
+    Joins (UnsignedField 3 n.remaining) (Grouped 4 (Items SpellsPropertyValue) n.values)
+    )))
+
+pub notification_parts : IsRecordOf (Both (UnsignedField 0) (Both (ObjectField 1) (Both (ObjectField 2) (Both (UnsignedField 3) (Grouped 4 (Items SpellsPropertyValue)))))) SpellsNotification
+notification_parts = record {
+  fields = λ n. (n.process, (n.device, (n.object, (n.remaining, n.values))));
+  of_fields = λ p. record { process = p.0; device = p.1.0; object = p.1.1.0; remaining = p.1.1.1.0; values = p.1.1.1.1 };
+  same = λ n. refl;
+  split = λ n b s. s;
+  joined = λ p b s. s;
+}

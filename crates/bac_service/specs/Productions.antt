@@ -1,0 +1,80 @@
+-- The parts of a production (clause 21), and what a reader tells of them.
+use Rattle.std.specs.Prelude.{◌≡◌, ◌↔◌, ℕ, ◌≤◌, List, [], ◌∷◌, ◌++◌, length, take, Bool, ◌⊎◌, IsTrue, Option, Some, None}
+use Rattle.bac_tag.specs.declared.refusals.Refusal.{Refusal}
+use Rattle.bac_tag.specs.declared.refusals.Why.TheVariants.{Short}
+use Rattle.bac_tag.specs.Octets.{IsMark}
+use Rattle.bac_tag.specs.Spelling.{IsLeast, IsFurthest}
+use Rattle.bac_data.specs.Spells.{Joins, Encloses}
+use Rattle.bac_service.specs.Leads.{Lead, BeginsIn}
+
+-- ---- what spells a part
+
+-- one part behind the other
+abbrev pub Both : {V W : Type 0} → (V → List ℕ → Type 0) → (W → List ℕ → Type 0) → V × W → List ℕ → Type 0
+Both S T p = Joins (S p.0) (T p.1)
+
+-- an optional part: no octets where it is absent
+abbrev pub Optional : {V : Type 0} → (V → List ℕ → Type 0) → Option V → List ℕ → Type 0
+Optional S None b = b ≡ []
+Optional S (Some v) b = S v b
+
+-- a list: its items one behind the other
+abbrev pub Items : {V : Type 0} → (V → List ℕ → Type 0) → List V → List ℕ → Type 0
+Items S [] b = b ≡ []
+Items S (v ∷ vs) b = Joins (S v) (Items S vs) b
+
+-- a group: the part between an opening and a closing tag of one number
+abbrev pub Grouped : {V : Type 0} → ℕ → (V → List ℕ → Type 0) → V → List ℕ → Type 0
+Grouped number S v = Encloses number (S v)
+
+-- A value is its fields, and is spelled as they are.
+pub record IsRecordOf {V W : Type 0} (parts : W → List ℕ → Type 0) (whole : V → List ℕ → Type 0) : Type 0 where
+  pub fields : V → W
+  pub of_fields : W → V
+  pub same : (v : V) → of_fields (fields v) ≡ v
+  pub split : (v : V) (b : List ℕ) → whole v b → parts (fields v) b
+  pub joined : (w : W) (b : List ℕ) → parts w b → whole (of_fields w) b
+
+-- ---- what makes reading by the next head right
+
+-- Of two spellings at the front of one list: they are one, or the longer goes on where the shorter ends, with a head of these.
+pub data Aligned {V : Type 0} (leads : List Lead) (v w : V) (b c : List ℕ) : Type 0 where
+  same : v ≡ w → b ≡ c → Aligned leads v w b c
+  shorter : (more : List ℕ) → c ≡ b ++ more → BeginsIn leads more → Aligned leads v w b c
+  longer : (more : List ℕ) → b ≡ c ++ more → BeginsIn leads more → Aligned leads v w b c
+
+-- A spelling begins with one of the openers, unless it is empty; one goes on where another ends only with one of the continuers.
+pub record Lawful {V : Type 0} (spells : V → List ℕ → Type 0) (openers continuers : List Lead) (may_be_empty : Bool) : Type 0 where
+  pub opens : (v : V) (b : List ℕ) → spells v b → ((b ≡ []) × IsTrue may_be_empty) ⊎ BeginsIn openers b
+  pub aligned : (v w : V) (b c x y : List ℕ) → spells v b → spells w c → b ++ x ≡ c ++ y → Aligned continuers v w b c
+
+-- some value has a spelling
+pub record IsInhabited {V : Type 0} (spells : V → List ℕ → Type 0) : Type 0 where
+  pub value : V
+  pub octets : List ℕ
+  pub spelled : spells value octets
+
+-- ---- what a reader tells
+
+-- so many octets of the input spell the value, and no longer front of it spells any
+pub record IsLongest {V : Type 0} (spells : V → List ℕ → Type 0) (input : List ℕ) (v : V) (n : ℕ) : Type 0 where
+  pub within : n ≤ length input
+  pub spelled : spells v (take n input)
+  pub most : (w : V) (c y : List ℕ) → input ≡ c ++ y → spells w c → length c ≤ n
+
+-- how far the input begins a spelling, with Short exactly where all of it does
+pub record IsReach {V : Type 0} (spells : V → List ℕ → Type 0) (input : List ℕ) (reach : Refusal) : Type 0 where
+  pub furthest : IsFurthest spells input reach.place
+  pub short : (reach.why ≡ Short) ↔ (reach.place ≡ length input)
+
+-- the octets have the mark, against the least octets of the set
+pub record HasMark (Among : List ℕ → Type 0) (taken : List ℕ) (mark : Option ℕ) : Type 0 where
+  pub least : List ℕ
+  pub is_least : IsLeast Among least
+  pub is_mark : IsMark taken least mark
+
+-- the new octets are the old ones, and behind them the least of a set
+pub record AppendsLeast (Among : List ℕ → Type 0) (old new : List ℕ) : Type 0 where
+  pub more : List ℕ
+  pub is_least : IsLeast Among more
+  pub new_is : new ≡ old ++ more

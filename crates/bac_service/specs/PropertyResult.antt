@@ -1,0 +1,63 @@
+-- What reading a property gave (clause 21): [2] the property, [3] the index, which may be absent, then [4] the value, or [5] a group with the error.
+use Rattle.std.specs.Prelude.{◌≡◌, ◌↔◌, ℕ, Option, List, ◌⊎◌, refl}
+use Rattle.std.proofs.Common.{inl, inr, sym, ap, subst}
+use Rattle.bac_tag.specs.Spelling.{OneOf}
+use Rattle.bac_data.specs.OpenValue.{Elements}
+use Rattle.bac_data.specs.Spells.{Joins, SpellsOpen}
+use Rattle.bac_value.specs.declared.enumeration.Enumerated.{Enumerated}
+use Rattle.bac_service.specs.declared.unsigned32.Unsigned32.{Unsigned32}
+use Rattle.bac_service.specs.declared.error_cause.ErrorCause.{ErrorCause}
+use Rattle.bac_service.specs.declared.property_result.ReadResult.{ReadResult}
+use Rattle.bac_service.specs.declared.property_result.ReadResult.TheVariants.{Value, Error}
+use Rattle.bac_service.specs.declared.property_result.PropertyResult.{PropertyResult}
+use Rattle.bac_service.specs.Contents.{EnumeratedField, UnsignedField}
+use Rattle.bac_service.specs.ErrorCause.{SpellsErrorCause}
+use Rattle.bac_service.specs.Productions.{Both, Optional, Grouped, IsRecordOf}
+
+abbrev pub SpellsReadResult : ReadResult → List ℕ → Type 0
+SpellsReadResult (Value value) = SpellsOpen 16 4 value
+SpellsReadResult (Error cause) = Grouped 5 SpellsErrorCause cause
+
+abbrev pub SpellsPropertyResult : PropertyResult → List ℕ → Type 0
+SpellsPropertyResult r = Joins (EnumeratedField 2 r.property) (Joins (Optional (UnsignedField 3) r.index) (SpellsReadResult r.result))
+
+abbrev pub read_result_of : Elements ⊎ ErrorCause → ReadResult
+read_result_of (inl value) = Value value
+read_result_of (inr cause) = Error cause
+
+abbrev pub choice_of : ReadResult → Elements ⊎ ErrorCause
+choice_of (Value value) = inl value
+choice_of (Error cause) = inr cause
+
+-- ---- the parts
+
+chosen : (r : ReadResult) → SpellsReadResult r ≡ OneOf (SpellsOpen 16 4) (Grouped 5 SpellsErrorCause) (choice_of r)
+chosen (Value value) = refl
+chosen (Error cause) = refl
+
+told : (x : Elements ⊎ ErrorCause) → OneOf (SpellsOpen 16 4) (Grouped 5 SpellsErrorCause) x ≡ SpellsReadResult (read_result_of x)
+told (inl value) = refl
+told (inr cause) = refl
+
+once : (r : ReadResult) → read_result_of (choice_of r) ≡ r
+once (Value value) = refl
+once (Error cause) = refl
+
+abbrev pub property_result_of : Enumerated × (Option Unsigned32 × (Elements ⊎ ErrorCause)) → PropertyResult
+property_result_of p = record { property = p.0; index = p.1.0; result = read_result_of p.1.1 }
+
+pub property_result_alike : (p : Enumerated × (Option Unsigned32 × (Elements ⊎ ErrorCause))) (b : List ℕ)
+    → Both (EnumeratedField 2) (Both (Optional (UnsignedField 3)) (OneOf (SpellsOpen 16 4) (Grouped 5 SpellsErrorCause))) p b ↔ SpellsPropertyResult (property_result_of p) b
+property_result_alike p b = (
+  λ s. subst (λ (P : List ℕ → Type 0). Joins (EnumeratedField 2 p.0) (Joins (Optional (UnsignedField 3) p.1.0) P) b) (told p.1.1) s,
+  λ s. subst (λ (P : List ℕ → Type 0). Joins (EnumeratedField 2 p.0) (Joins (Optional (UnsignedField 3) p.1.0) P) b) (sym (told p.1.1)) s,
+)
+
+pub property_result_parts : IsRecordOf (Both (EnumeratedField 2) (Both (Optional (UnsignedField 3)) (OneOf (SpellsOpen 16 4) (Grouped 5 SpellsErrorCause)))) SpellsPropertyResult
+property_result_parts = record {
+  fields = λ r. (r.property, (r.index, choice_of r.result));
+  of_fields = property_result_of;
+  same = λ r. ap (λ (x : ReadResult). record { property = r.property; index = r.index; result = x }) (once r.result);
+  split = λ r b s. subst (λ (P : List ℕ → Type 0). Joins (EnumeratedField 2 r.property) (Joins (Optional (UnsignedField 3) r.index) P) b) (chosen r.result) s;
+  joined = λ p b s. (property_result_alike p b).0 s;
+}

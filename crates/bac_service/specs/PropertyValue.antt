@@ -1,0 +1,21 @@
+-- Values of properties (clause 21): [0] the property, [1] the index, which may be absent, [2] the value, [3] the priority, which may be absent.
+use Rattle.std.specs.Prelude.{ℕ, List, refl}
+use Rattle.bac_data.specs.Spells.{Joins, SpellsOpen}
+use Rattle.bac_service.specs.declared.property_value.PropertyValue.{PropertyValue}
+use Rattle.bac_service.specs.Contents.{EnumeratedField, UnsignedField, PriorityField}
+use Rattle.bac_service.specs.Productions.{Both, Optional, IsRecordOf}
+
+abbrev pub SpellsPropertyValue : PropertyValue → List ℕ → Type 0
+SpellsPropertyValue value =
+    Joins (EnumeratedField 0 value.property) (Joins (Optional (UnsignedField 1) value.index) (
+    Joins (SpellsOpen 16 2 value.value) (Optional (PriorityField 3) value.priority)
+    ))
+
+pub property_value_parts : IsRecordOf (Both (EnumeratedField 0) (Both (Optional (UnsignedField 1)) (Both (SpellsOpen 16 2) (Optional (PriorityField 3))))) SpellsPropertyValue
+property_value_parts = record {
+  fields = λ v. (v.property, (v.index, (v.value, v.priority)));
+  of_fields = λ p. record { property = p.0; index = p.1.0; value = p.1.1.0; priority = p.1.1.1 };
+  same = λ v. refl;
+  split = λ v b s. s;
+  joined = λ p b s. s;
+}

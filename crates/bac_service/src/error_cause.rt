@@ -1,0 +1,46 @@
+//! Error (clause 21).
+
+ghost use Rattle.bac_service.specs.ErrorCause.{SpellsErrorCause, error_cause_parts};
+
+use crate::fields::ApplicationField;
+use crate::productions::Production;
+use crate::records::Record;
+use bac_tag::OutOfMemory;
+use bac_value::Enumerated;
+
+/// Why a request, or the reading of one property, failed (clause 18).
+#[derive(Clone, Copy, Debug, PartialEq, Eq)]
+pub struct ErrorCause {
+    pub class: Enumerated,
+    pub code: Enumerated,
+}
+
+/// Its fields.
+type Parts = (ApplicationField<Enumerated>, ApplicationField<Enumerated>);
+
+impl Record for ErrorCause {
+    ghost use Rattle.bac_service.specs.declared.error_cause.ErrorCause.{ErrorCause};
+
+    type Parts = Parts;
+
+    ghost Value = { ErrorCause };
+
+    ghost view = { λ cause. cause };
+
+    ghost spells = { SpellsErrorCause };
+
+    fn from_parts(parts: Parts) -> ErrorCause {
+        let (class, code) = parts;
+        ErrorCause {
+            class: class.0,
+            code: code.0,
+        }
+    }
+
+    fn write_fields(&self, out: &mut Vec<u8>) -> Result<(), OutOfMemory> {
+        ApplicationField(self.class).write(out)?;
+        ApplicationField(self.code).write(out)
+    }
+
+    ghost of_parts = { error_cause_parts };
+}

@@ -1,0 +1,66 @@
+//! I-Am (clauses 16.10 and 21).
+
+ghost use Rattle.std.specs.Prelude.{◌≡◌};
+ghost use Rattle.bac_service.specs.IAm.{SpellsIAm, i_am_parts};
+
+use crate::fields::ApplicationField;
+use crate::productions::Production;
+use crate::records::Record;
+use crate::unsigned16::Unsigned16;
+use crate::unsigned32::Unsigned32;
+use bac_tag::OutOfMemory;
+use bac_value::{Enumerated, ObjectId};
+
+/// What a device says of itself.
+#[derive(Clone, Copy, Debug, PartialEq, Eq)]
+pub struct IAm {
+    /// The device.
+    pub object: ObjectId,
+    /// The most octets of an APDU that it takes.
+    pub apdu: Unsigned32,
+    /// Which messages in segments it can do: 0, it sends and takes them; 1, it sends them; 2, it takes them;
+    /// 3, neither. Other numbers are kept.
+    pub segmentation: Enumerated,
+    /// The number of its vendor.
+    pub vendor: Unsigned16,
+}
+
+/// Its fields.
+type Parts = (
+    ApplicationField<ObjectId>,
+    (
+        ApplicationField<Unsigned32>,
+        (ApplicationField<Enumerated>, ApplicationField<Unsigned16>),
+    ),
+);
+
+impl Record for IAm {
+    ghost use Rattle.bac_service.specs.declared.i_am.IAm.{IAm};
+
+    type Parts = Parts;
+
+    ghost Value = { IAm };
+
+    ghost view = { λ request. request };
+
+    ghost spells = { SpellsIAm };
+
+    fn from_parts(parts: Parts) -> IAm {
+        let (object, (apdu, (segmentation, vendor))) = parts;
+        IAm {
+            object: object.0,
+            apdu: apdu.0,
+            segmentation: segmentation.0,
+            vendor: vendor.0,
+        }
+    }
+
+    fn write_fields(&self, out: &mut Vec<u8>) -> Result<(), OutOfMemory> {
+        ApplicationField(self.object).write(out)?;
+        ApplicationField(self.apdu).write(out)?;
+        ApplicationField(self.segmentation).write(out)?;
+        ApplicationField(self.vendor).write(out)
+    }
+
+    ghost of_parts = { i_am_parts };
+}

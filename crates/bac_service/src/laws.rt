@@ -1,0 +1,55 @@
+//! Laws of the definitions.
+
+ghost use Rattle.std.specs.Prelude.{◌≡◌, ◌↔◌, ◌⊎◌, ℕ, List, false, IsTrue};
+ghost use Rattle.bac_tag.specs.Spelling.{IsViable, IsPartway, OneOf};
+ghost use Rattle.bac_service.specs.declared.kind.Kind.{Kind};
+ghost use Rattle.bac_service.specs.Productions.{Both};
+ghost use Rattle.bac_service.specs.ServiceValues.{ServiceValue};
+ghost use Rattle.bac_service.specs.Services.{SpellsService};
+
+use crate::cov_notification::Notification;
+use crate::error_cause::ErrorCause;
+use crate::i_am::IAm;
+use crate::productions::Production;
+use crate::read_access_result::ReadAccessResult;
+use crate::read_access_specification::ReadAccessSpecification;
+use crate::read_property::ReadProperty;
+use crate::read_property_ack::ReadPropertyAck;
+use crate::records::Fields;
+use crate::subscribe_cov::SubscribeCov;
+use crate::who_is::WhoIs;
+use crate::write_property::WriteProperty;
+
+/// No list spells two values of a part.
+fn parts_have_one_value<P: Production>()
+    requires { IsTrue P.is_sound }
+    ensures { (v w : P.Value) (b : List ℕ) → P.spells v b → P.spells w b → v ≡ w }
+{}
+
+/// No list spells two services of one kind and one choice.
+pub fn services_have_one_value()
+    ensures { (kind : Kind) (choice : ℕ) (v w : ServiceValue) (b : List ℕ) → SpellsService false kind choice v b → SpellsService false kind choice w b → v ≡ w }
+{
+    parts_have_one_value::<Fields<ReadProperty>>();
+    parts_have_one_value::<Fields<ReadPropertyAck>>();
+    parts_have_one_value::<Fields<WriteProperty>>();
+    parts_have_one_value::<Vec<ReadAccessSpecification>>();
+    parts_have_one_value::<Vec<ReadAccessResult>>();
+    parts_have_one_value::<Fields<WhoIs>>();
+    parts_have_one_value::<Fields<IAm>>();
+    parts_have_one_value::<Fields<SubscribeCov>>();
+    parts_have_one_value::<Fields<Notification>>();
+    parts_have_one_value::<Fields<ErrorCause>>();
+}
+
+/// A list begins a spelling of one part or another exactly where it begins one of either.
+pub(crate) fn choices_are_viable_in_a_case<A: Production, B: Production>()
+    ensures { (b : List ℕ) → IsViable (OneOf A.spells B.spells) b ↔ (IsViable A.spells b ⊎ IsViable B.spells b) }
+{}
+
+/// A list begins a spelling of two parts joined exactly where it begins one of the first, or is one of the first with
+/// the beginning of one of the second behind it.
+pub(crate) fn joined_parts_are_viable_in_turn<A: Production, B: Production>()
+    requires { IsTrue B.is_sound }
+    ensures { (b : List ℕ) → IsViable (Both A.spells B.spells) b ↔ (IsViable A.spells b ⊎ IsPartway A.spells (λ _. B.spells) b) }
+{}

@@ -1,0 +1,60 @@
+//! An open value as a part of a production (clause 20.2).
+
+ghost use Rattle.std.specs.Prelude.{◌∷◌, [], false, true, nat_le};
+ghost use Rattle.bac_data.specs.OpenValue.{Elements};
+ghost use Rattle.bac_data.specs.Spells.{SpellsOpen};
+ghost use Rattle.bac_service.specs.Leads.{opening};
+ghost use Rattle.bac_service.specs.OpenValueLaws.{open_lawful, open_inhabited};
+
+use crate::productions::{Front, Production, ReadFault, complete_at};
+use bac_data::{Any, read_any_marked, write_any};
+use bac_tag::{OutOfMemory, Why};
+use std::alloc::Global;
+
+/// An open value between tags of this number.
+#[derive(Drop)]
+pub(crate) struct OpenValue<const N: u8>(pub(crate) Any);
+
+impl<const N: u8> Production for OpenValue<N> {
+    ghost Value = { Elements };
+
+    ghost view = { λ value. value.0 };
+
+    ghost spells = { SpellsOpen 16 N };
+
+    ghost openers = { opening N ∷ [] };
+
+    ghost continuers = { [] };
+
+    ghost may_be_empty = { false };
+
+    ghost is_sound = { nat_le N 254 };
+
+    ghost wants_memory = { true };
+
+    fn read(alloc: Global, octets: &[u8]) -> Result<Front<OpenValue<N>>, ReadFault> {
+        match read_any_marked(alloc, octets, N) {
+            Ok((value, taken, mark)) => Ok(Front {
+                value: OpenValue(value),
+                taken,
+                mark,
+                reach: complete_at(octets, taken),
+            }),
+            Err(refusal) => {
+                if refusal.why == Why::OutOfMemory {
+                    Err(ReadFault::OutOfMemory)
+                } else {
+                    Err(ReadFault::Refused(refusal))
+                }
+            }
+        }
+    }
+
+    fn write(&self, out: &mut Vec<u8>) -> Result<(), OutOfMemory> {
+        write_any(&self.0, N, out)
+    }
+
+    ghost lawful = { λ sound. open_lawful 16 N };
+
+    ghost inhabited = { open_inhabited 16 N };
+}

@@ -1,0 +1,87 @@
+//! What reading a property gave (the listOfResults of ReadAccessResult, clause 21).
+
+ghost use Rattle.std.specs.Prelude.{◌≡◌};
+ghost use Rattle.bac_service.specs.ChoiceLaws.{either_of};
+ghost use Rattle.bac_service.specs.PropertyResult.{SpellsPropertyResult, read_result_of, property_result_parts};
+
+use crate::choices::Choice;
+use crate::error_cause::ErrorCause;
+use crate::fields::Field;
+use crate::groups::{Group, write_group};
+use crate::open_values::OpenValue;
+use crate::optionals::{bare, under};
+use crate::productions::Production;
+use crate::records::{Fields, Record};
+use crate::unsigned32::Unsigned32;
+use bac_data::{Any, write_any};
+use bac_tag::OutOfMemory;
+use bac_value::Enumerated;
+
+/// The value of a property, or why it could not be read.
+#[derive(Debug, Drop)]
+pub enum ReadResult {
+    Value(Any),
+    Error(ErrorCause),
+}
+
+/// A property, or one element of it, and what reading it gave.
+#[derive(Debug, Drop)]
+pub struct PropertyResult {
+    pub property: Enumerated,
+    /// The index of the element, where the property is an array.
+    pub index: Option<Unsigned32>,
+    pub result: ReadResult,
+}
+
+/// The one or the other.
+fn result_of(choice: Choice<OpenValue<4>, Group<Fields<ErrorCause>, 5>>) -> ReadResult
+    ensures { result ≡ read_result_of (either_of (λ value. value.0) (λ group. group.0.0) choice) }
+{
+    match choice {
+        Choice::First(value) => ReadResult::Value(value.0),
+        Choice::Second(group) => ReadResult::Error(group.0.0),
+    }
+}
+
+/// Its fields.
+type Parts = (
+    Field<Enumerated, 2>,
+    (
+        Option<Field<Unsigned32, 3>>,
+        Choice<OpenValue<4>, Group<Fields<ErrorCause>, 5>>,
+    ),
+);
+
+impl Record for PropertyResult {
+    ghost use Rattle.bac_service.specs.declared.property_result.PropertyResult.{PropertyResult};
+
+    type Parts = Parts;
+
+    ghost Value = { PropertyResult };
+
+    ghost view = { λ result. result };
+
+    ghost spells = { SpellsPropertyResult };
+
+    fn from_parts(parts: Parts) -> PropertyResult {
+        let (property, (index, result)) = parts;
+        PropertyResult {
+            property: property.0,
+            index: bare(index),
+            result: result_of(result),
+        }
+    }
+
+    fn write_fields(&self, out: &mut Vec<u8>) -> Result<(), OutOfMemory> {
+        Field::<Enumerated, 2>(self.property).write(out)?;
+        under::<Unsigned32, 3>(self.index).write(out)?;
+        match &self.result {
+            ReadResult::Value(value) => write_any(value, 4, out),
+            ReadResult::Error(cause) => {
+                write_group::<Fields<ErrorCause>, 5>(&Fields(*cause), out)
+            }
+        }
+    }
+
+    ghost of_parts = { property_result_parts };
+}

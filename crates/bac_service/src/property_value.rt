@@ -1,0 +1,64 @@
+//! Values of properties (BACnetPropertyValue, clause 21).
+
+ghost use Rattle.bac_service.specs.PropertyValue.{SpellsPropertyValue, property_value_parts};
+
+use crate::fields::Field;
+use crate::open_values::OpenValue;
+use crate::optionals::{bare, under};
+use crate::productions::Production;
+use crate::records::Record;
+use crate::unsigned32::Unsigned32;
+use bac_data::{Any, write_any};
+use bac_tag::OutOfMemory;
+use bac_value::{Enumerated, Priority};
+
+/// The value of a property, or of one element of it.
+#[derive(Debug, Drop)]
+pub struct PropertyValue {
+    pub property: Enumerated,
+    /// The index of the element, where the property is an array.
+    pub index: Option<Unsigned32>,
+    pub value: Any,
+    /// The priority, where the property is commanded.
+    pub priority: Option<Priority>,
+}
+
+/// Its fields.
+type Parts = (
+    Field<Enumerated, 0>,
+    (
+        Option<Field<Unsigned32, 1>>,
+        (OpenValue<2>, Option<Field<Priority, 3>>),
+    ),
+);
+
+impl Record for PropertyValue {
+    ghost use Rattle.bac_service.specs.declared.property_value.PropertyValue.{PropertyValue};
+
+    type Parts = Parts;
+
+    ghost Value = { PropertyValue };
+
+    ghost view = { λ value. value };
+
+    ghost spells = { SpellsPropertyValue };
+
+    fn from_parts(parts: Parts) -> PropertyValue {
+        let (property, (index, (value, priority))) = parts;
+        PropertyValue {
+            property: property.0,
+            index: bare(index),
+            value: value.0,
+            priority: bare(priority),
+        }
+    }
+
+    fn write_fields(&self, out: &mut Vec<u8>) -> Result<(), OutOfMemory> {
+        Field::<Enumerated, 0>(self.property).write(out)?;
+        under::<Unsigned32, 1>(self.index).write(out)?;
+        write_any(&self.value, 2, out)?;
+        under::<Priority, 3>(self.priority).write(out)
+    }
+
+    ghost of_parts = { property_value_parts };
+}

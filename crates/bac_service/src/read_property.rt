@@ -1,0 +1,56 @@
+//! ReadProperty (clauses 15.5 and 21).
+
+ghost use Rattle.std.specs.Prelude.{◌≡◌};
+ghost use Rattle.bac_service.specs.ReadProperty.{SpellsReadProperty, read_property_parts};
+
+use crate::fields::Field;
+use crate::optionals::{bare, under};
+use crate::productions::Production;
+use crate::records::Record;
+use crate::unsigned32::Unsigned32;
+use bac_tag::OutOfMemory;
+use bac_value::{Enumerated, ObjectId};
+
+/// A request for one property of an object, or for one element of it.
+#[derive(Clone, Copy, Debug, PartialEq, Eq)]
+pub struct ReadProperty {
+    pub object: ObjectId,
+    pub property: Enumerated,
+    /// The index of the element, where the property is an array.
+    pub index: Option<Unsigned32>,
+}
+
+/// Its fields.
+type Parts = (
+    Field<ObjectId, 0>,
+    (Field<Enumerated, 1>, Option<Field<Unsigned32, 2>>),
+);
+
+impl Record for ReadProperty {
+    ghost use Rattle.bac_service.specs.declared.read_property.ReadProperty.{ReadProperty};
+
+    type Parts = Parts;
+
+    ghost Value = { ReadProperty };
+
+    ghost view = { λ request. request };
+
+    ghost spells = { SpellsReadProperty };
+
+    fn from_parts(parts: Parts) -> ReadProperty {
+        let (object, (property, index)) = parts;
+        ReadProperty {
+            object: object.0,
+            property: property.0,
+            index: bare(index),
+        }
+    }
+
+    fn write_fields(&self, out: &mut Vec<u8>) -> Result<(), OutOfMemory> {
+        Field::<ObjectId, 0>(self.object).write(out)?;
+        Field::<Enumerated, 1>(self.property).write(out)?;
+        under::<Unsigned32, 2>(self.index).write(out)
+    }
+
+    ghost of_parts = { read_property_parts };
+}

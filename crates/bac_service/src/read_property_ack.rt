@@ -1,0 +1,63 @@
+//! ReadProperty-ACK (clauses 15.5 and 21).
+
+ghost use Rattle.bac_service.specs.ReadPropertyAck.{SpellsReadPropertyAck, read_property_ack_parts};
+
+use crate::fields::Field;
+use crate::open_values::OpenValue;
+use crate::optionals::{bare, under};
+use crate::productions::Production;
+use crate::records::Record;
+use crate::unsigned32::Unsigned32;
+use bac_data::{Any, write_any};
+use bac_tag::OutOfMemory;
+use bac_value::{Enumerated, ObjectId};
+
+/// The value of a property that was asked for, or of one element of it.
+#[derive(Debug, Drop)]
+pub struct ReadPropertyAck {
+    pub object: ObjectId,
+    pub property: Enumerated,
+    /// The index of the element, where the property is an array.
+    pub index: Option<Unsigned32>,
+    pub value: Any,
+}
+
+/// Its fields.
+type Parts = (
+    Field<ObjectId, 0>,
+    (
+        Field<Enumerated, 1>,
+        (Option<Field<Unsigned32, 2>>, OpenValue<3>),
+    ),
+);
+
+impl Record for ReadPropertyAck {
+    ghost use Rattle.bac_service.specs.declared.read_property_ack.ReadPropertyAck.{ReadPropertyAck};
+
+    type Parts = Parts;
+
+    ghost Value = { ReadPropertyAck };
+
+    ghost view = { λ ack. ack };
+
+    ghost spells = { SpellsReadPropertyAck };
+
+    fn from_parts(parts: Parts) -> ReadPropertyAck {
+        let (object, (property, (index, value))) = parts;
+        ReadPropertyAck {
+            object: object.0,
+            property: property.0,
+            index: bare(index),
+            value: value.0,
+        }
+    }
+
+    fn write_fields(&self, out: &mut Vec<u8>) -> Result<(), OutOfMemory> {
+        Field::<ObjectId, 0>(self.object).write(out)?;
+        Field::<Enumerated, 1>(self.property).write(out)?;
+        under::<Unsigned32, 2>(self.index).write(out)?;
+        write_any(&self.value, 3, out)
+    }
+
+    ghost of_parts = { read_property_ack_parts };
+}

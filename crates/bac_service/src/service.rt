@@ -1,0 +1,71 @@
+//! Services (clause 21).
+
+ghost use Rattle.std.specs.Prelude.{◌≡◌};
+ghost use Rattle.bac_service.specs.ServiceValues.{value_of, kind_of, choice_of};
+
+use crate::cov_notification::CovNotification;
+use crate::i_am::IAm;
+use crate::kind::Kind;
+use crate::opaque::Opaque;
+use crate::read_property::ReadProperty;
+use crate::read_property_ack::ReadPropertyAck;
+use crate::read_property_multiple::ReadPropertyMultiple;
+use crate::read_property_multiple_ack::ReadPropertyMultipleAck;
+use crate::service_error::ServiceError;
+use crate::subscribe_cov::SubscribeCov;
+use crate::who_is::WhoIs;
+use crate::write_property::WriteProperty;
+
+/// A service: a typed one, or any other, which means its octets.
+#[derive(Debug, Drop)]
+pub enum Service {
+    ReadProperty(ReadProperty),
+    ReadPropertyAck(ReadPropertyAck),
+    WriteProperty(WriteProperty),
+    ReadPropertyMultiple(ReadPropertyMultiple),
+    ReadPropertyMultipleAck(ReadPropertyMultipleAck),
+    WhoIs(WhoIs),
+    IAm(IAm),
+    SubscribeCov(SubscribeCov),
+    CovNotification(CovNotification),
+    ServiceError(ServiceError),
+    Opaque(Opaque),
+}
+
+impl Service {
+    /// The kind of APDU that carries it.
+    pub fn kind(&self) -> Kind
+        ensures { result ≡ kind_of (value_of self.now) }
+    {
+        match self {
+            Service::ReadProperty(_)
+            | Service::WriteProperty(_)
+            | Service::ReadPropertyMultiple(_)
+            | Service::SubscribeCov(_) => Kind::Confirmed,
+            Service::WhoIs(_) | Service::IAm(_) => Kind::Unconfirmed,
+            Service::ReadPropertyAck(_) | Service::ReadPropertyMultipleAck(_) => Kind::ComplexAck,
+            Service::CovNotification(notification) if notification.confirmed => Kind::Confirmed,
+            Service::CovNotification(_) => Kind::Unconfirmed,
+            Service::ServiceError(_) => Kind::Error,
+            Service::Opaque(service) => service.kind(),
+        }
+    }
+
+    /// Its service choice (clause 21).
+    pub fn choice(&self) -> u8
+        ensures { result ≡ choice_of (value_of self.now) }
+    {
+        match self {
+            Service::IAm(_) => 0,
+            Service::CovNotification(notification) if notification.confirmed => 1,
+            Service::CovNotification(_) => 2,
+            Service::SubscribeCov(_) => 5,
+            Service::WhoIs(_) => 8,
+            Service::ReadProperty(_) | Service::ReadPropertyAck(_) => 12,
+            Service::ReadPropertyMultiple(_) | Service::ReadPropertyMultipleAck(_) => 14,
+            Service::WriteProperty(_) => 15,
+            Service::ServiceError(error) => error.choice(),
+            Service::Opaque(service) => service.choice(),
+        }
+    }
+}

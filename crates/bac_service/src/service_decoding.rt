@@ -1,0 +1,137 @@
+//! Decoding a service.
+
+ghost use Rattle.std.specs.Prelude.{◌≡◌, ◌≢◌, false, IfOk, IfErr};
+ghost use Rattle.bac_service.specs.declared.kind.Kind.TheVariants.{Confirmed, Unconfirmed, ComplexAck, Error};
+ghost use Rattle.bac_service.specs.Productions.{HasMark};
+ghost use Rattle.bac_service.specs.WholeInput.{IsWholeRefusal};
+ghost use Rattle.bac_service.specs.Choices.{has_production};
+ghost use Rattle.bac_service.specs.ServiceValues.{value_of};
+ghost use Rattle.bac_service.specs.Services.{SpellsService};
+ghost use Rattle.bac_service.specs.Decoded.{IsDecoded, is_small};
+
+use crate::kind::{Kind, has_production};
+use crate::opaque::Opaque;
+use crate::service::Service;
+use crate::typed::{
+    Marked, decode_error, decode_i_am, decode_notification, decode_read_property,
+    decode_read_property_ack, decode_read_property_multiple, decode_read_property_multiple_ack,
+    decode_subscribe_cov, decode_who_is, decode_write_property,
+};
+use bac_tag::{Refusal, Why};
+use std::alloc::Global;
+
+/// Takes the octets of a service without a production as they are.
+fn decode_opaque(alloc: Global, kind: Kind, choice: u8, octets: &[u8]) -> Result<Marked, Refusal>
+    requires { has_production false kind choice ≡ false }
+    ensures { IsDecoded kind choice octets.now result }
+{
+    match Opaque::new(alloc, kind, choice, octets) {
+        Ok(service) => Ok((Service::Opaque(service), None)),
+        Err(_) => Err(Refusal {
+            place: 0,
+            why: Why::OutOfMemory,
+        }),
+    }
+}
+
+/// Decodes a confirmed request.
+fn decode_confirmed(alloc: Global, choice: u8, octets: &[u8]) -> Result<Marked, Refusal>
+    ensures { IsDecoded Confirmed choice octets.now result }
+{
+    match choice {
+        1 => decode_notification(alloc, true, octets),
+        5 => decode_subscribe_cov(alloc, octets),
+        12 => decode_read_property(alloc, octets),
+        14 => decode_read_property_multiple(alloc, octets),
+        15 => decode_write_property(alloc, octets),
+        _ => decode_opaque(alloc, Kind::Confirmed, choice, octets),
+    }
+}
+
+/// Decodes an unconfirmed request.
+fn decode_unconfirmed(alloc: Global, choice: u8, octets: &[u8]) -> Result<Marked, Refusal>
+    ensures { IsDecoded Unconfirmed choice octets.now result }
+{
+    match choice {
+        0 => decode_i_am(alloc, octets),
+        2 => decode_notification(alloc, false, octets),
+        8 => decode_who_is(alloc, octets),
+        _ => decode_opaque(alloc, Kind::Unconfirmed, choice, octets),
+    }
+}
+
+/// Decodes an answer with contents.
+fn decode_complex_ack(alloc: Global, choice: u8, octets: &[u8]) -> Result<Marked, Refusal>
+    ensures { IsDecoded ComplexAck choice octets.now result }
+{
+    match choice {
+        12 => decode_read_property_ack(alloc, octets),
+        14 => decode_read_property_multiple_ack(alloc, octets),
+        _ => decode_opaque(alloc, Kind::ComplexAck, choice, octets),
+    }
+}
+
+/// Decodes the answer to a request that failed.
+fn decode_failure(alloc: Global, choice: u8, octets: &[u8]) -> Result<Marked, Refusal>
+    ensures { IsDecoded Error choice octets.now result }
+{
+    if has_production(Kind::Error, choice) {
+        decode_error(alloc, choice, octets)
+    } else {
+        decode_opaque(alloc, Kind::Error, choice, octets)
+    }
+}
+
+/// Decodes a service of any kind.
+fn decode_kind(alloc: Global, kind: Kind, choice: u8, octets: &[u8]) -> Result<Marked, Refusal>
+    ensures { IsDecoded kind choice octets.now result }
+{
+    match kind {
+        Kind::Confirmed => decode_confirmed(alloc, choice, octets),
+        Kind::Unconfirmed => decode_unconfirmed(alloc, choice, octets),
+        Kind::ComplexAck => decode_complex_ack(alloc, choice, octets),
+        Kind::Error => decode_failure(alloc, choice, octets),
+    }
+}
+
+/// Decodes the service that all the octets spell, of this kind and with this service choice, and gives the place
+/// of the first octet that differs from the canonical ones.
+///
+/// # Errors
+/// At the first octet with which no spelling of such a service goes on: `Trailing` where the octets in front of it
+/// spell one, else `Tag`, `Length`, `Content` or, in a seventeenth group of an open value, `Depth`; `Short` where
+/// all the octets begin a spelling. `OutOfMemory` at 0 where memory is refused. ReadProperty, SubscribeCOV, I-Am,
+/// Who-Is and the errors of typed services want no memory. An opaque service takes any octets.
+pub fn decode_service_marked(
+    alloc: Global,
+    kind: Kind,
+    choice: u8,
+    octets: &[u8],
+) -> Result<(Service, Option<usize>), Refusal>
+    ensures found { IfOk result (λ found. SpellsService false kind choice (value_of found.0) octets.now) }
+    ensures mark { IfOk result (λ found. HasMark (SpellsService false kind choice (value_of found.0)) octets.now found.1) }
+    ensures refused { IfErr result (λ refusal. refusal.why ≢ Why.OutOfMemory → IsWholeRefusal (SpellsService false kind choice) octets.now refusal) }
+    ensures memory { IfErr result (λ refusal. refusal.why ≡ Why.OutOfMemory → (refusal.place ≡ 0) × (is_small kind choice ≡ false)) }
+{
+    decode_kind(alloc, kind, choice, octets)
+}
+
+/// Decodes the service that all the octets spell, of this kind and with this service choice.
+///
+/// # Errors
+/// As [`decode_service_marked`].
+pub fn decode_service(
+    alloc: Global,
+    kind: Kind,
+    choice: u8,
+    octets: &[u8],
+) -> Result<Service, Refusal>
+    ensures found { IfOk result (λ service. SpellsService false kind choice (value_of service) octets.now) }
+    ensures refused { IfErr result (λ refusal. refusal.why ≢ Why.OutOfMemory → IsWholeRefusal (SpellsService false kind choice) octets.now refusal) }
+    ensures memory { IfErr result (λ refusal. refusal.why ≡ Why.OutOfMemory → (refusal.place ≡ 0) × (is_small kind choice ≡ false)) }
+{
+    match decode_service_marked(alloc, kind, choice, octets) {
+        Ok((service, _)) => Ok(service),
+        Err(refusal) => Err(refusal),
+    }
+}

@@ -1,0 +1,48 @@
+//! Encoding a service.
+
+ghost use Rattle.std.specs.Prelude.{◌≡◌, false, IfOk, OnOk};
+ghost use Rattle.bac_tag.specs.Spelling.{IsLeast};
+ghost use Rattle.bac_service.specs.Productions.{AppendsLeast};
+ghost use Rattle.bac_service.specs.ServiceValues.{value_of, kind_of, choice_of};
+ghost use Rattle.bac_service.specs.Services.{SpellsFields, HasItsChoice, SpellsService};
+
+use crate::productions::Production;
+use crate::records::Record;
+use crate::service::Service;
+use bac_tag::OutOfMemory;
+use std::alloc::Global;
+
+/// Appends the least spelling of a service. Where memory is refused some octets may be there.
+fn append_service(service: &Service, out: &mut Vec<u8>) -> Result<(), OutOfMemory>
+    ensures has_choice { HasItsChoice false (value_of service.now) }
+    ensures ok { OnOk result (AppendsLeast (SpellsFields (value_of service.now)) out.old.items out.new.items) }
+{
+    match service {
+        Service::ReadProperty(request) => request.write_fields(out),
+        Service::ReadPropertyAck(ack) => ack.write_fields(out),
+        Service::WriteProperty(request) => request.write_fields(out),
+        Service::ReadPropertyMultiple(request) => request.specs.write(out),
+        Service::ReadPropertyMultipleAck(ack) => ack.results.write(out),
+        Service::WhoIs(request) => request.write_fields(out),
+        Service::IAm(request) => request.write_fields(out),
+        Service::SubscribeCov(request) => request.write_fields(out),
+        Service::CovNotification(notification) => notification.write_fields(out),
+        Service::ServiceError(error) => error.write_cause(out),
+        Service::Opaque(service) => {
+            out.extend_from_slice(service.octets())?;
+            Ok(())
+        }
+    }
+}
+
+/// The canonical octets of a service: its least spelling.
+///
+/// # Errors
+/// `OutOfMemory` where memory is refused.
+pub fn encode_service(alloc: Global, service: &Service) -> Result<Vec<u8>, OutOfMemory>
+    ensures { IfOk result (λ out. IsLeast (SpellsService false (kind_of (value_of service.now)) (choice_of (value_of service.now)) (value_of service.now)) out.items) }
+{
+    let mut out = Vec::new(alloc);
+    append_service(service, &mut out)?;
+    Ok(out)
+}

@@ -1,0 +1,91 @@
+//! Errors of typed services (Error, clause 21).
+
+ghost use Rattle.std.specs.Prelude.{◌≡◌, ◌↔◌, IsSome, IfSome, OnOk, true, false};
+ghost use Rattle.bac_service.specs.Productions.{AppendsLeast};
+ghost use Rattle.bac_service.specs.ErrorCause.{SpellsErrorCause};
+ghost use Rattle.bac_service.specs.Choices.{has_production};
+ghost use Rattle.bac_service.specs.declared.kind.Kind.TheVariants.{Error};
+
+use crate::error_cause::ErrorCause;
+use crate::kind::{Kind, has_production};
+use crate::records::Record;
+use bac_tag::OutOfMemory;
+use bac_value::Enumerated;
+use std::marker::Model;
+
+/// Why a request of one of the typed confirmed services failed.
+#[derive(Clone, Copy, Debug, PartialEq, Eq)]
+pub struct ServiceError {
+    choice: u8,
+    cause: ErrorCause,
+}
+
+impl Model for ServiceError {
+    ghost use Rattle.std.specs.Prelude.{◌≡◌, true, false};
+    ghost use Rattle.bac_service.specs.ErrorValues.{ErrorValue};
+    ghost use Rattle.bac_service.specs.Choices.{has_production};
+    ghost use Rattle.bac_service.specs.declared.kind.Kind.TheVariants.{Error};
+
+    ghost Value = { ErrorValue };
+
+    ghost view = { λ error. record { choice = error.choice; cause = error.cause } };
+
+    ghost invariant = { λ error. has_production false Error error.choice ≡ true };
+
+    ghost inverse = { λ value. record { choice = value.choice; cause = value.cause } };
+}
+
+impl ServiceError {
+    /// The error of the service with this choice, which is 1, 5, 12, 14 or 15, with a class and a code.
+    pub fn new(choice: u8, class: u32, code: u32) -> Option<ServiceError>
+        ensures some { IsSome result ↔ (has_production false Error choice ≡ true) }
+        ensures value { IfSome result (λ error. error ≡ record { choice = choice; cause = record { class = record { 0 = class }; code = record { 0 = code } } }) }
+    {
+        if !has_production(Kind::Error, choice) {
+            return None;
+        }
+        let cause = ErrorCause {
+            class: Enumerated(class),
+            code: Enumerated(code),
+        };
+        Some(ServiceError { choice, cause })
+    }
+
+    /// The error of the service with this choice, which is typed.
+    pub(crate) fn of(choice: u8, cause: ErrorCause) -> ServiceError
+        requires { has_production false Error choice ≡ true }
+        ensures { result ≡ record { choice = choice; cause = cause } }
+    {
+        ServiceError { choice, cause }
+    }
+
+    /// The choice of the service that failed.
+    pub fn choice(&self) -> u8
+        ensures choice { result ≡ self.now.choice }
+        ensures typed { has_production false Error result ≡ true }
+    {
+        self.choice
+    }
+
+    /// The class of the error (clause 18).
+    pub fn class(&self) -> u32
+        ensures { result ≡ self.now.cause.class.0 }
+    {
+        self.cause.class.0
+    }
+
+    /// The code of the error (clause 18).
+    pub fn code(&self) -> u32
+        ensures { result ≡ self.now.cause.code.0 }
+    {
+        self.cause.code.0
+    }
+
+    /// Appends the least spelling of its class and its code. Where memory is refused some octets may be there.
+    pub(crate) fn write_cause(&self, out: &mut Vec<u8>) -> Result<(), OutOfMemory>
+        ensures typed { has_production false Error self.now.choice ≡ true }
+        ensures ok { OnOk result (AppendsLeast (SpellsErrorCause self.now.cause) out.old.items out.new.items) }
+    {
+        self.cause.write_fields(out)
+    }
+}

@@ -1,0 +1,65 @@
+//! SubscribeCOV (clauses 13.14 and 21).
+
+ghost use Rattle.std.specs.Prelude.{◌≡◌};
+ghost use Rattle.bac_service.specs.SubscribeCov.{SpellsSubscribeCov, subscribe_cov_parts};
+
+use crate::fields::Field;
+use crate::optionals::{bare, bit_of, boolean_of, under};
+use crate::productions::Production;
+use crate::records::Record;
+use crate::unsigned32::Unsigned32;
+use bac_tag::OutOfMemory;
+use bac_value::{Boolean, ObjectId};
+
+/// A request to be told of changes of an object's values or, with neither `confirmed` nor `lifetime`, to be
+/// told no more.
+#[derive(Clone, Copy, Debug, PartialEq, Eq)]
+pub struct SubscribeCov {
+    /// The number of the subscriber's process.
+    pub process: Unsigned32,
+    pub object: ObjectId,
+    /// Whether the notifications are to be confirmed.
+    pub confirmed: Option<bool>,
+    /// For how many seconds; 0: without end.
+    pub lifetime: Option<Unsigned32>,
+}
+
+/// Its fields.
+type Parts = (
+    Field<Unsigned32, 0>,
+    (
+        Field<ObjectId, 1>,
+        (Option<Field<Boolean, 2>>, Option<Field<Unsigned32, 3>>),
+    ),
+);
+
+impl Record for SubscribeCov {
+    ghost use Rattle.bac_service.specs.declared.subscribe_cov.SubscribeCov.{SubscribeCov};
+
+    type Parts = Parts;
+
+    ghost Value = { SubscribeCov };
+
+    ghost view = { λ request. request };
+
+    ghost spells = { SpellsSubscribeCov };
+
+    fn from_parts(parts: Parts) -> SubscribeCov {
+        let (process, (object, (confirmed, lifetime))) = parts;
+        SubscribeCov {
+            process: process.0,
+            object: object.0,
+            confirmed: bit_of(bare(confirmed)),
+            lifetime: bare(lifetime),
+        }
+    }
+
+    fn write_fields(&self, out: &mut Vec<u8>) -> Result<(), OutOfMemory> {
+        Field::<Unsigned32, 0>(self.process).write(out)?;
+        Field::<ObjectId, 1>(self.object).write(out)?;
+        under::<Boolean, 2>(boolean_of(self.confirmed)).write(out)?;
+        under::<Unsigned32, 3>(self.lifetime).write(out)
+    }
+
+    ghost of_parts = { subscribe_cov_parts };
+}

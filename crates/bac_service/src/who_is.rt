@@ -1,0 +1,50 @@
+//! Who-Is (clauses 16.10 and 21).
+
+ghost use Rattle.std.specs.Prelude.{◌≡◌};
+ghost use Rattle.bac_service.specs.WhoIs.{SpellsWhoIs, who_is_parts};
+
+use crate::fields::Field;
+use crate::productions::Production;
+use crate::records::Record;
+use bac_tag::OutOfMemory;
+use bac_value::Instance;
+
+/// A question for devices: for those whose instances lie within limits, or for all of them.
+#[derive(Clone, Copy, Debug, PartialEq, Eq)]
+pub struct WhoIs {
+    /// The lowest instance that is asked for, and the highest.
+    pub limits: Option<(Instance, Instance)>,
+}
+
+/// Its fields.
+type Parts = Option<(Field<Instance, 0>, Field<Instance, 1>)>;
+
+impl Record for WhoIs {
+    ghost use Rattle.bac_service.specs.declared.who_is.WhoIs.{WhoIs};
+
+    type Parts = Parts;
+
+    ghost Value = { WhoIs };
+
+    ghost view = { λ request. request };
+
+    ghost spells = { SpellsWhoIs };
+
+    fn from_parts(parts: Parts) -> WhoIs {
+        WhoIs {
+            limits: parts.map(|(low, high)| (low.0, high.0)),
+        }
+    }
+
+    fn write_fields(&self, out: &mut Vec<u8>) -> Result<(), OutOfMemory> {
+        match self.limits {
+            Some((low, high)) => {
+                Field::<Instance, 0>(low).write(out)?;
+                Field::<Instance, 1>(high).write(out)
+            }
+            None => Ok(()),
+        }
+    }
+
+    ghost of_parts = { who_is_parts };
+}

@@ -1,0 +1,70 @@
+//! WriteProperty (clauses 15.9 and 21).
+
+ghost use Rattle.bac_service.specs.WriteProperty.{SpellsWriteProperty, write_property_parts};
+
+use crate::fields::Field;
+use crate::open_values::OpenValue;
+use crate::optionals::{bare, under};
+use crate::productions::Production;
+use crate::records::Record;
+use crate::unsigned32::Unsigned32;
+use bac_data::{Any, write_any};
+use bac_tag::OutOfMemory;
+use bac_value::{Enumerated, ObjectId, Priority};
+
+/// A request to write a property of an object, or one element of it.
+#[derive(Debug, Drop)]
+pub struct WriteProperty {
+    pub object: ObjectId,
+    pub property: Enumerated,
+    /// The index of the element, where the property is an array.
+    pub index: Option<Unsigned32>,
+    pub value: Any,
+    /// The priority, where the property is commanded.
+    pub priority: Option<Priority>,
+}
+
+/// Its fields.
+type Parts = (
+    Field<ObjectId, 0>,
+    (
+        Field<Enumerated, 1>,
+        (
+            Option<Field<Unsigned32, 2>>,
+            (OpenValue<3>, Option<Field<Priority, 4>>),
+        ),
+    ),
+);
+
+impl Record for WriteProperty {
+    ghost use Rattle.bac_service.specs.declared.write_property.WriteProperty.{WriteProperty};
+
+    type Parts = Parts;
+
+    ghost Value = { WriteProperty };
+
+    ghost view = { λ request. request };
+
+    ghost spells = { SpellsWriteProperty };
+
+    fn from_parts(parts: Parts) -> WriteProperty {
+        let (object, (property, (index, (value, priority)))) = parts;
+        WriteProperty {
+            object: object.0,
+            property: property.0,
+            index: bare(index),
+            value: value.0,
+            priority: bare(priority),
+        }
+    }
+
+    fn write_fields(&self, out: &mut Vec<u8>) -> Result<(), OutOfMemory> {
+        Field::<ObjectId, 0>(self.object).write(out)?;
+        Field::<Enumerated, 1>(self.property).write(out)?;
+        under::<Unsigned32, 2>(self.index).write(out)?;
+        write_any(&self.value, 3, out)?;
+        under::<Priority, 4>(self.priority).write(out)
+    }
+
+    ghost of_parts = { write_property_parts };
+}
