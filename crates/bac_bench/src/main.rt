@@ -1,5 +1,5 @@
 //! The program `bac_bench`: how long reading, marking and writing values takes, beside a plain copy of the same
-//! octets in the same run.
+//! octets in the same run, and how many services are decoded, marked and encoded in a second.
 //!
 //! Without a word it does each piece of work once and prints what is the same in every run; with the word
 //! `time` it measures, and prints a table.
@@ -11,13 +11,16 @@ mod cases;
 mod faults;
 mod modes;
 mod rounds;
+mod services;
 mod tables;
 
 use bac_data::Any;
+use bac_service::Kind;
 use bac_value::{Bits, Octets, Text};
 use cases::Contents;
 use faults::BenchFault;
 use modes::Mode;
+use services::Message;
 use std::alloc::{AllocError, Global};
 use std::process::ExitCode;
 use std::rt::{Clock, Env};
@@ -50,7 +53,60 @@ fn run(rt: &(impl Print + AllocGlobal + Env + Clock)) -> Result<(), BenchFault> 
         let short = short_primitives(rt.alloc(), repetitions)?;
         tables::add::<Any>(rt, mode, "open, short values", &short)?;
     }
-    Ok(())
+    run_services(rt, mode)
+}
+
+/// Three services: one that wants no memory, and two with lists.
+fn run_services(rt: &(impl Print + AllocGlobal + Clock), mode: Mode) -> Result<(), BenchFault> {
+    services::begin(rt, mode)?;
+    let read_property = Message {
+        name: "ReadProperty",
+        kind: Kind::Confirmed,
+        choice: 12,
+        octets: &[0x0C, 0, 0, 0, 5, 0x19, 0x55],
+    };
+    services::add(rt, mode, &read_property)?;
+    let results = twenty_results(rt.alloc())?;
+    let read_property_multiple_ack = Message {
+        name: "ReadPropertyMultiple-ACK",
+        kind: Kind::ComplexAck,
+        choice: 14,
+        octets: &results,
+    };
+    services::add(rt, mode, &read_property_multiple_ack)?;
+    let values = four_values(rt.alloc())?;
+    let notification = Message {
+        name: "COVNotification",
+        kind: Kind::Unconfirmed,
+        choice: 2,
+        octets: &values,
+    };
+    services::add(rt, mode, &notification)
+}
+
+/// A ReadPropertyMultiple-ACK of one object with twenty results, a Real each.
+fn twenty_results(alloc: Global) -> Result<Vec<u8>, AllocError> {
+    let mut octets = Vec::from_slice(alloc, &[0x0C, 0, 0, 0, 5, 0x1E])?;
+    for _ in 0..20 {
+        octets.extend_from_slice(&[0x29, 0x55, 0x4E, 0x44, 0x42, 0xC8, 0, 0, 0x4F])?;
+    }
+    octets.push(0x1F)?;
+    Ok(octets)
+}
+
+/// A COV notification of one object with four values, a Real each.
+fn four_values(alloc: Global) -> Result<Vec<u8>, AllocError> {
+    let mut octets = Vec::from_slice(
+        alloc,
+        &[
+            0x09, 0x12, 0x1C, 2, 0, 4, 0xD2, 0x2C, 0, 0, 0, 10, 0x39, 0, 0x4E,
+        ],
+    )?;
+    for _ in 0..4 {
+        octets.extend_from_slice(&[0x09, 0x55, 0x2E, 0x44, 0x42, 0xC8, 0, 0, 0x2F])?;
+    }
+    octets.push(0x4F)?;
+    Ok(octets)
 }
 
 /// Octets that are contents of a value of each type: the 0 in front is a character set, and no unused bits.

@@ -71,7 +71,7 @@ fn round<C: Case>(
 
 /// Looks at what was made, so that no compiler leaves the work out, and lets its memory go, so that the next
 /// work finds what this one found.
-fn expect_same(made: Vec<u8>, octets: &[u8]) -> Result<(), BenchFault>
+pub fn expect_same(made: Vec<u8>, octets: &[u8]) -> Result<(), BenchFault>
     ensures { IsOk result ↔ (made.items ≡ octets.now) }
 {
     if made.as_slice() == octets {
@@ -82,7 +82,7 @@ fn expect_same(made: Vec<u8>, octets: &[u8]) -> Result<(), BenchFault>
 }
 
 /// The octets of a case are canonical, so none differs.
-fn expect_canonical(mark: Option<usize>) -> Result<(), BenchFault>
+pub fn expect_canonical(mark: Option<usize>) -> Result<(), BenchFault>
     ensures { IsOk result ↔ (mark ≡ None) }
 {
     match mark {
@@ -100,7 +100,7 @@ fn written<C: Case>(alloc: Global, value: &C) -> Result<Vec<u8>, BenchFault> {
 
 /// Does the work so often, and at least once: what it made the last time, and the shortest time that it took.
 /// A mean would count the pages that the system hands over at first, which are not the work's.
-fn timed<T: Drop, W: Fn() -> Result<T, BenchFault>>(
+pub fn timed<T: Drop, W: Fn() -> Result<T, BenchFault>>(
     clock: &impl Clock,
     repetitions: u32,
     work: W,

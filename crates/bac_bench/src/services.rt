@@ -1,0 +1,103 @@
+//! How many services are decoded and encoded in a second.
+
+use crate::faults::BenchFault;
+use crate::modes::Mode;
+use crate::rounds::{expect_canonical, expect_same, timed};
+use bac_service::{Kind, Service, decode_service, decode_service_marked, encode_service};
+use std::alloc::Global;
+use std::io;
+use std::num::nearest_usize_to_f64;
+use std::rt::Clock;
+use std::time::Duration;
+
+/// A piece of work does so many messages, since one takes too short a time to be told.
+const BATCH: usize = 1_000;
+
+/// A service as it arrives.
+#[derive(Drop)]
+pub struct Message<'a> {
+    pub name: &'a str,
+    pub kind: Kind,
+    pub choice: u8,
+    /// Its canonical octets.
+    pub octets: &'a [u8],
+}
+
+/// Decodes each message of a batch, and gives the last.
+fn decoded(alloc: Global, message: &Message<'_>, batch: &[u8]) -> Result<Service, BenchFault> {
+    let mut last = decode_service(alloc, message.kind, message.choice, message.octets)?;
+    for octets in batch.chunks_exact(message.octets.len().max(1)) {
+        last = decode_service(alloc, message.kind, message.choice, octets)?;
+    }
+    Ok(last)
+}
+
+/// The same, and the first octet that is not canonical in a message with such an octet.
+fn marked(alloc: Global, message: &Message<'_>, batch: &[u8]) -> Result<Option<usize>, BenchFault> {
+    let mut found = None;
+    for octets in batch.chunks_exact(message.octets.len().max(1)) {
+        let (_, mark) = decode_service_marked(alloc, message.kind, message.choice, octets)?;
+        found = found.or(mark);
+    }
+    Ok(found)
+}
+
+/// Encodes a service so often, and gives the octets.
+fn encoded(alloc: Global, service: &Service) -> Result<Vec<u8>, BenchFault> {
+    let mut out = encode_service(alloc, service)?;
+    for _ in 1..BATCH {
+        out = encode_service(alloc, service)?;
+    }
+    Ok(out)
+}
+
+/// The octets of a batch of messages.
+fn batch_of(alloc: Global, octets: &[u8]) -> Result<Vec<u8>, BenchFault> {
+    let mut batch = Vec::new(alloc);
+    for _ in 0..BATCH {
+        batch.extend_from_slice(octets)?;
+    }
+    Ok(batch)
+}
+
+/// Prints the head of the table, where there is one.
+pub fn begin(rt: &impl Print, mode: Mode) -> io::Result<()> {
+    if mode == Mode::Once {
+        return Ok(());
+    }
+    let repetitions = mode.repetitions();
+    println!(rt; "services; the best of {repetitions} repetitions of {BATCH} messages each")?;
+    println!(rt;
+        "{:<26} {:>8} {:>12} {:>12} {:>12}",
+        "service", "octets", "decode/s", "mark/s", "encode/s"
+    )
+}
+
+/// Does the work of a message, and prints its line.
+pub fn add(
+    rt: &(impl Print + AllocGlobal + Clock),
+    mode: Mode,
+    message: &Message<'_>,
+) -> Result<(), BenchFault> {
+    let (alloc, repetitions) = (rt.alloc(), mode.repetitions());
+    let batch = batch_of(alloc, message.octets)?;
+    let (service, decoding) = timed(rt, repetitions, || decoded(alloc, message, &batch))?;
+    let (found, marking) = timed(rt, repetitions, || marked(alloc, message, &batch))?;
+    expect_canonical(found)?;
+    let (octets, encoding) = timed(rt, repetitions, || encoded(alloc, &service))?;
+    expect_same(octets, message.octets)?;
+    let (name, size) = (message.name, message.octets.len());
+    match mode {
+        Mode::Once => println!(rt; "{name}: {size} octets decoded, marked and encoded")?,
+        Mode::Time => {
+            let (decode, mark, encode) = (speed(decoding), speed(marking), speed(encoding));
+            println!(rt; "{name:<26} {size:>8} {decode:>12.0} {mark:>12.0} {encode:>12.0}")?;
+        }
+    }
+    Ok(())
+}
+
+/// Messages a second.
+fn speed(took: Duration) -> f64 {
+    nearest_usize_to_f64(BATCH) / took.as_secs_f64()
+}
