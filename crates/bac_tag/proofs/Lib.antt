@@ -4,3 +4,4 @@ pub mod FrontLemmas
 pub mod ReadingLemmas
 pub mod WritingLemmas
 pub mod MarksLemmas
+pub mod HeadLenLemmas

@@ -1,5 +1,5 @@
 -- Reasons and refusals.
-use Rattle.std.specs.Prelude.{ℕ, List, codes, nat_lt, nat_eq, ◌||◌, ◌&&◌, if◌then◌else◌}
+use Rattle.std.specs.Prelude.{ℕ, ◌+◌, List, codes, nat_lt, nat_eq, ◌||◌, ◌&&◌, if◌then◌else◌}
 use Rattle.bac_tag.specs.declared.refusals.Refusal.{Refusal}
 use Rattle.bac_tag.specs.declared.refusals.Why.{Why}
 use Rattle.bac_tag.specs.declared.refusals.Why.TheVariants.{Short, Trailing, Version, Address, PduType, Window, Tag, Length, Content, Depth, NotCanonical, OutOfMemory}
@@ -27,6 +27,10 @@ weight_of _ = 0
 -- of two refusals the one that came farther, or at one place the more telling one
 abbrev pub farther_of : Refusal → Refusal → Refusal
 farther_of r s = if nat_lt r.place s.place || (nat_eq r.place s.place && nat_lt (weight_of r.why) (weight_of s.why)) then s else r
+
+-- a refusal where so many octets stand in front
+abbrev pub behind : ℕ → Refusal → Refusal
+behind count r = record { place = count + r.place; why = r.why }
 
 -- the reasons for which a head is refused
 abbrev pub IsHeadReason : Why → Type 0

@@ -209,6 +209,17 @@ refused_either First Second input r s f g =
 pub IsLeast-one : (Among : List ℕ → Type 0) (b c : List ℕ) → IsLeast Among b → IsLeast Among c → b ≡ c
 IsLeast-one Among b c p q = NoGreater-antisym b c (p.least c q.member) (q.least b p.member)
 
+-- where no list spells two values, least spellings tell them
+pub IsLeast-tells : {X : Type 0} (Spells : X → List ℕ → Type 0) → ((x y : X) (b : List ℕ) → Spells x b → Spells y b → x ≡ y) → (x y : X) (b c : List ℕ) → IsLeast (Spells x) b → IsLeast (Spells y) c → (x ≡ y) ↔ (b ≡ c)
+IsLeast-tells {X} Spells one x y b c p q = (
+  λ e. IsLeast-one (Spells y) b c (subst (λ (z : X). IsLeast (Spells z) b) e p) q,
+  λ e. one x y c (subst (Spells x) e p.member) q.member,
+)
+
+-- where a spelling ends itself, no list spells two values
+pub ends_one : {X : Type 0} (Spells : X → List ℕ → Type 0) → EndsItself Spells → (x y : X) (b : List ℕ) → Spells x b → Spells y b → x ≡ y
+ends_one Spells ends x y b p q = (ends x y b b [] [] p q refl).1
+
 -- the least spellings of two parts joined, where the second does not go by the first
 pub IsLeast-joined : {X Y : Type 0} (First : X → List ℕ → Type 0) (Second : X → Y → List ℕ → Type 0) (x : X) (y : Y) (a b : List ℕ)
     → IsLeast (First x) a → IsLeast (Second x y) b → IsLeast (Joined First Second (x, y)) (a ++ b)

@@ -15,11 +15,11 @@ mod writing;
 
 pub use expecting::Expected;
 pub use heads::TagHead;
-pub use marks::{first_difference, joined_marks, mark_head};
-pub use numbers::{first_hopeless, number_of};
+pub use marks::{first_difference, joined_marks, mark_head, mark_read_head};
+pub use numbers::{first_hopeless, number_of, number_within};
 pub use reading::{read_expected, read_head, read_one_of};
 pub use refusals::{OutOfMemory, Refusal, Why};
-pub use writing::write_head;
+pub use writing::{head_len, write_head};
 
 #[cfg(test)]
 mod tests;

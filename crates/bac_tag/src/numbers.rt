@@ -1,6 +1,6 @@
 //! Numbers in octets, the most significant octet first.
 
-ghost use Rattle.std.specs.Prelude.{◌≡◌, ℕ, ◌+◌, ◌*◌, ◌^◌, ◌<◌, ◌≤◌, ◌↔◌, ◌⊎◌, length, IsTrue, IfSome, IfNone};
+ghost use Rattle.std.specs.Prelude.{◌≡◌, ℕ, ◌+◌, ◌*◌, ◌^◌, ◌<◌, ◌≤◌, ◌↔◌, ◌⊎◌, length, IsTrue, IfSome, IfNone, IfOk, IfErr, OnOk};
 ghost use Rattle.bac_tag.specs.Number.{number, BeginsNumber, MissesAt};
 
 /// The number that at most eight octets spell.
@@ -26,6 +26,30 @@ fn misses(number: u64, unread: u32, low: u64, high: u64) -> bool
     lowest > high || lowest + (worth - 1) < low
 }
 
+/// The number that the octets in front spell, where they can become `width` octets of a number between `low` and
+/// `high`.
+///
+/// # Errors
+/// The first place at which they no longer can.
+pub fn number_within(front: &[u8], width: usize, low: u64, high: u64) -> Result<u64, usize>
+    requires sized { length front.now ≤ width }
+    requires within { width ≤ 8 }
+    requires range { low ≤ high }
+    requires room { low < 256 ^ width }
+    ensures number { IfOk result (λ n. n ≡ number front.now) }
+    ensures ok { OnOk result (BeginsNumber low high front.now width) }
+    ensures err { IfErr result (MissesAt low high front.now width) }
+{
+    let mut number = 0;
+    for place in 0..front.len() {
+        number = number * 256 + u64::from(front[place]);
+        if misses(number, (width - place - 1) as u32, low, high) {
+            return Err(place);
+        }
+    }
+    Ok(number)
+}
+
 /// The first place at which the octets in front can no longer become `width` octets of a number between `low`
 /// and `high`, and none where they still can.
 pub fn first_hopeless(front: &[u8], width: usize, low: u64, high: u64) -> Option<usize>
@@ -36,11 +60,5 @@ pub fn first_hopeless(front: &[u8], width: usize, low: u64, high: u64) -> Option
     ensures none { IfNone result (BeginsNumber low high front.now width) }
     ensures some { IfSome result (MissesAt low high front.now width) }
 {
-    for place in 0..front.len() {
-        let taken = &front[..place + 1];
-        if misses(number_of(taken), (width - taken.len()) as u32, low, high) {
-            return Some(place);
-        }
-    }
-    None
+    number_within(front, width, low, high).err()
 }

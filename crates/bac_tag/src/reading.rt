@@ -9,7 +9,7 @@ ghost use Rattle.bac_tag.specs.Number.{NumberIn};
 ghost use Rattle.bac_tag.specs.Expected.{IsSound, FitsOne, ExpectedHeads, HeadsOfOne};
 ghost use Rattle.bac_tag.specs.Reading.{HasLvt, IsWide, Uses, LengthWithin, IsFront};
 
-use crate::{Expected, Refusal, TagHead, Why, first_hopeless, number_of};
+use crate::{Expected, Refusal, TagHead, Why, number_within};
 
 /// What stands before the length: the class, the number and the LVT.
 #[derive(Clone, Copy)]
@@ -106,19 +106,17 @@ fn read_number(octets: &[u8], width: usize, low: u64, high: u64) -> Result<u64, 
     ensures reasons { IfErr result (λ refusal. IsHeadReason refusal.why) }
 {
     let front = &octets[..octets.len().min(width)];
-    if let Some(place) = first_hopeless(front, width, low, high) {
-        return Err(Refusal {
-            place,
-            why: Why::Length,
-        });
-    }
-    if front.len() < width {
-        return Err(Refusal {
+    match number_within(front, width, low, high) {
+        Ok(number) if front.len() == width => Ok(number),
+        Ok(_) => Err(Refusal {
             place: front.len(),
             why: Why::Short,
-        });
+        }),
+        Err(place) => Err(Refusal {
+            place,
+            why: Why::Length,
+        }),
     }
-    Ok(number_of(front))
 }
 
 /// The length octet that says that two octets of a length follow.
@@ -149,10 +147,7 @@ fn read_wide_length(
     }
     match read_number(&octets[1..], width, u64::from(least), u64::from(most)) {
         Ok(len) => Ok((len as u32, 1 + width)),
-        Err(refusal) => Err(Refusal {
-            place: 1 + refusal.place,
-            why: refusal.why,
-        }),
+        Err(refusal) => Err(refusal.behind(1)),
     }
 }
 
@@ -221,10 +216,7 @@ pub fn read_expected(octets: &[u8], expected: Expected) -> Result<(TagHead, usiz
     match read_length(&octets[taken..], lvt, least, most) {
         Ok((len, more)) if context => Ok((TagHead::Ctx { number, len }, taken + more)),
         Ok((len, more)) => Ok((TagHead::App { number, len }, taken + more)),
-        Err(refusal) => Err(Refusal {
-            place: taken + refusal.place,
-            why: refusal.why,
-        }),
+        Err(refusal) => Err(refusal.behind(taken)),
     }
 }
 

@@ -1,7 +1,7 @@
 //! Why and where an input is refused.
 
-ghost use Rattle.std.specs.Prelude.{◌≡◌};
-ghost use Rattle.bac_tag.specs.Refusals.{name_of, weight_of, farther_of};
+ghost use Rattle.std.specs.Prelude.{◌≡◌, ◌+◌, ◌^◌, ◌<◌};
+ghost use Rattle.bac_tag.specs.Refusals.{name_of, weight_of, farther_of, behind};
 
 use std::alloc::{AllocError, AllocFailed};
 
@@ -90,6 +90,17 @@ impl Refusal {
             other
         } else {
             self
+        }
+    }
+
+    /// The same refusal where so many octets stand in front of those that it speaks of.
+    pub fn behind(self, count: usize) -> Refusal
+        requires { count + self.place < 2 ^ 64 }
+        ensures { result ≡ behind count self }
+    {
+        Refusal {
+            place: count + self.place,
+            why: self.why,
         }
     }
 }

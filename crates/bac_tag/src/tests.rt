@@ -149,6 +149,53 @@ fn writes_and_marks_heads(rt: HostRuntime) {
 }
 
 #[test]
+fn counts_octets_of_heads(rt: HostRuntime) {
+    let table = [
+        (context(14, 4), 1),
+        (context(14, 5), 2),
+        (context(14, 253), 2),
+        (context(14, 254), 4),
+        (context(14, 65535), 4),
+        (context(14, 65536), 6),
+        (context(15, 4), 2),
+        (context(15, 5), 3),
+        (context(15, 253), 3),
+        (context(15, 254), 5),
+        (context(15, 65535), 5),
+        (context(15, 65536), 7),
+        (TagHead::App { number: 12, len: 4 }, 1),
+        (TagHead::AppBool(true), 1),
+        (TagHead::Open(14), 1),
+        (TagHead::Open(15), 2),
+        (TagHead::Close(14), 1),
+        (TagHead::Close(15), 2),
+    ];
+    for (head, wanted) in table {
+        assert!(rt; head.is_valid());
+        assert_eq!(rt; head_len(head), wanted, "{head:?}");
+    }
+}
+
+#[test]
+fn marks_heads_that_were_read(rt: HostRuntime) {
+    let table = [
+        ([0x0C].as_slice(), context(0, 4), None),
+        (&[0x1A], context(1, 1), Some(0)),
+        (&[0x0C], context(0, 3), Some(0)),
+        (&[0x0D, 0x05], context(0, 5), None),
+        (&[0x0D, 0xFE, 0x00, 0x05], context(0, 5), Some(1)),
+        (&[0xFC, 0x00], context(0, 4), Some(0)),
+    ];
+    for (octets, head, wanted) in table {
+        assert!(rt; head.is_valid());
+        let (read, taken) = read_head(octets).expect(&rt, "a head");
+        assert_eq!(rt; taken, octets.len());
+        assert_eq!(rt; mark_read_head(octets, read, head), wanted, "{octets:?}");
+        assert_eq!(rt; mark_head(octets, head), wanted, "{octets:?}");
+    }
+}
+
+#[test]
 fn marks_heads(rt: HostRuntime) {
     assert_eq!(rt; first_difference(&[1, 2], &[1, 3]), Some(1));
     assert_eq!(rt; first_difference(&[1, 2], &[1]), Some(1));
@@ -158,6 +205,8 @@ fn marks_heads(rt: HostRuntime) {
         first_hopeless(&[1, 0, 0, 0, 0], 5, 0, 0xFFFF_FFFF),
         Some(0)
     );
+    assert_eq!(rt; number_within(&[1, 0], 2, 0, 300), Ok(256));
+    assert_eq!(rt; number_within(&[1, 45], 2, 0, 300), Err(1));
 }
 
 #[test]
@@ -174,6 +223,8 @@ fn names_reasons(rt: HostRuntime) {
         why: Why::Length,
     };
     assert_eq!(rt; near.farther(far), far);
+    assert_eq!(rt; near.behind(2).place, 3);
+    assert_eq!(rt; near.behind(2).why, Why::Tag);
     assert_eq!(rt; OutOfMemory, OutOfMemory);
 }
 

@@ -1,9 +1,9 @@
 //! Writing a head.
 
-ghost use Rattle.std.specs.Prelude.{◌≡◌, ◌+◌, ◌*◌, ◌^◌, ◌<◌};
+ghost use Rattle.std.specs.Prelude.{◌≡◌, ◌+◌, ◌*◌, ◌^◌, ◌<◌, List, ℕ, length};
 ghost use Rattle.bac_tag.specs.Spelling.{IsLeast};
-ghost use Rattle.bac_tag.specs.Heads.{IsValid, Heads, class_bit};
-ghost use Rattle.bac_tag.specs.Writing.{narrow_opening, narrow_head};
+ghost use Rattle.bac_tag.specs.Heads.{IsValid, Heads, class_bit, number_octets, length_octets};
+ghost use Rattle.bac_tag.specs.Writing.{number_form, length_form, narrow_opening, narrow_head};
 
 use crate::TagHead;
 use arrayvec::ArrayVec;
@@ -74,5 +74,43 @@ pub fn write_head(head: TagHead) -> ArrayVec<u8, 7>
         TagHead::Ctx { number, len } => with_length(true, number, len),
         TagHead::Open(number) => opening(true, number, 6),
         TagHead::Close(number) => opening(true, number, 7),
+    }
+}
+
+/// How many octets the initial octet and the number octet are (clause 20.2.1.2): 2 where the nibble has no room
+/// for the number.
+fn opening_len(number: u8) -> usize
+    ensures { result ≡ 1 + length (number_octets (number_form number) number) }
+{
+    match number {
+        0..=14 => 1,
+        _ => 2,
+    }
+}
+
+/// How many octets a length takes behind those, in its narrowest form (clause 20.2.1.3.1): none where it is the
+/// LVT, else 1, or 3 with `FE` in front, or 5 with `FF` in front.
+fn length_len(len: u32) -> usize
+    ensures { result ≡ length (length_octets (length_form len) len) }
+{
+    match len {
+        0..=4 => 0,
+        5..=253 => 1,
+        254..=0xFFFF => 3,
+        _ => 5,
+    }
+}
+
+/// How many octets the least list of octets that spells the head has, 1 to 7. None is written.
+pub fn head_len(head: TagHead) -> usize
+    requires { IsValid head }
+    ensures { (b : List ℕ) → IsLeast (Heads head) b → result ≡ length b }
+{
+    match head {
+        TagHead::App { number, len } | TagHead::Ctx { number, len } => {
+            opening_len(number) + length_len(len)
+        }
+        TagHead::AppBool(_) => 1,
+        TagHead::Open(number) | TagHead::Close(number) => opening_len(number),
     }
 }

@@ -24,5 +24,5 @@ returns-in-Ok-2-clause-found c =
 
 pub returns-in-Err-clause-refused : goal.returns-in-Err-clause-refused
 returns-in-Err-clause-refused c =
-    refused_length _ c.in_ok-context.field-0-0 c.in_ok-context.taken _ _ c.args.octets.now c.in-Err.refusal c.requires (length_left (goal.at.returns-in-Err-clause-refused c).After-read_length)
-    c.in_ok-context.ensures.found c.lengths-least.ensures.least c.lengths-least.ensures.most c.in-Err.ensures.refused
+    rw c.behind.ensures (refused_length _ c.in_ok-context.field-0-0 c.in_ok-context.taken _ _ c.args.octets.now c.in-Err.refusal c.requires (length_left (goal.at.returns-in-Err-clause-refused c).After-read_length)
+    c.in_ok-context.ensures.found c.lengths-least.ensures.least c.lengths-least.ensures.most c.in-Err.ensures.refused)

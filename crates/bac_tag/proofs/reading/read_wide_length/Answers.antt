@@ -8,7 +8,7 @@ returns-then-least-gt65535-clause-refused c =
 
 pub returns-in-Err-clause-refused : goal.returns-in-Err-clause-refused
 returns-in-Err-clause-refused c =
-    refused_wide c.args.width c.args.least c.args.most c.args.octets.now c.in-Err.refusal c.requires.some c.requires.wide (rw (c.from.ensures, c.from-2.ensures, take_rest) at c.in-Err.ensures.refused)
+    rw c.behind.ensures (refused_wide c.args.width c.args.least c.args.most c.args.octets.now c.in-Err.refusal c.requires.some c.requires.wide (rw (c.from.ensures, c.from-2.ensures, take_rest) at c.in-Err.ensures.refused))
 
 pub returns-in-Ok-clause-found : goal.returns-in-Ok-clause-found
 returns-in-Ok-clause-found c =
