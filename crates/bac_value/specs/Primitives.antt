@@ -8,6 +8,11 @@ pub record IsTheList {V : Type 0} (IsValue : V → Type 0) (list : V → List �
   pub value_holds : IsValue value
   pub is : octets ≡ list value
 
+-- contents that have so many octets
+pub record OfSize {V : Type 0} (contents : V → List ℕ → Type 0) (size : ℕ) (value : V) (octets : List ℕ) : Type 0 where
+  pub spelled : contents value octets
+  pub sized : length octets ≡ size
+
 -- the octets in front begin contents of that size
 pub record IsBegun {V : Type 0} (contents : V → List ℕ → Type 0) (front : List ℕ) (size : ℕ) : Type 0 where
   pub value : V

@@ -1,5 +1,5 @@
-//! Contents of any primitive type, without a value of their own: they are checked, written and marked where
-//! they lie.
+//! Contents of any primitive type (clauses 20.2.2 to 20.2.14), without a value of their own: they are written,
+//! counted and marked where they lie.
 
 ghost use Rattle.std.specs.Prelude.{◌≡◌, ◌≤◌, ◌++◌, length, OnOk, OnErr, IfNone, IfSome};
 ghost use Rattle.bac_tag.specs.Octets.{FirstDifference};
@@ -22,7 +22,8 @@ use crate::unsigned_integer::Unsigned;
 use crate::variants::{append_variant, mark_variant, written_len_variant};
 use bac_tag::OutOfMemory;
 
-/// Appends what is written of the value whose contents these are, of the type with that application number.
+/// Appends what is written of the value whose contents these are, of the type with that application number
+/// (clause 20.2.1.4), at most 12.
 /// Where memory is refused `out` stays as it was.
 pub fn append_written(number: u8, contents: &[u8], out: &mut Vec<u8>) -> Result<(), OutOfMemory>
     requires number { number ≤ 12 }
@@ -47,7 +48,8 @@ pub fn append_written(number: u8, contents: &[u8], out: &mut Vec<u8>) -> Result<
     }
 }
 
-/// How many octets are written of the value whose contents these are, of the type with that application number.
+/// How many octets are written of the value whose contents these are, of the type with that application number,
+/// at most 12.
 pub fn written_len_of(number: u8, contents: &[u8]) -> usize
     requires number { number ≤ 12 }
     requires contents { (prim : PrimitiveValue) × ContentsOf number prim contents.now }
@@ -71,7 +73,7 @@ pub fn written_len_of(number: u8, contents: &[u8]) -> usize
 }
 
 /// The first place at which contents differ from those that are written of their value, of the type with that
-/// application number, and none where they are those.
+/// application number, at most 12, and none where they are those.
 pub fn mark_contents(number: u8, contents: &[u8]) -> Option<usize>
     requires number { number ≤ 12 }
     requires contents { (prim : PrimitiveValue) × ContentsOf number prim contents.now }

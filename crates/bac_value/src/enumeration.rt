@@ -8,7 +8,7 @@ ghost use Rattle.bac_value.specs.EnumeratedLaws.{one_enumerated, enumerated_each
 
 use crate::primitives::Primitive;
 use crate::ranged_numbers::{
-    hopeless_number, mark_number, read_number, write_number, written_number_len,
+    first_other_than_zero, mark_number, read_number, write_number, written_number_len,
 };
 use bac_tag::{OutOfMemory, Refusal};
 use std::alloc::Global;
@@ -46,8 +46,10 @@ impl Primitive for Enumerated {
         Ok(Enumerated(read_number(octets, 0, MOST)? as u32))
     }
 
+    /// Octets in front of the last four have to be zeros; those four are not looked at.
     fn hopeless(front: &[u8], size: usize) -> Option<usize> {
-        hopeless_number(front, size, 0, MOST)
+        let wide = front.len().min(size.saturating_sub(4));
+        first_other_than_zero(&front[..wide])
     }
 
     fn written_len(&self) -> usize {

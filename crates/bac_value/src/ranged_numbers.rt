@@ -1,12 +1,12 @@
 //! Numbers within a range as contents: 1 to 8 octets, the most significant octet first (clauses 20.2.4 and
 //! 20.2.11).
 
-ghost use Rattle.std.specs.Prelude.{◌≡◌, ◌<◌, ◌≤◌, ◌+◌, ◌++◌, ℕ, length, slice_index, IfOk, IfErr, OnOk, OnErr, IfSome, IfNone};
+ghost use Rattle.std.specs.Prelude.{◌≡◌, ◌<◌, ◌≤◌, ◌+◌, ◌++◌, ℕ, length, slice_index, IfOk, IfErr, OnOk, OnErr, IfSome, IfNone, ◌^◌};
 ghost use Rattle.bac_tag.specs.Octets.{FirstDifference};
 ghost use Rattle.bac_tag.specs.Number.{number, BeginsNumber, MissesAt};
 ghost use Rattle.bac_value.specs.Numbers.{NumberContents, HasNumberLength, least_number, IsNumberReason};
 
-use bac_tag::{OutOfMemory, Refusal, Why, first_difference, first_hopeless, number_of};
+use bac_tag::{OutOfMemory, Refusal, Why, first_difference, first_hopeless, number_within};
 
 /// The number between `low` and `high` whose contents are these octets.
 ///
@@ -27,12 +27,12 @@ pub fn read_number(octets: &[u8], low: u64, high: u64) -> Result<u64, Refusal>
             why: Why::Length,
         });
     }
-    match first_hopeless(octets, octets.len(), low, high) {
-        Some(place) => Err(Refusal {
+    match number_within(octets, octets.len(), low, high) {
+        Ok(number) => Ok(number),
+        Err(place) => Err(Refusal {
             place,
             why: Why::Content,
         }),
-        None => Ok(number_of(octets)),
     }
 }
 
@@ -49,6 +49,16 @@ pub fn hopeless_number(front: &[u8], size: usize, low: u64, high: u64) -> Option
     first_hopeless(front, size, low, high)
 }
 
+/// The first octet that is not 0.
+pub(crate) fn first_other_than_zero(octets: &[u8]) -> Option<usize>
+    ensures none { IfNone result ((k : ℕ) → k < length octets.now → slice_index octets.now k ≡ 0) }
+    ensures within { IfSome result (λ place. place < length octets.now) }
+    ensures zeros { IfSome result (λ place. (k : ℕ) → k < place → slice_index octets.now k ≡ 0) }
+    ensures other { IfSome result (λ place. 0 < slice_index octets.now place) }
+{
+    octets.iter().position(|octet| *octet != 0)
+}
+
 /// How many zeros stand in front of the last octet.
 fn zeros_in_front(octets: &[u8]) -> usize
     requires { 0 < length octets.now }
@@ -56,10 +66,7 @@ fn zeros_in_front(octets: &[u8]) -> usize
     ensures zeros { (k : ℕ) → k < result → slice_index octets.now k ≡ 0 }
     ensures other { result + 1 < length octets.now → 0 < slice_index octets.now result }
 {
-    octets
-        .iter()
-        .position(|octet| *octet != 0)
-        .unwrap_or(octets.len() - 1)
+    first_other_than_zero(octets).unwrap_or(octets.len() - 1)
 }
 
 /// The octets without the zeros in front, but for the last.
@@ -68,6 +75,15 @@ pub(crate) fn significant(octets: &[u8]) -> &[u8]
     ensures { result.now ≡ least_number (number octets.now) }
 {
     &octets[zeros_in_front(octets)..]
+}
+
+/// The same of a number below 2^32. Octets in front of the last four are zeros, and not looked at.
+pub(crate) fn significant_of_four(octets: &[u8]) -> &[u8]
+    requires sized { HasNumberLength (length octets.now) }
+    requires below { number octets.now < 2 ^ 32 }
+    ensures { result.now ≡ least_number (number octets.now) }
+{
+    significant(&octets[octets.len().saturating_sub(4)..])
 }
 
 /// How many octets are written of a number.

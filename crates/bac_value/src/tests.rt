@@ -98,3 +98,13 @@ fn refuses_other_lengths<T: Primitive>(
     }
     Ok(())
 }
+
+// The laws are functions that do nothing: their contracts are what they say.
+#[test]
+fn laws_can_be_called() {
+    laws::contents_have_one_value();
+    laws::only_values_have_contents();
+    laws::written_contents_are_least();
+    laws::contents_keep_the_limit();
+    laws::contents_tell_the_value();
+}

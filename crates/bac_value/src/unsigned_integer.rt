@@ -42,8 +42,8 @@ impl Primitive for Unsigned {
         Ok(Unsigned(read_number(octets, 0, u64::MAX)?))
     }
 
-    fn hopeless(front: &[u8], size: usize) -> Option<usize> {
-        hopeless_number(front, size, 0, u64::MAX)
+    fn hopeless(_front: &[u8], _size: usize) -> Option<usize> {
+        None
     }
 
     fn written_len(&self) -> usize {

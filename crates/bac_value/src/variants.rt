@@ -22,7 +22,7 @@ use crate::octet_string::Octets;
 use crate::prim::PrimitiveValue;
 use crate::prim_ref::PrimRef;
 use crate::primitives::Primitive;
-use crate::ranged_numbers::significant;
+use crate::ranged_numbers::{significant, significant_of_four};
 use crate::real::RealBits;
 use crate::signed_integer::{Signed, signed_of, significant_signed};
 use crate::time_value::Time;
@@ -422,16 +422,16 @@ impl Variant for Enumerated {
     }
 
     fn append_written(octets: &[u8], out: &mut Vec<u8>) -> Result<(), OutOfMemory> {
-        out.extend_from_slice(significant(octets))?;
+        out.extend_from_slice(significant_of_four(octets))?;
         Ok(())
     }
 
     fn written_len_of(octets: &[u8]) -> usize {
-        significant(octets).len()
+        significant_of_four(octets).len()
     }
 
     fn mark_contents(octets: &[u8]) -> Option<usize> {
-        first_difference(octets, significant(octets))
+        first_difference(octets, significant_of_four(octets))
     }
 
     ghost is_variant = { enumerated_variant };
