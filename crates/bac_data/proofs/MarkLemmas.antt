@@ -1,5 +1,5 @@
 -- Marks of what was read.
-use Rattle.std.proofs.Common.{◌≡◌, ◌≢◌, ℕ, ◌+◌, ◌<◌, ◌≤◌, Bool, List, [], ◌∷◌, ◌++◌, Option, None, Some, take, drop, length, refl, sym, ◌∙◌, ap, subst, arith, append-nil, length-take, length-drop, take-add}
+use Rattle.std.proofs.Common.{◌≡◌, ◌≢◌, ℕ, ◌+◌, ◌<◌, ◌≤◌, Bool, List, [], ◌∷◌, ◌++◌, Option, None, Some, take, drop, length, refl, sym, ◌∙◌, ap, subst, arith, Bor, append-nil, length-take, length-drop, take-add}
 use Rattle.std.specs.Prelude.{IfNone, IfSome}
 use Rattle.bac_tag.specs.declared.heads.TagHead.{TagHead}
 use Rattle.bac_tag.specs.declared.heads.TagHead.TheVariants.{App, AppBool, Ctx, Open, Close}
@@ -21,9 +21,8 @@ use Rattle.bac_data.specs.declared.items.Item.{Item}
 use Rattle.bac_data.specs.declared.items.Item.TheVariants as item
 use Rattle.bac_data.specs.OpenValue.{Elements, depth}
 use Rattle.bac_data.specs.Spells.{SpellsPrimitive, SpellsContext, SpellsOpen}
-use Rattle.bac_data.specs.Events.{Event, application, contextual, opening, closing, events, SpellsEvent}
-use Rattle.bac_data.specs.Under.{Under}
-use Rattle.bac_data.specs.Reading.{item_event, item_contents, IsItem, LiesInFront}
+use Rattle.bac_data.specs.Events.{Event, opening, closing, events, SpellsEvent}
+use Rattle.bac_data.specs.Reading.{item_event, item_contents, item_head, IsItem, LiesInFront}
 use Rattle.bac_data.specs.Marks.{HasMark}
 use Rattle.bac_data.proofs.EventLeastLemmas.{least_contents, least_boolean_of, least_context}
 use Rattle.bac_data.proofs.LeastLemmas.{least_more, least_one, least_open}
@@ -57,19 +56,6 @@ parts_marked h k a c b d None o r p q long mark none some e =
 app_len : (a b n m : ℕ) → App a n ≡ App b m → n ≡ m
 app_len a b n m e = cc
 
--- the head above contents of an application primitive
-head_above : (of : TagHead) (number : ℕ) (prim : PrimitiveValue) (contents head : List ℕ) → application_number prim ≡ number → number ≢ 1 → Heads of head → Under of (application prim) contents → Heads (App number (length contents)) head
-head_above (App n len) number prim contents head i other h (p, e, m, s, l) =
-    let same : prim ≡ p = let f : application prim ≡ application p = e in cc in
-    let numbered : n ≡ number = sym m ∙ ap application_number (sym same) ∙ i in
-    rw (← numbered, l) h
-head_above (AppBool bit) number prim contents head i other h (value, e, v, l) =
-    let same : prim ≡ Boolean value = let f : application prim ≡ application (Boolean value) = e in cc in
-    absurd (other (sym i ∙ ap application_number same))
-head_above (Ctx n len) number prim contents head i other h (e, o, l) = absurd (let f : application prim ≡ contextual n contents = e in cc)
-head_above (Open n) number prim contents head i other h (e, l) = absurd (let f : application prim ≡ opening n = e in cc)
-head_above (Close n) number prim contents head i other h (e, l) = absurd (let f : application prim ≡ closing n = e in cc)
-
 -- what is told of the contents of every value that they have
 module _ (number : ℕ) (prim : PrimitiveValue) (contents : List ℕ) (s : ContentsOf number prim contents) where
   told_none : (o : Option ℕ) → IfNone o ((p : PrimitiveValue) → ContentsOf number p contents → contents ≡ prim_written p) → IfNone o (contents ≡ prim_written prim)
@@ -102,15 +88,13 @@ module _ (number : ℕ) (prim : PrimitiveValue) (contents : List ℕ) (s : Conte
             (least_contents prim (prim_written prim) l.0 (λ e. other (sym s.0 ∙ e)) written_spelled refl own),
       )
 
-  pub mark_application : (of : TagHead) (head : List ℕ) (m o r : Option ℕ) → number ≤ 12 → number ≢ 1 → Heads of head → Under of (application (prim_of_contents number contents)) contents → HeadMark head (App number (length (prim_written prim))) m
+  pub mark_application : (head : List ℕ) (m o r : Option ℕ) → number ≤ 12 → number ≢ 1 → Heads (App number (length contents)) head → HeadMark head (App number (length (prim_written prim))) m
       → IfNone o ((p : PrimitiveValue) → ContentsOf number p contents → contents ≡ prim_written p) → IfSome o (λ place. (p : PrimitiveValue) → ContentsOf number p contents → FirstDifference contents (prim_written p) place)
       → r ≡ joined_mark m (length head) o → (b : List ℕ) → IsLeast (SpellsPrimitive (prim_of_contents number contents)) b → IsMark (head ++ contents) b r
-  mark_application of head m o r fits other h u mark none some e b p =
-      let is = prim_of_contents_is number prim contents s in
+  mark_application head m o r fits other h mark none some e b p =
       let l = least_by_contents fits other in
-      let above = head_above of number prim contents head s.0 other h (subst (λ (p : PrimitiveValue). Under of (application p) contents) is u) in
       by_least (SpellsPrimitive (prim_of_contents number contents)) (l.0 ++ prim_written prim) b (head ++ contents) r l.2
-      (parts_marked (App number (length contents)) (App number (length (prim_written prim))) head l.0 contents (prim_written prim) m o r above l.1.member (app_len number number (length contents) (length (prim_written prim))) (mark l.0 l.1)
+      (parts_marked (App number (length contents)) (App number (length (prim_written prim))) head l.0 contents (prim_written prim) m o r h l.1.member (app_len number number (length contents) (length (prim_written prim))) (mark l.0 l.1)
       (told_none o none) (told_some o some) e) p
 
 pub mark_boolean : (bit : Bool) (head : List ℕ) (m : Option ℕ) → HeadMark head (AppBool bit) m → (b : List ℕ) → IsLeast (SpellsPrimitive (Boolean (record { 0 = bit }))) b → IsMark (head ++ []) b m
@@ -136,6 +120,14 @@ mark_tag tag head m mark b p = mark_alone head b m (mark b p)
 -- the mark of an item is known
 abbrev pub ItemMark : List ℕ → Item → Option ℕ → Type 0
 ItemMark head i m = (b : List ℕ) → IsLeast (SpellsEvent (item_event i)) b → IsMark (head ++ item_contents i) b m
+
+-- an item with no contents that have a mark of their own
+pub mark_by_head : (i : Item) → IsItem i → ((number : ℕ) (contents : Bor (List ℕ)) → i ≡ item.Application number contents → ⊥) → (head : List ℕ) (m : Option ℕ) → HeadMark head (item_head i) m → ItemMark head i m
+mark_by_head (item.Boolean bit) is other head m mark = mark_boolean bit head m mark
+mark_by_head (item.Application number contents) is other head m mark = absurd (other number contents refl)
+mark_by_head (item.Context number octets) is other head m mark = mark_context number octets.now head m is.0 is.1 mark
+mark_by_head (item.Open number) is other head m mark = mark_tag (Open number) head m mark
+mark_by_head (item.Close number) is other head m mark = mark_tag (Close number) head m mark
 
 pub of_item : (i j : Item) (head : List ℕ) (m : Option ℕ) → i ≡ j → ItemMark head j m → ItemMark head i m
 of_item i j head m e h = subst (λ (i : Item). ItemMark head i m) (sym e) h

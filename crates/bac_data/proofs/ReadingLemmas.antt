@@ -3,21 +3,20 @@ use Rattle.std.proofs.Common.{◌≡◌, ℕ, ◌+◌, ◌<◌, ◌≤◌, List,
 use Rattle.std.proofs.lemmas.List.{take-take, take-append-le}
 use Rattle.bac_tag.specs.declared.refusals.Why.TheVariants.{Short, Content}
 use Rattle.bac_tag.specs.Spelling.{IsViable, IsRefusal}
-use Rattle.bac_value.specs.Primitives.{IsBegun, IsHopelessAt}
+use Rattle.bac_value.specs.Primitives.{IsBegun, IsHopelessAt, OfSize}
 use Rattle.bac_value.specs.PrimContents.{ContentsOf}
-use Rattle.bac_data.specs.Reading.{OfSize}
 
 -- ---- contents of so many octets
 
-begun_viable : (number size : ℕ) (front : List ℕ) → IsBegun (ContentsOf number) front size → IsViable (OfSize number size) front
+begun_viable : (number size : ℕ) (front : List ℕ) → IsBegun (ContentsOf number) front size → IsViable (OfSize (ContentsOf number) size) front
 begun_viable number size front h = record { value = h.value; rest = h.rest; spelled = record { spelled = h.spelled; sized = h.sized } }
 
-viable_begun : (number size : ℕ) (front : List ℕ) → IsViable (OfSize number size) front → IsBegun (ContentsOf number) front size
+viable_begun : (number size : ℕ) (front : List ℕ) → IsViable (OfSize (ContentsOf number) size) front → IsBegun (ContentsOf number) front size
 viable_begun number size front h = record { value = h.value; rest = h.rest; spelled = h.spelled.spelled; sized = h.spelled.sized }
 
 -- a front that is hopeless refuses the whole
 pub hopeless_refused : (number size n place : ℕ) (octets : List ℕ) → n ≤ size → n ≤ length octets → IsHopelessAt (ContentsOf number) (take n octets) size place
-    → IsRefusal (OfSize number size) octets (record { place = place; why = Content })
+    → IsRefusal (OfSize (ContentsOf number) size) octets (record { place = place; why = Content })
 hopeless_refused number size n place octets within room h =
     let inside : place < n = omega (arith, h.0, length-take n octets) in
     let before : take place (take n octets) ≡ take place octets = take-take place n octets (omega arith) in

@@ -1,5 +1,5 @@
 -- An event that may stand next is one of the heads that may stand there, and what stands under it.
-use Rattle.std.proofs.Common.{◌≡◌, ℕ, ◌+◌, ◌-◌, ◌<◌, ◌≤◌, Bool, true, false, List, [], ◌++◌, length, take, drop, replicate, refl, sym, ◌∙◌, ap, subst, ◌⊎◌, inl, inr, arith, length-append, length-take, length-drop, take-append-drop}
+use Rattle.std.proofs.Common.{◌≡◌, ℕ, ◌+◌, ◌<◌, ◌≤◌, Bool, true, false, List, [], ◌++◌, length, take, drop, replicate, refl, sym, ◌∙◌, ap, subst, ◌⊎◌, inl, inr, arith, length-append, length-take, length-drop, take-append-drop}
 use Rattle.std.proofs.lemmas.List.{length-replicate, take_all}
 use Rattle.bac_tag.specs.declared.refusals.Refusal.{Refusal}
 use Rattle.bac_tag.specs.declared.refusals.Why.{Why}
@@ -15,8 +15,10 @@ use Rattle.bac_tag.specs.HeadsLaws.{heads_end}
 use Rattle.bac_tag.specs.declared.expecting.Expected.{Expected}
 use Rattle.bac_tag.specs.Expected.{FitsOne, HeadsOfOne}
 use Rattle.bac_value.specs.declared.prim.PrimitiveValue.TheVariants.{Boolean}
+use Rattle.bac_value.specs.Primitives.{OfSize}
+use Rattle.bac_value.specs.PrimContents.{ContentsOf}
 use Rattle.bac_data.specs.Events.{Event, application, contextual, opening, closing, SpellsEvent}
-use Rattle.bac_data.specs.Reading.{MayStand, SpellsStanding, next_heads, OfSize}
+use Rattle.bac_data.specs.Reading.{MayStand, SpellsStanding, next_heads}
 use Rattle.bac_data.specs.Under.{Under, HasContents}
 use Rattle.bac_data.proofs.HeadLemmas.{headed, event_headed}
 use Rattle.bac_data.proofs.NextHeadLemmas.{application_head, context_head, opening_head, closing_head, application_fits, boolean_fits, context_fits, closing_fits, opening_fits}
@@ -95,9 +97,9 @@ module _ (room : Bool) (number : ℕ) where
 
 -- ---- contents under a head
 
-pub refused_contents : (m len : ℕ) (rest : List ℕ) (r : Refusal) → IsRefusal (OfSize m len) rest r → IsRefusal (Under (App m len)) rest r
+pub refused_contents : (m len : ℕ) (rest : List ℕ) (r : Refusal) → IsRefusal (OfSize (ContentsOf m) len) rest r → IsRefusal (Under (App m len)) rest r
 refused_contents m len rest r h =
-    refused_alike (OfSize m len) (Under (App m len)) rest r
+    refused_alike (OfSize (ContentsOf m) len) (Under (App m len)) rest r
     (λ prim b s. (application prim, (prim, refl, s.spelled.0, s.spelled.1, s.sized)))
     (λ e b u. (u.0, record { spelled = (u.2, u.3); sized = u.4 })) h
 
@@ -171,6 +173,3 @@ some_heads false number count heads e (inl (r, n)) = absurd (let i : false ≡ t
 -- a head has an octet
 pub head_some : (head : TagHead) (b : List ℕ) → Heads head b → 0 < length b
 head_some head b h = omega (arith, ap length h.octets, length-append h.front h.back, ap length h.opening.octets)
-
-pub rest_is : (input : List ℕ) (start : ℕ) → take (length input - start) (drop start input) ≡ drop start input
-rest_is input start = take_all (length input - start) (drop start input) (omega (arith, length-drop start input))

@@ -1,6 +1,7 @@
 -- What may stand next between the tags of an open value, as a reader meets it.
 use Rattle.std.specs.Prelude.{◌≡◌, ◌≢◌, ℕ, Bool, true, false, IsTrue, ◌≤◌, None, Some, List, [], ◌∷◌, ◌++◌, length, take}
 use Rattle.bac_tag.specs.declared.heads.TagHead.{TagHead}
+use Rattle.bac_tag.specs.declared.heads.TagHead.TheVariants.{App, AppBool, Ctx, Open, Close}
 use Rattle.bac_tag.specs.Heads.{Heads}
 use Rattle.bac_tag.specs.declared.expecting.Expected.{Expected}
 use Rattle.bac_tag.specs.declared.expecting.Expected.TheVariants as expected
@@ -12,7 +13,6 @@ use Rattle.bac_value.specs.PrimOfContents.{prim_of_contents}
 use Rattle.bac_data.specs.declared.items.Item.{Item}
 use Rattle.bac_data.specs.declared.items.Item.TheVariants as item
 use Rattle.bac_data.specs.Events.{Event, application, contextual, opening, closing, SpellsEvent}
-use Rattle.bac_data.specs.Under.{Under}
 
 -- the event may stand where a group can begin or not, and where the innermost group, or the value, has this number
 abbrev pub MayStand : Bool → ℕ → Event → Type 0
@@ -50,11 +50,6 @@ next_heads room number =
     ∷ expected.Close (Some number)
     ∷ group_heads room
 
--- contents that have so many octets
-pub record OfSize (number size : ℕ) (prim : PrimitiveValue) (b : List ℕ) : Type 0 where
-  pub spelled : ContentsOf number prim b
-  pub sized : length b ≡ size
-
 -- the event that an item is
 abbrev pub item_event : Item → Event
 item_event (item.Boolean bit) = application (Boolean (record { 0 = bit }))
@@ -71,6 +66,14 @@ item_contents (item.Context number octets) = octets.now
 item_contents (item.Open number) = []
 item_contents (item.Close number) = []
 
+-- the head above them
+abbrev pub item_head : Item → TagHead
+item_head (item.Boolean bit) = AppBool bit
+item_head (item.Application number contents) = App number (length contents.now)
+item_head (item.Context number octets) = Ctx number (length octets.now)
+item_head (item.Open number) = Open number
+item_head (item.Close number) = Close number
+
 -- its contents are those of a value, its number is one of its kind
 abbrev pub IsItem : Item → Type 0
 IsItem (item.Boolean bit) = Unit {0}
@@ -82,7 +85,5 @@ IsItem (item.Close number) = number ≤ 254
 -- the item lies at the front of the octets: so many of them are its head, and so many it takes with its contents
 pub record LiesInFront (item : Item) (start taken : ℕ) (octets : List ℕ) : Type 0 where
   pub within : start ≤ taken
-  pub head : TagHead
-  pub headed : Heads head (take start octets)
-  pub under : Under head (item_event item) (item_contents item)
+  pub headed : Heads (item_head item) (take start octets)
   pub octets_are : take taken octets ≡ take start octets ++ item_contents item

@@ -6,14 +6,16 @@ ghost use Rattle.bac_tag.specs.Spelling.{IsLeast, IsRefusal, Takes};
 ghost use Rattle.bac_tag.specs.Heads.{Heads, IsValid};
 ghost use Rattle.bac_tag.specs.Expected.{FitsOne, HeadsOfOne};
 ghost use Rattle.bac_value.specs.declared.prim.PrimitiveValue.{PrimitiveValue};
-ghost use Rattle.bac_value.specs.Primitives.{IsBegun};
+ghost use Rattle.bac_value.specs.Primitives.{IsBegun, OfSize};
 ghost use Rattle.bac_value.specs.PrimContents.{ContentsOf};
 ghost use Rattle.bac_data.specs.Refusals.{IsItemReason};
 ghost use Rattle.bac_data.specs.Under.{Under, HasContents};
 ghost use Rattle.bac_data.specs.Events.{SpellsEvent};
-ghost use Rattle.bac_data.specs.Reading.{SpellsStanding, next_heads, OfSize, item_event, item_contents, IsItem, LiesInFront};
+ghost use Rattle.bac_data.specs.Reading.{SpellsStanding, next_heads, item_event, item_contents, item_head, IsItem, LiesInFront};
 
-use bac_tag::{Expected, Refusal, TagHead, Why, joined_marks, mark_head, read_head, read_one_of};
+use bac_tag::{
+    Expected, Refusal, TagHead, Why, joined_marks, mark_read_head, read_head, read_one_of,
+};
 use bac_value::{
     Bits, Date, DoubleBits, Enumerated, Null, ObjectId, Octets, Prim, Primitive, RealBits, Signed,
     Text, Time, Unsigned, mark_contents, written_len_of,
@@ -43,7 +45,7 @@ fn read_contents(number: u8, size: usize, octets: &[u8]) -> Result<&[u8], Refusa
     requires size { IsBegun (ContentsOf number) [] size }
     ensures front { IfOk result (λ contents. (contents.now ≡ take size octets.now) × (size ≤ length octets.now)) }
     ensures found { IfOk result (λ contents. (prim : PrimitiveValue) × ContentsOf number prim contents.now) }
-    ensures refused { IfErr result (IsRefusal (OfSize number size) octets.now) }
+    ensures refused { IfErr result (IsRefusal (OfSize (ContentsOf number) size) octets.now) }
     ensures reasons { IfErr result (λ refusal. IsItemReason refusal.why) }
 {
     let seen = &octets[..size.min(octets.len())];
@@ -71,6 +73,7 @@ fn read_under(head: TagHead, octets: &[u8]) -> Result<(Item<'_>, usize), Refusal
     ensures within { IfOk result (λ found. found.1 ≤ length octets.now) }
     ensures found { IfOk result (λ found. Under head (item_event found.0) (take found.1 octets.now)) }
     ensures contents { IfOk result (λ found. take found.1 octets.now ≡ item_contents found.0) }
+    ensures head { IfOk result (λ found. item_head found.0 ≡ head) }
     ensures item { IfOk result (λ found. IsItem found.0) }
     ensures refused { IfErr result (IsRefusal (Under head) octets.now) }
     ensures reasons { IfErr result (λ refusal. IsItemReason refusal.why) }
@@ -241,31 +244,43 @@ pub(crate) fn read_item(
     let (head, start) = read_next_head(octets, room, closing)?;
     match read_under(head, &octets[start..]) {
         Ok((item, size)) => Ok((item, start, start + size)),
-        Err(refusal) => Err(Refusal {
-            place: start + refusal.place,
-            why: refusal.why,
-        }),
+        Err(refusal) => Err(refusal.behind(start)),
+    }
+}
+
+/// The head that an item was read under.
+fn head_of(item: Item<'_>) -> TagHead
+    requires { IsItem item }
+    ensures { result ≡ item_head item.entry }
+{
+    match item {
+        Item::Boolean(bit) => TagHead::AppBool(bit),
+        Item::Application { number, contents } => {
+            let len = contents.len() as u32;
+            TagHead::App { number, len }
+        }
+        Item::Context { number, octets } => {
+            let len = octets.len() as u32;
+            TagHead::Ctx { number, len }
+        }
+        Item::Open(number) => TagHead::Open(number),
+        Item::Close(number) => TagHead::Close(number),
     }
 }
 
 /// The first octet of an item, whose head has these octets, that differs from the canonical ones.
 pub(crate) fn mark_item(head: &[u8], item: Item<'_>) -> Option<usize>
     requires item { IsItem item }
-    requires headed { (of : TagHead) × Heads of head.now × Under of (item_event item) (item_contents item) }
+    requires headed { Heads (item_head item) head.now }
     ensures { (b : List ℕ) → IsLeast (SpellsEvent (item_event item.entry)) b → IsMark (head.now ++ item_contents item.entry) b result }
 {
+    let read = head_of(item);
     match item {
-        Item::Boolean(bit) => mark_head(head, TagHead::AppBool(bit)),
         Item::Application { number, contents } => {
             let len = written_len_of(number, contents) as u32;
-            let mark = mark_head(head, TagHead::App { number, len });
+            let mark = mark_read_head(head, read, TagHead::App { number, len });
             joined_marks(mark, head.len(), mark_contents(number, contents))
         }
-        Item::Context { number, octets } => {
-            let len = octets.len() as u32;
-            mark_head(head, TagHead::Ctx { number, len })
-        }
-        Item::Open(number) => mark_head(head, TagHead::Open(number)),
-        Item::Close(number) => mark_head(head, TagHead::Close(number)),
+        _ => mark_read_head(head, read, read),
     }
 }

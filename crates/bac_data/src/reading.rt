@@ -11,7 +11,7 @@ ghost use Rattle.bac_data.specs.Refusals.{IsOpenValueReason};
 use crate::building::AnyBuilder;
 use crate::items::{Item, mark_item, read_item};
 use crate::open_value::Any;
-use bac_tag::{Expected, Refusal, TagHead, Why, joined_marks, mark_head, read_expected};
+use bac_tag::{Expected, Refusal, TagHead, Why, joined_marks, mark_read_head, read_expected};
 use std::alloc::Global;
 
 /// Memory was refused.
@@ -44,8 +44,12 @@ fn read_value(
     ensures memory { IfErr result (λ refusal. refusal.why ≡ Why.OutOfMemory → refusal.place ≡ 0) }
     ensures reasons { IfErr result (λ refusal. IsOpenValueReason refusal.why) }
 {
-    let (_, mut place) = read_expected(octets, Expected::Open(Some(number)))?;
-    let mut mark = mark_head(&octets[..place], TagHead::Open(number));
+    let (opening, mut place) = read_expected(octets, Expected::Open(Some(number)))?;
+    let mut mark = if marks {
+        mark_read_head(&octets[..place], opening, TagHead::Open(number))
+    } else {
+        None
+    };
     let Ok(mut builder) = AnyBuilder::new(alloc) else {
         return Err(OUT_OF_MEMORY);
     };
@@ -53,12 +57,7 @@ fn read_value(
         let (room, closing) = builder.place(number);
         let (item, start, taken) = match read_item(&octets[place..], room, closing) {
             Ok(found) => found,
-            Err(refusal) => {
-                return Err(Refusal {
-                    place: place + refusal.place,
-                    why: refusal.why,
-                });
-            }
+            Err(refusal) => return Err(refusal.behind(place)),
         };
         if marks {
             mark = joined_marks(mark, place, mark_item(&octets[place..place + start], item));

@@ -178,3 +178,20 @@ fn many_tags_are_refused_at_once(rt: HostRuntime) -> Result<(), Fail> {
     refuses(&rt, alloc, octets.as_slice(), 0, Why::Tag);
     Ok(())
 }
+
+/// A MiB of short primitives. `make memory` refuses its allocation 64: the vectors double, so there are fewer.
+#[test]
+fn a_mebibyte_is_read_with_few_allocations(rt: HostRuntime) -> Result<(), Fail> {
+    let alloc = rt.alloc();
+    let mut octets = Vec::with_capacity(alloc, 1 << 20)?;
+    octets.push(0x3E)?;
+    for _ in 1..1 << 19 {
+        octets.push(0x21)?;
+        octets.push(0x55)?;
+    }
+    octets.push(0x3F)?;
+    let (value, taken) = read_any(alloc, octets.as_slice(), 3)?;
+    assert_eq!(rt; taken, 1 << 20);
+    assert_eq!(rt; value.count(), (1 << 19) - 1);
+    Ok(())
+}
