@@ -5,26 +5,22 @@ use Rattle.bac_value.specs.Identifier.{Identifier}
 use Rattle.bac_service.specs.declared.unsigned32.Unsigned32.{Unsigned32}
 use Rattle.bac_service.specs.declared.property_value.PropertyValue.{PropertyValue}
 use Rattle.bac_service.specs.declared.cov_notification.CovNotification.{CovNotification}
-use Rattle.bac_service.specs.declared.cov_notification.Notification.{Notification}
 use Rattle.bac_service.specs.Contents.{ObjectField, UnsignedField}
 use Rattle.bac_service.specs.PropertyValue.{SpellsPropertyValue}
 use Rattle.bac_service.specs.Productions.{Both, Items, Grouped, IsRecordOf}
 
 -- what a notification says
-pub record Notified : Type 0 where
+pub record Notification : Type 0 where
   pub process : Unsigned32
   pub device : Identifier
   pub object : Identifier
   pub remaining : Unsigned32
   pub values : List PropertyValue
 
-abbrev pub notification_of : Notification → Notified
+abbrev pub notification_of : CovNotification → Notification
 notification_of n = record { process = n.process; device = n.device; object = n.object; remaining = n.remaining; values = n.values.items }
 
-abbrev pub notified_of : CovNotification → Notified
-notified_of n = record { process = n.process; device = n.device; object = n.object; remaining = n.remaining; values = n.values.items }
-
-abbrev pub SpellsNotification : Notified → List ℕ → Type 0
+abbrev pub SpellsNotification : Notification → List ℕ → Type 0
 SpellsNotification n =
     Joins (UnsignedField 0 n.process) (Joins (ObjectField 1 n.device) (Joins (ObjectField 2 n.object) (
     Joins (UnsignedField 3 n.remaining) (Grouped 4 (Items SpellsPropertyValue) n.values)

@@ -7,6 +7,7 @@ use Rattle.bac_service.specs.declared.kind.Kind.{Kind}
 use Rattle.bac_service.specs.declared.kind.Kind.TheVariants.{Confirmed, Unconfirmed, ComplexAck, Error}
 use Rattle.bac_service.specs.declared.service.Service.{Service}
 use Rattle.bac_service.specs.Productions.{HasMark}
+use Rattle.bac_service.specs.Reasons.{IsServiceReason}
 use Rattle.bac_service.specs.WholeInput.{IsWholeRefusal}
 use Rattle.bac_service.specs.WholeLaws.{whole_alike}
 use Rattle.bac_service.specs.LeastLaws.{mark_alike}
@@ -33,6 +34,7 @@ pub record IsFound (kind : Kind) (choice : ℕ) (octets : List ℕ) (service : S
 pub record IsRefused (kind : Kind) (choice : ℕ) (octets : List ℕ) (refusal : Refusal) : Type 0 where
   pub refused : refusal.why ≢ OutOfMemory → IsWholeRefusal (SpellsService false kind choice) octets refusal
   pub memory : refusal.why ≡ OutOfMemory → (refusal.place ≡ 0) × (is_small kind choice ≡ false)
+  pub reason : IsServiceReason refusal.why
 
 abbrev pub IsDecoded : Kind → ℕ → List ℕ → Result (Service × Option ℕ) Refusal → Type 0
 IsDecoded kind choice octets (Ok found) = IsFound kind choice octets found.0 found.1
@@ -43,10 +45,11 @@ pub found_as : (k : Kind) (c : ℕ) (octets : List ℕ) (service : Service) (mar
 found_as k c octets service mark alike s m = record { spelled = (alike octets).0 s; marked = mark_alike alike m }
 
 pub refused_as : {V : Type 0} {S : V → List ℕ → Type 0} (k : Kind) (c : ℕ) (octets : List ℕ) (refusal : Refusal) → IsServiceOf S k c
-    → (refusal.why ≢ OutOfMemory → IsWholeRefusal S octets refusal) → (refusal.why ≡ OutOfMemory → (refusal.place ≡ 0) × (is_small k c ≡ false)) → IsRefused k c octets refusal
-refused_as {V} {S} k c octets refusal same h memory = record {
+    → (refusal.why ≢ OutOfMemory → IsWholeRefusal S octets refusal) → (refusal.why ≡ OutOfMemory → (refusal.place ≡ 0) × (is_small k c ≡ false)) → IsServiceReason refusal.why → IsRefused k c octets refusal
+refused_as {V} {S} k c octets refusal same h memory reason = record {
   refused = λ w. whole_alike S (SpellsService false k c) octets refusal same.every same.only (h w);
   memory = memory;
+  reason = reason;
 }
 
 pub notification_large : (confirmed : Bool) → is_small (notification_kind confirmed) (notification_choice confirmed) ≡ false

@@ -15,10 +15,10 @@ use Rattle.bac_tag.specs.Heads.{Heads, IsValid}
 use Rattle.bac_tag.specs.HeadsLaws.{heads_end}
 use Rattle.bac_tag.specs.Expected.{Fits, ExpectedHeads}
 use Rattle.bac_tag.proofs.WritingLemmas.{some_least, app_grows, ctx_grows}
-use Rattle.bac_value.specs.Primitives.{IsBegun}
+use Rattle.bac_value.specs.Primitives.{IsBegun, OfSize}
 use Rattle.bac_service.specs.Leads.{Lead, application, context, BeginsIn}
 use Rattle.bac_service.specs.LeadLaws.{head_begins}
-use Rattle.bac_service.specs.Fields.{heading, expected_heading, IsHeading, OfSize, IsField}
+use Rattle.bac_service.specs.Fields.{heading, expected_heading, IsHeading, IsField}
 use Rattle.bac_service.specs.LongestLaws.{take_add, leaf_longest}
 use Rattle.bac_service.specs.Productions.{Lawful, IsLongest, IsReach, HasMark, IsInhabited, AppendsLeast}
 use Rattle.bac_service.specs.ProductionLaws.{leaf_lawful}

@@ -21,11 +21,6 @@ abbrev pub IsHeading : Option ℕ → ℕ → Type 0
 IsHeading (Some number) application = number ≤ 254
 IsHeading None application = (application ≤ 12) × (application ≢ 1)
 
--- contents that have so many octets
-pub record OfSize {V : Type 0} (contents : V → List ℕ → Type 0) (size : ℕ) (value : V) (b : List ℕ) : Type 0 where
-  pub spelled : contents value b
-  pub sized : length b ≡ size
-
 -- a head with the length of the contents, and the contents
 pub record IsField {V : Type 0} (head_for : ℕ → TagHead) (contents : V → List ℕ → Type 0) (value : V) (b : List ℕ) : Type 0 where
   pub head : List ℕ

@@ -7,6 +7,7 @@ pub mod ReachLaws
 pub mod RefusalLaws
 pub mod LeastLaws
 pub mod ReadFaults
+pub mod Reasons
 pub mod RecordLaws
 pub mod ListLaws
 pub mod ChoiceLaws

@@ -1,15 +1,16 @@
 -- Lists, item by item.
-use Rattle.std.specs.Prelude.{◌≡◌, ◌≢◌, ◌↔◌, ℕ, ◌+◌, ◌≤◌, List, [], ◌∷◌, ◌++◌, length, take, drop, Bool, ◌&&◌, not, IsTrue, Option, None, refl}
+use Rattle.std.specs.Prelude.{◌≡◌, ◌↔◌, ℕ, ◌+◌, ◌≤◌, List, [], ◌∷◌, ◌++◌, length, take, drop, Bool, ◌&&◌, not, IsTrue, Option, None, refl}
 use Rattle.bac_tag.specs.declared.refusals.Refusal.{Refusal}
-use Rattle.bac_tag.specs.declared.refusals.Why.TheVariants.{Short, Trailing, OutOfMemory}
+use Rattle.bac_tag.specs.declared.refusals.Why.TheVariants.{Short}
 use Rattle.bac_tag.specs.Octets.{joined_mark}
-use Rattle.bac_tag.specs.Refusals.{farther_of}
+use Rattle.bac_tag.specs.Refusals.{farther_of, behind}
 use Rattle.bac_tag.specs.Spelling.{IsRefusal}
 use Rattle.bac_service.specs.Leads.{Lead, disjoint}
 use Rattle.bac_service.specs.Productions.{Items, Lawful, IsInhabited, IsLongest, IsReach, HasMark}
 use Rattle.bac_service.specs.LongestLaws.{IsSoFar, so_far_start, so_far_end, list_more, take_add}
 use Rattle.bac_service.specs.ReachLaws.{IsReachSoFar, reach_start}
-use Rattle.bac_service.specs.RefusalLaws.{behind, farther_is, reach_taken, reach_item, reach_items, reach_so_far}
+use Rattle.bac_service.specs.RefusalLaws.{farther_is, reach_taken, reach_item, reach_items, reach_so_far}
+use Rattle.bac_service.specs.Reasons.{IsPartReason, IsReachReason, part_trails}
 use Rattle.bac_service.specs.ReadFaults.{EndsOrGoesOn}
 use Rattle.bac_service.specs.LeastLaws.{mark_nothing, mark_item}
 use Rattle.std.proofs.Common.{sym, subst, inl, inr, arith}
@@ -26,13 +27,13 @@ pub record HasItems {V : Type 0} (S : V → List ℕ → Type 0) (input : List �
   pub short : (best.why ≡ Short) ↔ (best.place ≡ length input)
   pub ends : EndsOrGoesOn p best
 
-pub items_start : {V : Type 0} (S : V → List ℕ → Type 0) (input : List ℕ) (best : Refusal) → best.place ≡ 0 → ((best.why ≡ Short) ↔ (0 ≡ length input)) → best.why ≢ OutOfMemory → HasItems S input [] 0 None best
-items_start S input best e short known = record {
+pub items_start : {V : Type 0} (S : V → List ℕ → Type 0) (input : List ℕ) (best : Refusal) → best.place ≡ 0 → ((best.why ≡ Short) ↔ (0 ≡ length input)) → IsReachReason best.why → HasItems S input [] 0 None best
+items_start S input best e short reason = record {
   so_far = so_far_start S input;
   marked = mark_nothing;
   reach = subst (IsReachSoFar S input 0) (sym e) (reach_start S input);
   short = subst (λ (n : ℕ). (best.why ≡ Short) ↔ (n ≡ length input)) (sym e) short;
-  ends = (λ w. e, known);
+  ends = (λ w. e, reason);
 }
 
 module _ {V : Type 0} {S : V → List ℕ → Type 0} {os cs : List Lead} {e : Bool} (a : Bool) (law : IsTrue a → Lawful S os cs e) (sound : IsTrue (a && (not e && disjoint os cs))) {input : List ℕ} {vs : List V} {p : ℕ} {mark : Option ℕ} {best : Refusal}
@@ -58,9 +59,9 @@ module _ {V : Type 0} {S : V → List ℕ → Type 0} {os cs : List Lead} {e : B
   pub items_end : (r : Refusal) → IsRefusal S (drop p input) r → IsReach (Items S) input (farther_of (behind p r) best)
   items_end r h = reach_items a law sound H.so_far best r H.reach H.short h
 
-  pub items_ends : (r : Refusal) → r.why ≢ Trailing → r.why ≢ OutOfMemory → EndsOrGoesOn p (farther_of (behind p r) best)
-  items_ends r trails other = elim (farther_is (behind p r) best) [
-    | inl h ↦ rw h.0 (λ w. absurd (trails w), other)
+  pub items_ends : (r : Refusal) → IsPartReason r.why → EndsOrGoesOn p (farther_of (behind p r) best)
+  items_ends r part = elim (farther_is (behind p r) best) [
+    | inl h ↦ rw h.0 (λ w. absurd (part_trails r.why part w), inr part)
     | inr h ↦ rw h.0 H.ends
   ]
 

@@ -1,12 +1,12 @@
 -- The longest front of an input that spells a value, part by part.
-use Rattle.std.specs.Prelude.{◌≡◌, ℕ, ◌+◌, ◌≤◌, ◌<◌, List, [], ◌∷◌, ◌++◌, length, take, drop, Bool, true, false, ◌&&◌, not, ◌⊎◌, IsTrue, Some, None, refl}
+use Rattle.std.specs.Prelude.{◌≡◌, ℕ, ◌+◌, ◌≤◌, ◌<◌, List, [], ◌∷◌, ◌++◌, length, take, drop, Bool, true, false, ◌&&◌, not, ◌⊎◌, IsTrue, refl}
 use Rattle.std.proofs.Common.{suc, zero, sym, ◌∙◌, ap, subst, inl, inr, arith, append_assoc}
 use Rattle.std.proofs.lemmas.List.{append_cancel_left, append-nil, take-append-drop, length-append, length-drop, length-take-le, drop-take, take-take, drop-drop}
 use Rattle.std.proofs.lemmas.Bool.{and_parts}
 use Rattle.bac_tag.specs.Spelling.{NoFront, EndsItself, OneOf, Takes}
 use Rattle.bac_service.specs.Leads.{Lead, disjoint, BeginsIn}
 use Rattle.bac_service.specs.LeadLaws.{begins_apart, begins_more, begins_not_nil}
-use Rattle.bac_service.specs.Productions.{Both, Optional, Items, Aligned, Lawful, IsLongest}
+use Rattle.bac_service.specs.Productions.{Both, Items, Aligned, Lawful, IsLongest}
 use Rattle.bac_service.specs.Productions.Aligned.{same, shorter, longer}
 use Rattle.bac_service.specs.ProductionLaws.{begun, sound_parts, items_lawful, not_empty, one_never, one_lawful}
 
@@ -70,21 +70,6 @@ module _ {V W : Type 0} (S : V → List ℕ → Type 0) (T : W → List ℕ → 
 
 pub none_first : {V W : Type 0} (S : V → List ℕ → Type 0) (T : W → List ℕ → Type 0) (input : List ℕ) → NoFront S input → NoFront (Both S T) input
 none_first S T input none q c y e j = none q.0 j.front (j.back ++ y) (e ∙ ap (λ (l : List ℕ). l ++ y) j.octets ∙ append_assoc j.front j.back y) j.first
-
--- no value, where the input has no front
-pub longest_absent : {V : Type 0} (S : V → List ℕ → Type 0) (input : List ℕ) → NoFront S input → IsLongest (Optional S) input None 0
-longest_absent S input none = record {
-  within = omega arith;
-  spelled = refl;
-  most = elim [ None ↦ λ c y e s. (let k : length c ≡ 0 = ap length s in omega arith) | Some w ↦ λ c y e s. absurd (none w c y e s) ];
-}
-
-pub longest_present : {V : Type 0} (S : V → List ℕ → Type 0) (input : List ℕ) (v : V) (n : ℕ) → IsLongest S input v n → IsLongest (Optional S) input (Some v) n
-longest_present S input v n L = record {
-  within = L.within;
-  spelled = L.spelled;
-  most = elim [ None ↦ λ c y e s. (let k : length c ≡ 0 = ap length s in omega arith) | Some w ↦ λ c y e s. L.most w c y e s ];
-}
 
 pub pair_found : {V W : Type 0} {S : V → List ℕ → Type 0} {T : W → List ℕ → Type 0} {os cs ot ct : List Lead} {es et : Bool} (a b : Bool)
     → (IsTrue a → Lawful S os cs es) → (IsTrue b → Lawful T ot ct et) → IsTrue (a && (b && disjoint ot cs))
@@ -151,12 +136,6 @@ list_more {S} {os} {cs} {e} a law h {input} {vs} {p} {v} {n} F M =
     let q = sound_parts a (not e) (disjoint os cs) h in
     so_far_more S os cs (not_empty (law q.0) q.1) q.2 input vs p v n F M
 
-pub list_advances : {V : Type 0} {S : V → List ℕ → Type 0} {os cs : List Lead} {e : Bool} (a : Bool) → (IsTrue a → Lawful S os cs e) → IsTrue (a && (not e && disjoint os cs))
-    → {input : List ℕ} {v : V} {n : ℕ} → IsLongest S input v n → 0 < n
-list_advances {S} {os} {cs} {e} a law h {input} {v} {n} M =
-    let q = sound_parts a (not e) (disjoint os cs) h in
-    some_taken S os cs (not_empty (law q.0) q.1) input v n M
-
 module _ {V W : Type 0} {S : V → List ℕ → Type 0} {T : W → List ℕ → Type 0} {os cs ot ct : List Lead} {es et : Bool} (a b : Bool) (ls : IsTrue a → Lawful S os cs es) (lt : IsTrue b → Lawful T ot ct et) (h : IsTrue ((a && not es) && ((b && not et) && disjoint os ot))) where
   pub either_first : {input : List ℕ} {v : V} {n : ℕ} → IsLongest S input v n → IsLongest (OneOf S T) input (inl v) n
   either_first {input} {v} {n} L =
@@ -173,12 +152,6 @@ module _ {V W : Type 0} {S : V → List ℕ → Type 0} {T : W → List ℕ → 
       let x = and_parts a (not es) p.0 in
       let y = and_parts b (not et) p.1 in
       one_lawful S T os cs ot ct (not_empty (ls x.0) x.1) (not_empty (lt y.0) y.1) p.2
-
-pub either_second : {V W : Type 0} (S : V → List ℕ → Type 0) (T : W → List ℕ → Type 0) {input : List ℕ} {w : W} {n : ℕ} → NoFront S input → IsLongest T input w n → IsLongest (OneOf S T) input (inr w) n
-either_second S T none L = record { within = L.within; spelled = L.spelled; most = elim [ inl v ↦ λ c z e s. absurd (none v c z e s) | inr w ↦ λ c z e s. L.most w c z e s ] }
-
-pub either_none : {V W : Type 0} (S : V → List ℕ → Type 0) (T : W → List ℕ → Type 0) {input : List ℕ} → NoFront S input → NoFront T input → NoFront (OneOf S T) input
-either_none S T none never = elim [ inl v ↦ λ c z e s. none v c z e s | inr w ↦ λ c z e s. never w c z e s ]
 
 -- what ends itself has no longer front
 pub leaf_longest : {V : Type 0} (S : V → List ℕ → Type 0) → EndsItself S → (input : List ℕ) (v : V) (n : ℕ) → Takes S input (v, n) → IsLongest S input v n

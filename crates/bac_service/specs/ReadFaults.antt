@@ -1,8 +1,8 @@
 -- Why nothing was read.
-use Rattle.std.specs.Prelude.{◌≡◌, ◌≢◌, ℕ}
+use Rattle.std.specs.Prelude.{◌≡◌, ℕ}
 use Rattle.bac_tag.specs.declared.refusals.Refusal.{Refusal}
 use Rattle.bac_tag.specs.declared.refusals.Why.TheVariants.{Trailing}
-use Rattle.bac_tag.specs.declared.refusals.Why.TheVariants as why
+use Rattle.bac_service.specs.Reasons.{IsReachReason}
 use Rattle.bac_service.specs.declared.productions.ReadFault.{ReadFault}
 use Rattle.bac_service.specs.declared.productions.ReadFault.TheVariants.{OutOfMemory, Refused}
 
@@ -11,9 +11,9 @@ abbrev pub IfRefused : ReadFault → (Refusal → Type 0) → Type 0
 IfRefused OutOfMemory P = Unit {0}
 IfRefused (Refused refusal) P = P refusal
 
--- Trailing is told where a whole spelling ends, and nowhere else
+-- Trailing is told where a whole spelling ends and nowhere else, and OutOfMemory never
 abbrev pub EndsOrGoesOn : ℕ → Refusal → Type 0
-EndsOrGoesOn taken reach = (reach.why ≡ Trailing → reach.place ≡ taken) × (reach.why ≢ why.OutOfMemory)
+EndsOrGoesOn taken reach = (reach.why ≡ Trailing → reach.place ≡ taken) × IsReachReason reach.why
 
 -- one fact on the refusal gives another
 pub refused_also : (fault : ReadFault) {P Q : Refusal → Type 0} → ((refusal : Refusal) → P refusal → Q refusal) → IfRefused fault P → IfRefused fault Q

@@ -6,7 +6,7 @@ use Rattle.std.proofs.lemmas.Bool.{cases_lt, ltb-true, ltb-false, eqb-true, and_
 use Rattle.bac_tag.specs.declared.refusals.Refusal.{Refusal}
 use Rattle.bac_tag.specs.declared.refusals.Why.{Why}
 use Rattle.bac_tag.specs.declared.refusals.Why.TheVariants.{Short}
-use Rattle.bac_tag.specs.Refusals.{weight_of, farther_of}
+use Rattle.bac_tag.specs.Refusals.{weight_of, farther_of, behind}
 use Rattle.bac_tag.specs.Spelling.{EndsItself, IsViable, IsFurthest, IsRefusal, Takes, OneOf}
 use Rattle.bac_tag.specs.SpellingLaws.{viable_front, viable-OneOf}
 use Rattle.bac_service.specs.Leads.{Lead, disjoint, BeginsIn}
@@ -15,10 +15,6 @@ use Rattle.bac_service.specs.Productions.{Both, Optional, Items, Lawful, IsInhab
 use Rattle.bac_service.specs.ProductionLaws.{begun, sound_parts, not_empty}
 use Rattle.bac_service.specs.LongestLaws.{IsSoFar, none_first, pair_none}
 use Rattle.bac_service.specs.ReachLaws.{pair_reach, pair_first, pair_inhabited, furthest_absent, furthest_present, IsReachSoFar, reach_end, reach_more}
-
--- a refusal as it is seen from so many octets before
-abbrev pub behind : ℕ → Refusal → Refusal
-behind n r = record { place = n + r.place; why = r.why }
 
 -- Of two refusals one is the farther, and it came as far as the other.
 pub farther_is : (r s : Refusal) → ((farther_of r s ≡ r) × (s.place ≤ r.place)) ⊎ ((farther_of r s ≡ s) × (r.place ≤ s.place))

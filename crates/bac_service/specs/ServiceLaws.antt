@@ -1,5 +1,5 @@
 -- Which service a kind and a choice name.
-use Rattle.std.specs.Prelude.{◌≡◌, ℕ, Bool, true, false, nat_eq, List, refl}
+use Rattle.std.specs.Prelude.{◌≡◌, ℕ, true, false, cond, nat_eq, List, refl}
 use Rattle.std.proofs.Common.{sym, ◌∙◌, ap, subst}
 use Rattle.bac_service.specs.declared.kind.Kind.{Kind}
 use Rattle.bac_service.specs.declared.kind.Kind.TheVariants.{Confirmed, Unconfirmed, ComplexAck, Error}
@@ -12,30 +12,25 @@ use Rattle.bac_service.specs.declared.subscribe_cov.SubscribeCov.{SubscribeCov}
 use Rattle.bac_service.specs.declared.error_cause.ErrorCause.{ErrorCause}
 use Rattle.bac_service.specs.ReadAccessSpecification.{Specification}
 use Rattle.bac_service.specs.ReadAccessResult.{AccessResult}
-use Rattle.bac_service.specs.CovNotification.{Notified}
+use Rattle.bac_service.specs.CovNotification.{Notification}
 use Rattle.bac_service.specs.Choices.{has_production}
 use Rattle.bac_service.specs.ServiceValues.{ServiceValue, read_property, read_property_ack, write_property, read_property_multiple, read_property_multiple_ack, who_is, i_am, subscribe_cov, cov_notification, service_error, opaque, kind_of, choice_of}
 use Rattle.bac_service.specs.Services.{SpellsService}
 
--- the one or the other
-abbrev pub where_so : Bool → Type 0 → Type 0 → Type 0
-where_so true A B = A
-where_so false A B = B
-
 -- the services that a kind and a choice with a production name
 abbrev pub IsNamed : Kind → ℕ → ServiceValue → Type 0
 IsNamed Confirmed choice x =
-    where_so (nat_eq choice 1) ((n : Notified) × (x ≡ cov_notification true n))
-    (where_so (nat_eq choice 5) ((r : SubscribeCov) × (x ≡ subscribe_cov r))
-    (where_so (nat_eq choice 12) ((r : ReadProperty) × (x ≡ read_property r))
-    (where_so (nat_eq choice 14) ((specs : List Specification) × (x ≡ read_property_multiple specs))
+    cond (nat_eq choice 1) ((n : Notification) × (x ≡ cov_notification true n))
+    (cond (nat_eq choice 5) ((r : SubscribeCov) × (x ≡ subscribe_cov r))
+    (cond (nat_eq choice 12) ((r : ReadProperty) × (x ≡ read_property r))
+    (cond (nat_eq choice 14) ((specs : List Specification) × (x ≡ read_property_multiple specs))
     ((r : WriteProperty) × (x ≡ write_property r)))))
 IsNamed Unconfirmed choice x =
-    where_so (nat_eq choice 0) ((r : IAm) × (x ≡ i_am r))
-    (where_so (nat_eq choice 2) ((n : Notified) × (x ≡ cov_notification false n))
+    cond (nat_eq choice 0) ((r : IAm) × (x ≡ i_am r))
+    (cond (nat_eq choice 2) ((n : Notification) × (x ≡ cov_notification false n))
     ((r : WhoIs) × (x ≡ who_is r)))
 IsNamed ComplexAck choice x =
-    where_so (nat_eq choice 12) ((a : ReadPropertyAck) × (x ≡ read_property_ack a))
+    cond (nat_eq choice 12) ((a : ReadPropertyAck) × (x ≡ read_property_ack a))
     ((results : List AccessResult) × (x ≡ read_property_multiple_ack results))
 IsNamed Error choice x = (cause : ErrorCause) × (x ≡ service_error choice cause)
 

@@ -13,7 +13,7 @@ use Rattle.bac_service.specs.declared.subscribe_cov.SubscribeCov.{SubscribeCov}
 use Rattle.bac_service.specs.declared.error_cause.ErrorCause.{ErrorCause}
 use Rattle.bac_service.specs.ReadAccessSpecification.{Specification, specification_of}
 use Rattle.bac_service.specs.ReadAccessResult.{AccessResult, access_result_of}
-use Rattle.bac_service.specs.CovNotification.{Notified, notified_of}
+use Rattle.bac_service.specs.CovNotification.{Notification, notification_of}
 
 pub data ServiceValue : Type 0 where
   read_property : ReadProperty → ServiceValue
@@ -25,7 +25,7 @@ pub data ServiceValue : Type 0 where
   i_am : IAm → ServiceValue
   subscribe_cov : SubscribeCov → ServiceValue
   -- whether it is confirmed
-  cov_notification : Bool → Notified → ServiceValue
+  cov_notification : Bool → Notification → ServiceValue
   -- the choice of the service that failed
   service_error : ℕ → ErrorCause → ServiceValue
   opaque : Kind → ℕ → List ℕ → ServiceValue
@@ -39,7 +39,7 @@ value_of (held.ReadPropertyMultipleAck ack) = read_property_multiple_ack (map ac
 value_of (held.WhoIs request) = who_is request
 value_of (held.IAm request) = i_am request
 value_of (held.SubscribeCov request) = subscribe_cov request
-value_of (held.CovNotification request) = cov_notification request.confirmed (notified_of request)
+value_of (held.CovNotification request) = cov_notification request.confirmed (notification_of request)
 value_of (held.ServiceError error) = service_error error.choice error.cause
 value_of (held.Opaque service) = opaque service.kind service.choice service.octets
 
@@ -61,7 +61,7 @@ kind_of (read_property_multiple_ack results) = kind.ComplexAck
 kind_of (who_is request) = kind.Unconfirmed
 kind_of (i_am request) = kind.Unconfirmed
 kind_of (subscribe_cov request) = kind.Confirmed
-kind_of (cov_notification confirmed notified) = notification_kind confirmed
+kind_of (cov_notification confirmed notification) = notification_kind confirmed
 kind_of (service_error choice cause) = kind.Error
 kind_of (opaque k choice octets) = k
 
@@ -74,6 +74,6 @@ choice_of (read_property_multiple_ack results) = 14
 choice_of (who_is request) = 8
 choice_of (i_am request) = 0
 choice_of (subscribe_cov request) = 5
-choice_of (cov_notification confirmed notified) = notification_choice confirmed
+choice_of (cov_notification confirmed notification) = notification_choice confirmed
 choice_of (service_error choice cause) = choice
 choice_of (opaque k choice octets) = choice

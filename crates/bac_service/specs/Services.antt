@@ -26,7 +26,7 @@ SpellsFields (read_property_multiple_ack results) b = Items SpellsAccessResult r
 SpellsFields (who_is request) b = SpellsWhoIs request b
 SpellsFields (i_am request) b = SpellsIAm request b
 SpellsFields (subscribe_cov request) b = SpellsSubscribeCov request b
-SpellsFields (cov_notification confirmed notified) b = SpellsNotification notified b
+SpellsFields (cov_notification confirmed notification) b = SpellsNotification notification b
 SpellsFields (service_error choice cause) b = SpellsErrorCause cause b
 SpellsFields (opaque kind choice octets) b = b ≡ octets
 

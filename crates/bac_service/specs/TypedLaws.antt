@@ -19,7 +19,7 @@ use Rattle.bac_service.specs.ReadAccessResult.{SpellsAccessResult}
 use Rattle.bac_service.specs.WhoIs.{SpellsWhoIs}
 use Rattle.bac_service.specs.IAm.{SpellsIAm}
 use Rattle.bac_service.specs.SubscribeCov.{SpellsSubscribeCov}
-use Rattle.bac_service.specs.CovNotification.{Notified, SpellsNotification}
+use Rattle.bac_service.specs.CovNotification.{Notification, SpellsNotification}
 use Rattle.bac_service.specs.ErrorCause.{SpellsErrorCause}
 
 -- the same lists spell the values, and the services of that kind and choice
@@ -90,7 +90,7 @@ subscribe_cov_named =
     (λ x b h. let m = named Confirmed 5 x b refl h in (m.0, fields_of x (subscribe_cov m.0) b m.1 h.spelled))
 
 -- notifications are confirmed or not
-pub notification_told : (confirmed : Bool) (n : Notified) (b : List ℕ) → SpellsNotification n b ↔ SpellsService false (notification_kind confirmed) (notification_choice confirmed) (cov_notification confirmed n) b
+pub notification_told : (confirmed : Bool) (n : Notification) (b : List ℕ) → SpellsNotification n b ↔ SpellsService false (notification_kind confirmed) (notification_choice confirmed) (cov_notification confirmed n) b
 notification_told confirmed n b = spelled_as (notification_kind confirmed) (notification_choice confirmed) (cov_notification confirmed n) refl refl tt b
 
 pub notification_named_as : (confirmed : Bool) → IsServiceOf SpellsNotification (notification_kind confirmed) (notification_choice confirmed)

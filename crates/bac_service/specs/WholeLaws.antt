@@ -2,7 +2,7 @@
 use Rattle.std.specs.Prelude.{◌≡◌, ◌≢◌, ℕ, ◌≤◌, ◌<◌, List, [], length, take, drop, refl}
 use Rattle.std.proofs.Common.{sym, subst, inl, inr, arith}
 use Rattle.std.proofs.lemmas.Bool.{cases_lt}
-use Rattle.std.proofs.lemmas.List.{append-nil, take-append-drop, take_all, length-take-le}
+use Rattle.std.proofs.lemmas.List.{append-nil, take-append-drop, length-take-le}
 use Rattle.bac_tag.specs.declared.refusals.Refusal.{Refusal}
 use Rattle.bac_tag.specs.declared.refusals.Why.TheVariants.{Short, Trailing}
 use Rattle.bac_tag.specs.Spelling.{IsFurthest, IsRefusal}
@@ -32,10 +32,6 @@ whole_refused S input r h trails = record {
 }
 
 module _ {V : Type 0} (S : V → List ℕ → Type 0) (input : List ℕ) (v : V) (n : ℕ) (r : Refusal) (L : IsLongest S input v n) (R : IsReach S input r) where
-  -- all of them
-  pub whole_found : n ≡ length input → S v input
-  whole_found e = subst (S v) (take_all n input (omega (arith, e))) L.spelled
-
   too_short : n ≢ length input → (w : V) → S w input → ⊥
   too_short other w s = let most = L.most w input [] (sym (append-nil input)) s in let within = L.within in other (omega arith)
 

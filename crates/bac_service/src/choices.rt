@@ -13,7 +13,9 @@ use std::alloc::Global;
 /// The one or the other, as the first head says.
 #[derive(Drop)]
 pub(crate) enum Choice<A, B> {
+    /// The part that is tried first.
     First(A),
+    /// The part that is read where the first is not there.
     Second(B),
 }
 

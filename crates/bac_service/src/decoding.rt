@@ -1,12 +1,12 @@
-//! Reading all the octets, and writing all of a value.
+//! Decoding a value that takes all the octets.
 
 ghost use Rattle.std.specs.Prelude.{◌≡◌, ◌≢◌, IsTrue, IfOk, IfErr};
-ghost use Rattle.bac_tag.specs.Spelling.{IsLeast};
 ghost use Rattle.bac_service.specs.Productions.{HasMark};
+ghost use Rattle.bac_service.specs.Reasons.{IsServiceReason};
 ghost use Rattle.bac_service.specs.WholeInput.{IsWholeRefusal};
 
 use crate::productions::{Production, ReadFault};
-use bac_tag::{OutOfMemory, Refusal, Why};
+use bac_tag::{Refusal, Why};
 use std::alloc::Global;
 
 /// The value that all the octets spell, and the first of them that differs from the canonical ones.
@@ -23,6 +23,7 @@ pub(crate) fn decode<P: Production>(
     ensures mark { IfOk result (λ found. HasMark (P.spells (P.view found.0)) octets.now found.1) }
     ensures refused { IfErr result (λ refusal. refusal.why ≢ Why.OutOfMemory → IsWholeRefusal P.spells octets.now refusal) }
     ensures memory { IfErr result (λ refusal. refusal.why ≡ Why.OutOfMemory → (refusal.place ≡ 0) × IsTrue P.wants_memory) }
+    ensures reasons { IfErr result (λ refusal. IsServiceReason refusal.why) }
 {
     let front = match P::read(alloc, octets) {
         Ok(front) => front,
@@ -44,14 +45,4 @@ pub(crate) fn decode<P: Production>(
         });
     }
     Err(front.reach)
-}
-
-/// The least octets that spell a value.
-pub(crate) fn encode<P: Production>(alloc: Global, value: &P) -> Result<Vec<u8>, OutOfMemory>
-    requires { IsTrue P.is_sound }
-    ensures { IfOk result (λ out. IsLeast (P.spells (P.view value.now)) out.items) }
-{
-    let mut out = Vec::new(alloc);
-    value.write(&mut out)?;
-    Ok(out)
 }

@@ -9,9 +9,14 @@ use bac_tag::OutOfMemory;
 use bac_value::Enumerated;
 
 /// Why a request, or the reading of one property, failed (clause 18).
+///
+/// Octets (clause 21), each part under the application tag of its type: error class (Enumerated), error code
+/// (Enumerated).
 #[derive(Clone, Copy, Debug, PartialEq, Eq)]
 pub struct ErrorCause {
+    /// What the error has to do with, as a device, an object or a property. Any class is kept.
     pub class: Enumerated,
+    /// What went wrong. Any code is kept.
     pub code: Enumerated,
 }
 

@@ -3,16 +3,18 @@
 ghost use Rattle.std.specs.Prelude.{◌≡◌, ◌≢◌, ◌↔◌, ◌≤◌, ◌&&◌, ◌∷◌, ◌++◌, ◌^◌, [], false, not, nat_le, nat_eq, Some, None, Err, IsTrue, IfOk, IfErr, OnOk, length, take};
 ghost use Rattle.bac_tag.specs.Heads.{Heads};
 ghost use Rattle.bac_tag.specs.Spelling.{IsRefusal, Takes};
+ghost use Rattle.bac_value.specs.Primitives.{OfSize};
 ghost use Rattle.bac_service.specs.Leads.{context, application};
-ghost use Rattle.bac_service.specs.Fields.{heading, expected_heading, IsHeading, OfSize, IsField};
+ghost use Rattle.bac_service.specs.Fields.{heading, expected_heading, IsHeading, IsField};
 ghost use Rattle.bac_service.specs.FieldLaws.{field_lawful, field_inhabited, application_heading};
 ghost use Rattle.bac_service.specs.TagLaws.{number_within};
 ghost use Rattle.bac_service.specs.Productions.{HasMark, AppendsLeast};
+ghost use Rattle.bac_service.specs.Reasons.{IsPartReason};
 ghost use Rattle.bac_service.specs.ReadFaults.{IfRefused, EndsOrGoesOn};
 
-use crate::productions::{Front, Production, ReadFault, behind, complete_at};
+use crate::productions::{Front, Production, ReadFault, complete_at};
 use bac_tag::{
-    Expected, OutOfMemory, Refusal, TagHead, Why, joined_marks, mark_head, read_expected,
+    Expected, OutOfMemory, Refusal, TagHead, Why, joined_marks, mark_read_head, read_expected,
     write_head,
 };
 use bac_value::Primitive;
@@ -23,7 +25,7 @@ fn read_contents<T: Primitive>(alloc: Global, octets: &[u8], size: usize) -> Res
     requires size { (T.SHORTEST ≤ size) × (size ≤ T.LONGEST) }
     ensures found { IfOk result (λ value. Takes (OfSize T.contents size) octets.now (value, size)) }
     ensures refused { IfErr result (λ fault. IfRefused fault (IsRefusal (OfSize T.contents size) octets.now)) }
-    ensures known { IfErr result (λ fault. IfRefused fault (λ refusal. (refusal.why ≢ Why.Trailing) × (refusal.why ≢ Why.OutOfMemory))) }
+    ensures reasons { IfErr result (λ fault. IfRefused fault (λ refusal. IsPartReason refusal.why)) }
     ensures memory { result ≡ Err ReadFault.OutOfMemory → IsTrue T.wants_memory }
 {
     if octets.len() < size {
@@ -95,8 +97,9 @@ fn mark_of<T: Primitive>(
     requires headed { Heads (heading context T.APP (length contents.now)) head.now }
     ensures { HasMark (IsField (heading context T.APP) T.contents value.now) (head.now ++ contents.now) result }
 {
-    let len = value.written_len() as u32;
-    let mark = mark_head(head, head_of::<T>(context, len));
+    let read = head_of::<T>(context, contents.len() as u32);
+    let written = head_of::<T>(context, value.written_len() as u32);
+    let mark = mark_read_head(head, read, written);
     joined_marks(mark, head.len(), value.mark(contents))
 }
 
@@ -113,7 +116,7 @@ fn read_field<T: Primitive>(
     ensures short { IfOk result (λ front. (front.reach.why ≡ Why.Short) ↔ (front.taken ≡ length octets.now)) }
     ensures trailing { IfOk result (λ front. EndsOrGoesOn front.taken front.reach) }
     ensures refused { IfErr result (λ fault. IfRefused fault (IsRefusal (IsField (heading context T.APP) T.contents) octets.now)) }
-    ensures known { IfErr result (λ fault. IfRefused fault (λ refusal. (refusal.why ≢ Why.Trailing) × (refusal.why ≢ Why.OutOfMemory))) }
+    ensures reasons { IfErr result (λ fault. IfRefused fault (λ refusal. IsPartReason refusal.why)) }
     ensures memory { result ≡ Err ReadFault.OutOfMemory → IsTrue T.wants_memory }
 {
     let (head, start) = match read_expected(octets, expected_head::<T>(context)) {
@@ -135,7 +138,7 @@ fn read_field<T: Primitive>(
                 reach: complete_at(octets, start + size),
             })
         }
-        Err(ReadFault::Refused(refusal)) => Err(ReadFault::Refused(behind(start, refusal))),
+        Err(ReadFault::Refused(refusal)) => Err(ReadFault::Refused(refusal.behind(start))),
         Err(ReadFault::OutOfMemory) => Err(ReadFault::OutOfMemory),
     }
 }
@@ -180,15 +183,13 @@ impl<T: Primitive, const N: u8> Production for Field<T, N> {
     ghost wants_memory = { T.wants_memory };
 
     fn read(alloc: Global, octets: &[u8]) -> Result<Front<Field<T, N>>, ReadFault> {
-        match read_field::<T>(alloc, octets, Some(N)) {
-            Ok(front) => Ok(Front {
-                value: Field(front.value),
-                taken: front.taken,
-                mark: front.mark,
-                reach: front.reach,
-            }),
-            Err(fault) => Err(fault),
-        }
+        let front = read_field::<T>(alloc, octets, Some(N))?;
+        Ok(Front {
+            value: Field(front.value),
+            taken: front.taken,
+            mark: front.mark,
+            reach: front.reach,
+        })
     }
 
     fn write(&self, out: &mut Vec<u8>) -> Result<(), OutOfMemory> {
@@ -218,15 +219,13 @@ impl<T: Primitive> Production for ApplicationField<T> {
     ghost wants_memory = { T.wants_memory };
 
     fn read(alloc: Global, octets: &[u8]) -> Result<Front<ApplicationField<T>>, ReadFault> {
-        match read_field::<T>(alloc, octets, None) {
-            Ok(front) => Ok(Front {
-                value: ApplicationField(front.value),
-                taken: front.taken,
-                mark: front.mark,
-                reach: front.reach,
-            }),
-            Err(fault) => Err(fault),
-        }
+        let front = read_field::<T>(alloc, octets, None)?;
+        Ok(Front {
+            value: ApplicationField(front.value),
+            taken: front.taken,
+            mark: front.mark,
+            reach: front.reach,
+        })
     }
 
     fn write(&self, out: &mut Vec<u8>) -> Result<(), OutOfMemory> {

@@ -47,18 +47,14 @@ impl<P: Production, const N: u8> Production for Group<P, N> {
     ghost wants_memory = { P.wants_memory };
 
     fn read(alloc: Global, octets: &[u8]) -> Result<Front<Group<P, N>>, ReadFault> {
-        match <(Opening<N>, (P, Closing<N>))>::read(alloc, octets) {
-            Ok(front) => {
-                let (_, (part, _)) = front.value;
-                Ok(Front {
-                    value: Group(part),
-                    taken: front.taken,
-                    mark: front.mark,
-                    reach: front.reach,
-                })
-            }
-            Err(fault) => Err(fault),
-        }
+        let front = <(Opening<N>, (P, Closing<N>))>::read(alloc, octets)?;
+        let (_, (part, _)) = front.value;
+        Ok(Front {
+            value: Group(part),
+            taken: front.taken,
+            mark: front.mark,
+            reach: front.reach,
+        })
     }
 
     fn write(&self, out: &mut Vec<u8>) -> Result<(), OutOfMemory> {

@@ -12,6 +12,9 @@ use bac_tag::OutOfMemory;
 use bac_value::{Enumerated, ObjectId};
 
 /// What a device says of itself.
+///
+/// Octets (clause 21), each part under the application tag of its type: object identifier of the device,
+/// largest APDU (Unsigned), segmentation (Enumerated), vendor identifier (Unsigned below 65,536).
 #[derive(Clone, Copy, Debug, PartialEq, Eq)]
 pub struct IAm {
     /// The device.

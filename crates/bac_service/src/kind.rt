@@ -3,7 +3,7 @@
 ghost use Rattle.std.specs.Prelude.{◌≡◌, ◌∷◌, [], false};
 ghost use Rattle.bac_service.specs.Choices.{typed_choices, has_production};
 
-/// The APDUs that carry a service (clause 20.1.2).
+/// The APDUs that carry a service (clause 20.1).
 #[derive(Clone, Copy, Debug, PartialEq, Eq)]
 pub enum Kind {
     /// A request that wants an answer.

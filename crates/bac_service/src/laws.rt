@@ -1,13 +1,13 @@
 //! Laws of the definitions.
 
 ghost use Rattle.std.specs.Prelude.{◌≡◌, ◌↔◌, ◌⊎◌, ℕ, List, false, IsTrue};
-ghost use Rattle.bac_tag.specs.Spelling.{IsViable, IsPartway, OneOf};
+ghost use Rattle.bac_tag.specs.Spelling.{IsLeast, IsViable, IsPartway, OneOf};
 ghost use Rattle.bac_service.specs.declared.kind.Kind.{Kind};
 ghost use Rattle.bac_service.specs.Productions.{Both};
 ghost use Rattle.bac_service.specs.ServiceValues.{ServiceValue};
 ghost use Rattle.bac_service.specs.Services.{SpellsService};
 
-use crate::cov_notification::Notification;
+use crate::cov_notification::CovNotification;
 use crate::error_cause::ErrorCause;
 use crate::i_am::IAm;
 use crate::productions::Production;
@@ -38,8 +38,15 @@ pub fn services_have_one_value()
     parts_have_one_value::<Fields<WhoIs>>();
     parts_have_one_value::<Fields<IAm>>();
     parts_have_one_value::<Fields<SubscribeCov>>();
-    parts_have_one_value::<Fields<Notification>>();
+    parts_have_one_value::<Fields<CovNotification>>();
     parts_have_one_value::<Fields<ErrorCause>>();
+}
+
+/// Two services of one kind and one choice are the same exactly where their canonical octets are equal.
+pub fn canonical_octets_tell_the_service()
+    ensures { (kind : Kind) (choice : ℕ) (v w : ServiceValue) (c d : List ℕ) → IsLeast (SpellsService false kind choice v) c → IsLeast (SpellsService false kind choice w) d → (v ≡ w) ↔ (c ≡ d) }
+{
+    services_have_one_value();
 }
 
 /// A list begins a spelling of one part or another exactly where it begins one of either.

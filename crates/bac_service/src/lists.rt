@@ -6,7 +6,7 @@ ghost use Rattle.bac_service.specs.Productions.{Items};
 ghost use Rattle.bac_service.specs.ProductionLaws.{list_lawful, record_lawful};
 ghost use Rattle.bac_service.specs.ListLaws.{items_inhabited};
 
-use crate::productions::{Front, Production, ReadFault, behind, complete_at};
+use crate::productions::{Front, Production, ReadFault, complete_at};
 use crate::records::{Fields, Record};
 use bac_tag::{OutOfMemory, joined_marks};
 use std::alloc::Global;
@@ -38,7 +38,7 @@ impl<R: Record> Production for Vec<R> {
             match Fields::<R>::read(alloc, &octets[taken..]) {
                 Ok(item) => {
                     mark = joined_marks(mark, taken, item.mark);
-                    reach = behind(taken, item.reach).farther(reach);
+                    reach = item.reach.behind(taken).farther(reach);
                     taken += item.taken;
                     items.push(item.value.0)?;
                 }
@@ -47,7 +47,7 @@ impl<R: Record> Production for Vec<R> {
                         value: items,
                         taken,
                         mark,
-                        reach: behind(taken, refusal).farther(reach),
+                        reach: refusal.behind(taken).farther(reach),
                     });
                 }
                 Err(ReadFault::OutOfMemory) => return Err(ReadFault::OutOfMemory),

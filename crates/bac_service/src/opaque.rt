@@ -16,7 +16,7 @@ pub enum OpaqueFault {
     OutOfMemory,
 }
 
-/// A service of a kind and a choice without a production. It means its octets, whatever they are.
+/// A service of a kind and a choice without a production. It means its octets, whatever they are and however many.
 #[derive(Debug, Drop)]
 pub struct Opaque {
     kind: Kind,

@@ -64,38 +64,26 @@ impl<P: Production> Production for Option<P> {
 pub(crate) fn bare<T: Primitive, const N: u8>(field: Option<Field<T, N>>) -> Option<T>
     ensures { result ≡ option_map (λ field. field.0) field }
 {
-    match field {
-        Some(field) => Some(field.0),
-        None => None,
-    }
+    Some(field?.0)
 }
 
 /// The field of a value that may be absent.
 pub(crate) fn under<T: Primitive, const N: u8>(value: Option<T>) -> Option<Field<T, N>>
     ensures { option_map (λ field. field.0) result ≡ value }
 {
-    match value {
-        Some(value) => Some(Field(value)),
-        None => None,
-    }
+    Some(Field(value?))
 }
 
 /// The bit of a Boolean that may be absent.
 pub(crate) fn bit_of(value: Option<Boolean>) -> Option<bool>
     ensures { result ≡ option_map (λ value. value.0) value }
 {
-    match value {
-        Some(value) => Some(value.0),
-        None => None,
-    }
+    value.map(|value| value.0)
 }
 
 /// The Boolean of a bit that may be absent.
 pub(crate) fn boolean_of(bit: Option<bool>) -> Option<Boolean>
     ensures { option_map (λ value. value.0) result ≡ bit }
 {
-    match bit {
-        Some(bit) => Some(Boolean(bit)),
-        None => None,
-    }
+    bit.map(Boolean)
 }

@@ -6,7 +6,7 @@ ghost use Rattle.bac_service.specs.Productions.{Both};
 ghost use Rattle.bac_service.specs.ProductionLaws.{pair_lawful};
 ghost use Rattle.bac_service.specs.RefusalLaws.{sound_inhabited};
 
-use crate::productions::{Front, Production, ReadFault, behind};
+use crate::productions::{Front, Production, ReadFault};
 use bac_tag::{OutOfMemory, joined_marks};
 use std::alloc::Global;
 
@@ -28,21 +28,18 @@ impl<A: Production, B: Production> Production for (A, B) {
     ghost wants_memory = { A.wants_memory || B.wants_memory };
 
     fn read(alloc: Global, octets: &[u8]) -> Result<Front<(A, B)>, ReadFault> {
-        let first = match A::read(alloc, octets) {
-            Ok(first) => first,
-            Err(fault) => return Err(fault),
-        };
+        let first = A::read(alloc, octets)?;
         let taken = first.taken;
         match B::read(alloc, &octets[taken..]) {
             Ok(second) => Ok(Front {
                 value: (first.value, second.value),
                 taken: taken + second.taken,
                 mark: joined_marks(first.mark, taken, second.mark),
-                reach: behind(taken, second.reach).farther(first.reach),
+                reach: second.reach.behind(taken).farther(first.reach),
             }),
-            Err(ReadFault::Refused(refusal)) => Err(ReadFault::Refused(behind(
-                taken, refusal,
-            ).farther(first.reach))),
+            Err(ReadFault::Refused(refusal)) => Err(ReadFault::Refused(
+                refusal.behind(taken).farther(first.reach),
+            )),
             Err(ReadFault::OutOfMemory) => Err(ReadFault::OutOfMemory),
         }
     }

@@ -1,11 +1,11 @@
 //! The parts of a production (clause 21): what each is spelled by, how it is read and how it is written.
 
-ghost use Rattle.std.specs.Prelude.{◌≡◌, ◌≢◌, ◌↔◌, ◌+◌, ◌^◌, ◌<◌, ℕ, Bool, List, take, length, IsTrue, IfOk, IfErr, OnOk, Err};
+ghost use Rattle.std.specs.Prelude.{◌≡◌, ◌≢◌, ◌↔◌, ℕ, Bool, List, take, length, IsTrue, IfOk, IfErr, OnOk, Err};
 ghost use Rattle.bac_tag.specs.Spelling.{IsRefusal};
 ghost use Rattle.bac_service.specs.Leads.{Lead};
 ghost use Rattle.bac_service.specs.Productions.{Lawful, IsInhabited, IsLongest, IsReach, HasMark, AppendsLeast};
+ghost use Rattle.bac_service.specs.Reasons.{IsPartReason, IsReachReason};
 ghost use Rattle.bac_service.specs.ReadFaults.{IfRefused, EndsOrGoesOn};
-ghost use Rattle.bac_service.specs.RefusalLaws.{behind};
 
 use bac_tag::{OutOfMemory, Refusal, Why};
 use std::alloc::{AllocFailed, Global};
@@ -32,6 +32,7 @@ impl<T: Drop> From<AllocFailed<T>> for ReadFault {
 /// What stands at the front of octets.
 #[derive(Drop)]
 pub(crate) struct Front<T> {
+    /// What the octets spell.
     pub(crate) value: T,
     /// How many octets it takes.
     pub(crate) taken: usize,
@@ -41,22 +42,11 @@ pub(crate) struct Front<T> {
     pub(crate) reach: Refusal,
 }
 
-/// The refusal, as it is seen from so many octets before.
-pub(crate) fn behind(taken: usize, refusal: Refusal) -> Refusal
-    requires { taken + refusal.place < 2 ^ 64 }
-    ensures { result ≡ behind taken refusal }
-{
-    Refusal {
-        place: taken + refusal.place,
-        why: refusal.why,
-    }
-}
-
 /// How far octets may be spelled of which so many are a whole spelling, and no more can be: the rest trails.
 pub(crate) fn complete_at(octets: &[u8], taken: usize) -> Refusal
     ensures place { result.place ≡ taken }
     ensures short { (result.why ≡ Why.Short) ↔ (taken ≡ length octets.now) }
-    ensures known { result.why ≢ Why.OutOfMemory }
+    ensures reason { IsReachReason result.why }
 {
     let why = if taken == octets.len() {
         Why::Short
@@ -100,7 +90,7 @@ pub(crate) trait Production: Drop {
         ensures reach { IfOk result (λ front. IsReach spells octets.now front.reach) }
         ensures trailing { IfOk result (λ front. EndsOrGoesOn front.taken front.reach) }
         ensures refused { IfErr result (λ fault. IfRefused fault (IsRefusal spells octets.now)) }
-        ensures known { IfErr result (λ fault. IfRefused fault (λ refusal. (refusal.why ≢ Why.Trailing) × (refusal.why ≢ Why.OutOfMemory))) }
+        ensures reasons { IfErr result (λ fault. IfRefused fault (λ refusal. IsPartReason refusal.why)) }
         ensures memory { result ≡ Err ReadFault.OutOfMemory → IsTrue wants_memory };
 
     /// Appends the least spelling. Where memory is refused some octets may be there.

@@ -11,8 +11,11 @@ use bac_tag::OutOfMemory;
 use bac_value::Enumerated;
 
 /// A property of an object, or one element of it.
+///
+/// Octets (clause 21): `[0]` property identifier, `[1]` array index (optional).
 #[derive(Clone, Copy, Debug, PartialEq, Eq)]
 pub struct PropertyReference {
+    /// The identifier of the property.
     pub property: Enumerated,
     /// The index of the element, where the property is an array.
     pub index: Option<Unsigned32>,

@@ -18,18 +18,27 @@ use bac_tag::OutOfMemory;
 use bac_value::Enumerated;
 
 /// The value of a property, or why it could not be read.
+///
+/// Octets (clause 21): `[4] {` value `}` or `[5] {` error `}`.
 #[derive(Debug, Drop)]
 pub enum ReadResult {
+    /// The value that was read.
     Value(Any),
+    /// Why there is none.
     Error(ErrorCause),
 }
 
 /// A property, or one element of it, and what reading it gave.
+///
+/// Octets (clause 21): `[2]` property identifier, `[3]` array index (optional), then the result. The tags go on
+/// from those of the ReadAccessResult in which it stands.
 #[derive(Debug, Drop)]
 pub struct PropertyResult {
+    /// The identifier of the property.
     pub property: Enumerated,
     /// The index of the element, where the property is an array.
     pub index: Option<Unsigned32>,
+    /// The value, or the error.
     pub result: ReadResult,
 }
 

@@ -13,11 +13,16 @@ use bac_tag::OutOfMemory;
 use bac_value::{Enumerated, Priority};
 
 /// The value of a property, or of one element of it.
+///
+/// Octets (clause 21): `[0]` property identifier, `[1]` array index (optional), `[2] {` value `}`,
+/// `[3]` priority (optional).
 #[derive(Debug, Drop)]
 pub struct PropertyValue {
+    /// The identifier of the property.
     pub property: Enumerated,
     /// The index of the element, where the property is an array.
     pub index: Option<Unsigned32>,
+    /// The value of the property or of its element.
     pub value: Any,
     /// The priority, where the property is commanded.
     pub priority: Option<Priority>,

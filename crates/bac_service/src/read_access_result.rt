@@ -11,10 +11,13 @@ use bac_tag::OutOfMemory;
 use bac_value::ObjectId;
 
 /// An object, and what reading its properties gave.
+///
+/// Octets (clause 21): `[0]` object identifier, `[1] {` list of results `}` (optional).
 #[derive(Debug, Drop)]
 pub struct ReadAccessResult {
+    /// The object that has the properties.
     pub object: ObjectId,
-    /// An empty list is not the same as none.
+    /// The results, in their order. An empty list has its tags and is not the same as none.
     pub results: Option<Vec<PropertyResult>>,
 }
 

@@ -11,9 +11,13 @@ use bac_tag::OutOfMemory;
 use bac_value::ObjectId;
 
 /// An object, and those of its properties that are asked for.
+///
+/// Octets (clause 21): `[0]` object identifier, `[1] {` list of property references `}`.
 #[derive(Debug, Drop)]
 pub struct ReadAccessSpecification {
+    /// The object that has the properties.
     pub object: ObjectId,
+    /// The properties to read, in their order. There may be none.
     pub properties: Vec<PropertyReference>,
 }
 

@@ -12,9 +12,13 @@ use bac_tag::OutOfMemory;
 use bac_value::{Enumerated, ObjectId};
 
 /// A request for one property of an object, or for one element of it.
+///
+/// Octets (clause 21): `[0]` object identifier, `[1]` property identifier, `[2]` array index (optional).
 #[derive(Clone, Copy, Debug, PartialEq, Eq)]
 pub struct ReadProperty {
+    /// The object that has the property.
     pub object: ObjectId,
+    /// The identifier of the property.
     pub property: Enumerated,
     /// The index of the element, where the property is an array.
     pub index: Option<Unsigned32>,

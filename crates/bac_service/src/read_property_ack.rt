@@ -13,12 +13,18 @@ use bac_tag::OutOfMemory;
 use bac_value::{Enumerated, ObjectId};
 
 /// The value of a property that was asked for, or of one element of it.
+///
+/// Octets (clause 21): `[0]` object identifier, `[1]` property identifier, `[2]` array index (optional),
+/// `[3] {` value `}`.
 #[derive(Debug, Drop)]
 pub struct ReadPropertyAck {
+    /// The object that has the property.
     pub object: ObjectId,
+    /// The identifier of the property.
     pub property: Enumerated,
     /// The index of the element, where the property is an array.
     pub index: Option<Unsigned32>,
+    /// The value that was read.
     pub value: Any,
 }
 

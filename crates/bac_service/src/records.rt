@@ -57,15 +57,13 @@ impl<R: Record> Production for Fields<R> {
     ghost wants_memory = { R.Parts.wants_memory };
 
     fn read(alloc: Global, octets: &[u8]) -> Result<Front<Fields<R>>, ReadFault> {
-        match R::Parts::read(alloc, octets) {
-            Ok(front) => Ok(Front {
-                value: Fields(R::from_parts(front.value)),
-                taken: front.taken,
-                mark: front.mark,
-                reach: front.reach,
-            }),
-            Err(fault) => Err(fault),
-        }
+        let front = R::Parts::read(alloc, octets)?;
+        Ok(Front {
+            value: Fields(R::from_parts(front.value)),
+            taken: front.taken,
+            mark: front.mark,
+            reach: front.reach,
+        })
     }
 
     fn write(&self, out: &mut Vec<u8>) -> Result<(), OutOfMemory> {

@@ -19,16 +19,28 @@ use crate::write_property::WriteProperty;
 /// A service: a typed one, or any other, which means its octets.
 #[derive(Debug, Drop)]
 pub enum Service {
+    /// ReadProperty: a confirmed request, choice 12.
     ReadProperty(ReadProperty),
+    /// ReadProperty-ACK: an answer with contents, choice 12.
     ReadPropertyAck(ReadPropertyAck),
+    /// WriteProperty: a confirmed request, choice 15.
     WriteProperty(WriteProperty),
+    /// ReadPropertyMultiple: a confirmed request, choice 14.
     ReadPropertyMultiple(ReadPropertyMultiple),
+    /// ReadPropertyMultiple-ACK: an answer with contents, choice 14.
     ReadPropertyMultipleAck(ReadPropertyMultipleAck),
+    /// Who-Is: an unconfirmed request, choice 8.
     WhoIs(WhoIs),
+    /// I-Am: an unconfirmed request, choice 0.
     IAm(IAm),
+    /// SubscribeCOV: a confirmed request, choice 5.
     SubscribeCov(SubscribeCov),
+    /// ConfirmedCOVNotification: a confirmed request, choice 1. UnconfirmedCOVNotification: an unconfirmed request,
+    /// choice 2.
     CovNotification(CovNotification),
+    /// The answer to a confirmed request of choice 1, 5, 12, 14 or 15 that failed.
     ServiceError(ServiceError),
+    /// A service of any other kind and choice.
     Opaque(Opaque),
 }
 

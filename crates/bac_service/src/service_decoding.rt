@@ -3,6 +3,7 @@
 ghost use Rattle.std.specs.Prelude.{◌≡◌, ◌≢◌, false, IfOk, IfErr};
 ghost use Rattle.bac_service.specs.declared.kind.Kind.TheVariants.{Confirmed, Unconfirmed, ComplexAck, Error};
 ghost use Rattle.bac_service.specs.Productions.{HasMark};
+ghost use Rattle.bac_service.specs.Reasons.{IsServiceReason};
 ghost use Rattle.bac_service.specs.WholeInput.{IsWholeRefusal};
 ghost use Rattle.bac_service.specs.Choices.{has_production};
 ghost use Rattle.bac_service.specs.ServiceValues.{value_of};
@@ -112,6 +113,7 @@ pub fn decode_service_marked(
     ensures mark { IfOk result (λ found. HasMark (SpellsService false kind choice (value_of found.0)) octets.now found.1) }
     ensures refused { IfErr result (λ refusal. refusal.why ≢ Why.OutOfMemory → IsWholeRefusal (SpellsService false kind choice) octets.now refusal) }
     ensures memory { IfErr result (λ refusal. refusal.why ≡ Why.OutOfMemory → (refusal.place ≡ 0) × (is_small kind choice ≡ false)) }
+    ensures reasons { IfErr result (λ refusal. IsServiceReason refusal.why) }
 {
     decode_kind(alloc, kind, choice, octets)
 }
@@ -129,9 +131,8 @@ pub fn decode_service(
     ensures found { IfOk result (λ service. SpellsService false kind choice (value_of service) octets.now) }
     ensures refused { IfErr result (λ refusal. refusal.why ≢ Why.OutOfMemory → IsWholeRefusal (SpellsService false kind choice) octets.now refusal) }
     ensures memory { IfErr result (λ refusal. refusal.why ≡ Why.OutOfMemory → (refusal.place ≡ 0) × (is_small kind choice ≡ false)) }
+    ensures reasons { IfErr result (λ refusal. IsServiceReason refusal.why) }
 {
-    match decode_service_marked(alloc, kind, choice, octets) {
-        Ok((service, _)) => Ok(service),
-        Err(refusal) => Err(refusal),
-    }
+    let (service, _) = decode_service_marked(alloc, kind, choice, octets)?;
+    Ok(service)
 }

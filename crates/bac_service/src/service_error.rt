@@ -14,6 +14,9 @@ use bac_value::Enumerated;
 use std::marker::Model;
 
 /// Why a request of one of the typed confirmed services failed.
+///
+/// Octets (clause 21): those of its [`ErrorCause`]. The choice stands in front of them, in the header of the
+/// APDU.
 #[derive(Clone, Copy, Debug, PartialEq, Eq)]
 pub struct ServiceError {
     choice: u8,

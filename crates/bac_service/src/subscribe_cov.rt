@@ -13,10 +13,14 @@ use bac_value::{Boolean, ObjectId};
 
 /// A request to be told of changes of an object's values or, with neither `confirmed` nor `lifetime`, to be
 /// told no more.
+///
+/// Octets (clause 21): `[0]` subscriber process identifier, `[1]` monitored object identifier, `[2]` issue
+/// confirmed notifications (optional), `[3]` lifetime (optional).
 #[derive(Clone, Copy, Debug, PartialEq, Eq)]
 pub struct SubscribeCov {
     /// The number of the subscriber's process.
     pub process: Unsigned32,
+    /// The object to watch.
     pub object: ObjectId,
     /// Whether the notifications are to be confirmed.
     pub confirmed: Option<bool>,

@@ -7,7 +7,7 @@ ghost use Rattle.bac_service.specs.ProductionLaws.{Head, head_lawful};
 ghost use Rattle.bac_service.specs.TagLaws.{opening_inhabited, closing_inhabited};
 
 use crate::productions::{Front, Production, ReadFault, complete_at};
-use bac_tag::{Expected, OutOfMemory, TagHead, mark_head, read_expected, write_head};
+use bac_tag::{Expected, OutOfMemory, TagHead, mark_read_head, read_expected, write_head};
 use std::alloc::Global;
 
 /// An opening tag.
@@ -37,10 +37,10 @@ impl<const N: u8> Production for Opening<N> {
 
     fn read(_alloc: Global, octets: &[u8]) -> Result<Front<Opening<N>>, ReadFault> {
         match read_expected(octets, Expected::Open(Some(N))) {
-            Ok((_, taken)) => Ok(Front {
+            Ok((tag, taken)) => Ok(Front {
                 value: Opening,
                 taken,
-                mark: mark_head(&octets[..taken], TagHead::Open(N)),
+                mark: mark_read_head(&octets[..taken], tag, TagHead::Open(N)),
                 reach: complete_at(octets, taken),
             }),
             Err(refusal) => Err(ReadFault::Refused(refusal)),
@@ -76,10 +76,10 @@ impl<const N: u8> Production for Closing<N> {
 
     fn read(_alloc: Global, octets: &[u8]) -> Result<Front<Closing<N>>, ReadFault> {
         match read_expected(octets, Expected::Close(Some(N))) {
-            Ok((_, taken)) => Ok(Front {
+            Ok((tag, taken)) => Ok(Front {
                 value: Closing,
                 taken,
-                mark: mark_head(&octets[..taken], TagHead::Close(N)),
+                mark: mark_read_head(&octets[..taken], tag, TagHead::Close(N)),
                 reach: complete_at(octets, taken),
             }),
             Err(refusal) => Err(ReadFault::Refused(refusal)),

@@ -6,7 +6,7 @@ ghost use Rattle.bac_service.specs.Choices.{has_production};
 ghost use Rattle.bac_service.specs.Decoded.{IsDecoded};
 ghost use Rattle.bac_service.specs.ServiceValues.{notification_kind, notification_choice};
 
-use crate::cov_notification::Notification;
+use crate::cov_notification::CovNotification;
 use crate::decoding::decode;
 use crate::error_cause::ErrorCause;
 use crate::i_am::IAm;
@@ -32,43 +32,35 @@ pub(crate) type Marked = (Service, Option<usize>);
 pub(crate) fn decode_read_property(alloc: Global, octets: &[u8]) -> Result<Marked, Refusal>
     ensures { IsDecoded Confirmed 12 octets.now result }
 {
-    match decode::<Fields<ReadProperty>>(alloc, octets) {
-        Ok((request, mark)) => Ok((Service::ReadProperty(request.0), mark)),
-        Err(refusal) => Err(refusal),
-    }
+    let (request, mark) = decode::<Fields<ReadProperty>>(alloc, octets)?;
+    Ok((Service::ReadProperty(request.0), mark))
 }
 
 /// Decodes ReadProperty-ACK.
 pub(crate) fn decode_read_property_ack(alloc: Global, octets: &[u8]) -> Result<Marked, Refusal>
     ensures { IsDecoded ComplexAck 12 octets.now result }
 {
-    match decode::<Fields<ReadPropertyAck>>(alloc, octets) {
-        Ok((ack, mark)) => Ok((Service::ReadPropertyAck(ack.0), mark)),
-        Err(refusal) => Err(refusal),
-    }
+    let (ack, mark) = decode::<Fields<ReadPropertyAck>>(alloc, octets)?;
+    Ok((Service::ReadPropertyAck(ack.0), mark))
 }
 
 /// Decodes WriteProperty.
 pub(crate) fn decode_write_property(alloc: Global, octets: &[u8]) -> Result<Marked, Refusal>
     ensures { IsDecoded Confirmed 15 octets.now result }
 {
-    match decode::<Fields<WriteProperty>>(alloc, octets) {
-        Ok((request, mark)) => Ok((Service::WriteProperty(request.0), mark)),
-        Err(refusal) => Err(refusal),
-    }
+    let (request, mark) = decode::<Fields<WriteProperty>>(alloc, octets)?;
+    Ok((Service::WriteProperty(request.0), mark))
 }
 
 /// Decodes ReadPropertyMultiple.
 pub(crate) fn decode_read_property_multiple(alloc: Global, octets: &[u8]) -> Result<Marked, Refusal>
     ensures { IsDecoded Confirmed 14 octets.now result }
 {
-    match decode::<Vec<ReadAccessSpecification>>(alloc, octets) {
-        Ok((specs, mark)) => Ok((
-            Service::ReadPropertyMultiple(ReadPropertyMultiple { specs }),
-            mark,
-        )),
-        Err(refusal) => Err(refusal),
-    }
+    let (specs, mark) = decode::<Vec<ReadAccessSpecification>>(alloc, octets)?;
+    Ok((
+        Service::ReadPropertyMultiple(ReadPropertyMultiple { specs }),
+        mark,
+    ))
 }
 
 /// Decodes ReadPropertyMultiple-ACK.
@@ -78,43 +70,35 @@ pub(crate) fn decode_read_property_multiple_ack(
 ) -> Result<Marked, Refusal>
     ensures { IsDecoded ComplexAck 14 octets.now result }
 {
-    match decode::<Vec<ReadAccessResult>>(alloc, octets) {
-        Ok((results, mark)) => Ok((
-            Service::ReadPropertyMultipleAck(ReadPropertyMultipleAck { results }),
-            mark,
-        )),
-        Err(refusal) => Err(refusal),
-    }
+    let (results, mark) = decode::<Vec<ReadAccessResult>>(alloc, octets)?;
+    Ok((
+        Service::ReadPropertyMultipleAck(ReadPropertyMultipleAck { results }),
+        mark,
+    ))
 }
 
 /// Decodes Who-Is.
 pub(crate) fn decode_who_is(alloc: Global, octets: &[u8]) -> Result<Marked, Refusal>
     ensures { IsDecoded Unconfirmed 8 octets.now result }
 {
-    match decode::<Fields<WhoIs>>(alloc, octets) {
-        Ok((request, mark)) => Ok((Service::WhoIs(request.0), mark)),
-        Err(refusal) => Err(refusal),
-    }
+    let (request, mark) = decode::<Fields<WhoIs>>(alloc, octets)?;
+    Ok((Service::WhoIs(request.0), mark))
 }
 
 /// Decodes I-Am.
 pub(crate) fn decode_i_am(alloc: Global, octets: &[u8]) -> Result<Marked, Refusal>
     ensures { IsDecoded Unconfirmed 0 octets.now result }
 {
-    match decode::<Fields<IAm>>(alloc, octets) {
-        Ok((request, mark)) => Ok((Service::IAm(request.0), mark)),
-        Err(refusal) => Err(refusal),
-    }
+    let (request, mark) = decode::<Fields<IAm>>(alloc, octets)?;
+    Ok((Service::IAm(request.0), mark))
 }
 
 /// Decodes SubscribeCOV.
 pub(crate) fn decode_subscribe_cov(alloc: Global, octets: &[u8]) -> Result<Marked, Refusal>
     ensures { IsDecoded Confirmed 5 octets.now result }
 {
-    match decode::<Fields<SubscribeCov>>(alloc, octets) {
-        Ok((request, mark)) => Ok((Service::SubscribeCov(request.0), mark)),
-        Err(refusal) => Err(refusal),
-    }
+    let (request, mark) = decode::<Fields<SubscribeCov>>(alloc, octets)?;
+    Ok((Service::SubscribeCov(request.0), mark))
 }
 
 /// Decodes a notification, confirmed or not.
@@ -125,13 +109,12 @@ pub(crate) fn decode_notification(
 ) -> Result<Marked, Refusal>
     ensures { IsDecoded (notification_kind confirmed) (notification_choice confirmed) octets.now result }
 {
-    match decode::<Fields<Notification>>(alloc, octets) {
-        Ok((notification, mark)) => {
-            let notification = notification.0.into_service(confirmed);
-            Ok((Service::CovNotification(notification), mark))
-        }
-        Err(refusal) => Err(refusal),
-    }
+    let (notification, mark) = decode::<Fields<CovNotification>>(alloc, octets)?;
+    let notification = CovNotification {
+        confirmed,
+        ..notification.0
+    };
+    Ok((Service::CovNotification(notification), mark))
 }
 
 /// Decodes the error of the typed service with this choice.
@@ -139,11 +122,9 @@ pub(crate) fn decode_error(alloc: Global, choice: u8, octets: &[u8]) -> Result<M
     requires { has_production false Error choice ≡ true }
     ensures { IsDecoded Error choice octets.now result }
 {
-    match decode::<Fields<ErrorCause>>(alloc, octets) {
-        Ok((cause, mark)) => Ok((
-            Service::ServiceError(ServiceError::of(choice, cause.0)),
-            mark,
-        )),
-        Err(refusal) => Err(refusal),
-    }
+    let (cause, mark) = decode::<Fields<ErrorCause>>(alloc, octets)?;
+    Ok((
+        Service::ServiceError(ServiceError::of(choice, cause.0)),
+        mark,
+    ))
 }

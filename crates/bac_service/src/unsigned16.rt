@@ -15,7 +15,8 @@ use std::alloc::Global;
 /// The largest number.
 const MOST: u64 = 0xFFFF;
 
-/// An Unsigned below 2^16 (clause 20.2.4), of which the fewest octets are written.
+/// An Unsigned below 2^16 (clause 20.2.4): 1 to 8 octets, the most significant octet first. The fewest are
+/// written.
 #[derive(Clone, Copy, Debug, PartialEq, Eq)]
 pub struct Unsigned16(pub u16);
 

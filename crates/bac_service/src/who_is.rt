@@ -10,6 +10,8 @@ use bac_tag::OutOfMemory;
 use bac_value::Instance;
 
 /// A question for devices: for those whose instances lie within limits, or for all of them.
+///
+/// Octets (clause 21): none, or `[0]` low limit and `[1]` high limit. Each limit is 0 to 4,194,303.
 #[derive(Clone, Copy, Debug, PartialEq, Eq)]
 pub struct WhoIs {
     /// The lowest instance that is asked for, and the highest.

@@ -13,12 +13,18 @@ use bac_tag::OutOfMemory;
 use bac_value::{Enumerated, ObjectId, Priority};
 
 /// A request to write a property of an object, or one element of it.
+///
+/// Octets (clause 21): `[0]` object identifier, `[1]` property identifier, `[2]` array index (optional),
+/// `[3] {` value `}`, `[4]` priority (optional).
 #[derive(Debug, Drop)]
 pub struct WriteProperty {
+    /// The object that has the property.
     pub object: ObjectId,
+    /// The identifier of the property.
     pub property: Enumerated,
     /// The index of the element, where the property is an array.
     pub index: Option<Unsigned32>,
+    /// The value to write.
     pub value: Any,
     /// The priority, where the property is commanded.
     pub priority: Option<Priority>,

@@ -3,7 +3,7 @@
 use super::{encoded, object};
 use crate::{
     CovNotification, Kind, PropertyReference, ReadAccessSpecification, ReadProperty,
-    ReadPropertyMultiple, Service, Unsigned32, WhoIs, decode_service,
+    ReadPropertyMultiple, Service, Unsigned32, WhoIs, decode_service, laws,
 };
 use bac_tag::{Refusal, Why};
 use bac_value::{Enumerated, Instance};
@@ -99,4 +99,11 @@ fn a_service_is_read_without_its_mark(rt: HostRuntime) -> Result<(), Fail> {
     let (place, why) = (2, Why::Short);
     assert_eq!(rt; refusal, Some(Refusal { place, why }));
     Ok(())
+}
+
+// The laws are functions that do nothing: their contracts are what they say.
+#[test]
+fn laws_can_be_called() {
+    laws::services_have_one_value();
+    laws::canonical_octets_tell_the_service();
 }

@@ -1,12 +1,13 @@
 use Rattle.std.specs.Prelude.{◌≢◌, length}
 use Rattle.std.proofs.Common.{arith}
+use Rattle.bac_service.specs.Reasons.{part_trails}
 use Rattle.bac_service.specs.WholeLaws.{whole_refused, whole_trails, whole_reaches}
 use Rattle.bac_service.proofs.decoding.decode.Goals as goal
 
 pub returns-in-Err-Refused-clause-refused : goal.returns-in-Err-Refused-clause-refused
 returns-in-Err-Refused-clause-refused g c = λ memory.
     let told = rw c.in-Err-Refused.field-0-is at c.in-Err-Refused.ensures in
-    whole_refused g.P.Production.spells c.args.octets.now c.in-Err-Refused.refusal told.refused told.known.0
+    whole_refused g.P.Production.spells c.args.octets.now c.in-Err-Refused.refusal told.refused (part_trails c.in-Err-Refused.refusal.why told.reasons)
 
 pub returns-then-front-clause-refused : goal.returns-then-front-clause-refused
 returns-then-front-clause-refused g c = λ memory.

@@ -1,14 +1,15 @@
+use Rattle.std.proofs.lemmas.Result.{err_from_is_err_and}
 use Rattle.bac_service.specs.ServiceValues.{notification_kind, notification_choice}
 use Rattle.bac_service.specs.CovNotification.{notification_of}
 use Rattle.bac_service.specs.TypedLaws.{notification_told, notification_named_as}
 use Rattle.bac_service.specs.Decoded.{found_as, refused_as, notification_large}
 use Rattle.bac_service.proofs.typed.decode_notification.Goals as goal
 
-pub returns-in-Ok : goal.returns-in-Ok
-returns-in-Ok c =
-    found_as (notification_kind c.args.confirmed) (notification_choice c.args.confirmed) c.args.octets.now _ _
-    (rw (c.into_service-notification.ensures.confirmed, c.into_service-notification.ensures.notified) (notification_told c.args.confirmed (notification_of c.in-Ok.notification.0))) c.in-Ok.ensures.found c.in-Ok.ensures.mark
+pub returns : goal.returns
+returns c =
+    found_as (notification_kind c.args.confirmed) (notification_choice c.args.confirmed) c.args.octets.now _ _ (notification_told c.args.confirmed (notification_of c.in_ok-notification.notification.0)) c.in_ok-notification.ensures.found c.in_ok-notification.ensures.mark
 
-pub returns-in-Err : goal.returns-in-Err
-returns-in-Err c =
-    refused_as (notification_kind c.args.confirmed) (notification_choice c.args.confirmed) c.args.octets.now c.in-Err.refusal (notification_named_as c.args.confirmed) c.in-Err.ensures.refused (λ w. ((c.in-Err.ensures.memory w).0, notification_large c.args.confirmed))
+pub returns-in_err-notification : goal.returns-in_err-notification
+returns-in_err-notification c =
+    let p = err_from_is_err_and c.from_residual.result c.from_residual.ensures.1 in
+    rw (p.1, p.2) (refused_as (notification_kind c.args.confirmed) (notification_choice c.args.confirmed) c.args.octets.now _ (notification_named_as c.args.confirmed) c.in_err-notification.ensures.refused (λ w. ((c.in_err-notification.ensures.memory w).0, notification_large c.args.confirmed)) c.in_err-notification.ensures.reasons)

@@ -1,8 +1,7 @@
 use Rattle.std.proofs.Common.{ap, sym, subst, ◌∙◌, map, ◌∷◌, []}
 use Rattle.bac_tag.specs.declared.refusals.Refusal.{Refusal}
-use Rattle.bac_tag.specs.Refusals.{farther_of}
+use Rattle.bac_tag.specs.Refusals.{farther_of, behind}
 use Rattle.bac_service.specs.Productions.{Items, IsReach}
-use Rattle.bac_service.specs.RefusalLaws.{behind}
 use Rattle.bac_service.specs.ReadFaults.{EndsOrGoesOn}
 use Rattle.std.proofs.lemmas.List.{take_rest, map-append}
 use Rattle.bac_service.specs.ProductionLaws.{record_lawful}
@@ -10,7 +9,7 @@ use Rattle.bac_service.specs.ListLaws.{items_start, items_next, items_end, items
 use Rattle.bac_service.proofs.lists.VecProduction.read.Goals as goal
 
 pub loop-item-init : goal.loop-item-init
-loop-item-init g c = rw c.new-items.ensures.items (items_start g.R.Record.spells c.args.octets.now c.complete_at-reach.result c.complete_at-reach.ensures.place c.complete_at-reach.ensures.short c.complete_at-reach.ensures.known)
+loop-item-init g c = rw c.new-items.ensures.items (items_start g.R.Record.spells c.args.octets.now c.complete_at-reach.result c.complete_at-reach.ensures.place c.complete_at-reach.ensures.short c.complete_at-reach.ensures.reason)
 
 pub loop-item-preserved : goal.loop-item-preserved
 loop-item-preserved g c =
@@ -33,5 +32,5 @@ returns-in-Err-Refused-clause-reach g c =
 pub returns-in-Err-Refused-clause-trailing : goal.returns-in-Err-Refused-clause-trailing
 returns-in-Err-Refused-clause-trailing g c =
     let told = rw c.in-Err-Refused.field-0-is at c.in-Err-Refused.ensures in
-    let ends = items_ends g.R.Parts.Production.is_sound (λ sound. record_lawful g.met.R.Record.of_parts (g.met.R.Parts.Production.lawful sound)) c.requires c.loop-item.invariant c.in-Err-Refused.refusal told.known.0 told.known.1 in
+    let ends = items_ends g.R.Parts.Production.is_sound (λ sound. record_lawful g.met.R.Record.of_parts (g.met.R.Parts.Production.lawful sound)) c.requires c.loop-item.invariant c.in-Err-Refused.refusal told.reasons in
     subst (EndsOrGoesOn c.loop-item.taken) (sym (c.farther.ensures ∙ ap (λ (r : Refusal). farther_of r c.loop-item.reach) c.behind-in-Err-Refused.ensures ∙ ap (λ (r : Refusal). farther_of (behind c.loop-item.taken r) c.loop-item.reach) c.in-Err-Refused.refusal-is)) ends

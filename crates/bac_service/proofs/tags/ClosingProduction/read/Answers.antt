@@ -6,7 +6,7 @@ use Rattle.bac_service.proofs.tags.ClosingProduction.read.Goals as goal
 pub returns-in-Ok-clause-mark : goal.returns-in-Ok-clause-mark
 returns-in-Ok-clause-mark g c =
     let l = some_least (Close g.row.N) (number_within g.row.N c.requires) tt in
-    head_mark (Close g.row.N) _ c.mark_head.result l.0 l.1 (c.mark_head.ensures l.0 l.1)
+    head_mark (Close g.row.N) _ c.mark_read_head.result l.0 l.1 (c.mark_read_head.ensures l.0 l.1)
 
 pub returns-in-Ok-clause-reach : goal.returns-in-Ok-clause-reach
 returns-in-Ok-clause-reach g c = tag_reach (Close g.row.N) c.args.octets.now c.in-Ok.taken c.complete_at.result (closing_taken g.row.N c.args.octets.now _ c.in-Ok.taken c.in-Ok.ensures.found) c.complete_at.ensures.place c.complete_at.ensures.short

@@ -1,7 +1,7 @@
 use Rattle.std.proofs.lemmas.List.{map-id}
 use Rattle.std.proofs.lemmas.Result.{on_ok_weaker}
 use Rattle.bac_service.specs.LeastLaws.{appends_joined}
-use Rattle.bac_service.proofs.cov_notification.write_parts.Goals as goal
+use Rattle.bac_service.proofs.cov_notification.CovNotificationRecord.write_fields.Goals as goal
 
 pub returns : goal.returns
 returns c =
