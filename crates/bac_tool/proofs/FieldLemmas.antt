@@ -1,7 +1,7 @@
 -- Fields: a head and the contents behind it.
-use Rattle.std.proofs.Common.{◌≡◌, ℕ, ◌+◌, ◌-◌, ◌^◌, ◌<◌, ◌≤◌, inl, inr, Option, None, Some, List, [], ◌++◌, length, take, drop, arith, refl, sym, ap, subst, ◌∙◌, append_assoc, length-append, length-take, length-drop, take-append-drop}
+use Rattle.std.proofs.Common.{◌≡◌, ℕ, ◌+◌, ◌^◌, ◌<◌, ◌≤◌, inl, inr, Option, None, Some, List, [], ◌++◌, length, take, drop, arith, refl, sym, ap, subst, ◌∙◌, append_assoc, length-append, length-take, length-drop, take-append-drop}
 use Rattle.std.specs.Prelude.{IfNone, IfSome}
-use Rattle.std.proofs.lemmas.List.{take_all, append_cancel_left}
+use Rattle.std.proofs.lemmas.List.{append_cancel_left}
 use Rattle.bac_tag.specs.declared.refusals.Refusal.{Refusal}
 use Rattle.bac_tag.specs.declared.heads.TagHead.{TagHead}
 use Rattle.bac_tag.specs.declared.heads.TagHead.TheVariants.{App, AppBool, Ctx, Open, Close}
@@ -15,9 +15,9 @@ use Rattle.bac_tag.specs.HeadsLaws.{heads_end}
 use Rattle.bac_tag.specs.Writing.{narrow_head}
 use Rattle.bac_tag.specs.Expected.{ExpectedHeads}
 use Rattle.bac_tag.proofs.WritingLemmas.{least_ctx, ctx_grows}
-use Rattle.bac_value.specs.Primitives.{IsBegun}
+use Rattle.bac_value.specs.Primitives.{IsBegun, OfSize}
 use Rattle.bac_tool.proofs.PartLemmas.{same_fronts, taken_octets}
-use Rattle.bac_tool.specs.Fields.{OfSize, Field, least_field}
+use Rattle.bac_tool.specs.Fields.{Field, least_field}
 
 -- ---- heads
 
@@ -151,9 +151,6 @@ appended old mid new head w number fits small least e f =
     f ∙ ap (λ (l : List ℕ). l ++ w) (e ∙ ap (λ (l : List ℕ). old ++ l) narrow) ∙ append_assoc old (narrow_head 1 number (length w)) w
 
 -- ---- the same with what the constants of the type are
-
-pub rest_is : (l : List ℕ) (start : ℕ) → take (length l - start) (drop start l) ≡ drop start l
-rest_is l start = take_all (length l - start) (drop start l) (omega (arith, length-drop start l))
 
 -- a head that was expected, of which the length is known
 pub head_named : (number s l shortest longest : ℕ) (head : TagHead) (n len : ℕ) (b : List ℕ) → s ≡ shortest → l ≡ longest → head ≡ Ctx n len

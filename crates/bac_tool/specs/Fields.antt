@@ -6,11 +6,6 @@ use Rattle.bac_tag.specs.declared.refusals.Why.TheVariants.{Short, Tag, Length, 
 use Rattle.bac_tag.specs.Heads.{Heads}
 use Rattle.bac_tag.specs.Writing.{narrow_head}
 
--- contents that have so many octets
-pub record OfSize {V : Type 0} (contents : V → List ℕ → Type 0) (size : ℕ) (value : V) (b : List ℕ) : Type 0 where
-  pub spelled : contents value b
-  pub sized : length b ≡ size
-
 -- a context head of that number with the length of the contents, and the contents
 pub record Field {V : Type 0} (contents : V → List ℕ → Type 0) (number : ℕ) (value : V) (b : List ℕ) : Type 0 where
   pub head : List ℕ

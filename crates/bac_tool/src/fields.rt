@@ -4,11 +4,12 @@ ghost use Rattle.std.specs.Prelude.{◌≡◌, ◌+◌, ◌≤◌, ◌++◌, fal
 ghost use Rattle.bac_tag.specs.Octets.{IsMark};
 ghost use Rattle.bac_tag.specs.Heads.{Heads};
 ghost use Rattle.bac_tag.specs.Spelling.{IsRefusal, Takes};
-ghost use Rattle.bac_tool.specs.Fields.{OfSize, Field, least_field, IsFieldReason};
+ghost use Rattle.bac_value.specs.Primitives.{OfSize};
+ghost use Rattle.bac_tool.specs.Fields.{Field, least_field, IsFieldReason};
 ghost use Rattle.bac_tool.specs.Appending.{Extends};
 
 use bac_tag::{
-    Expected, OutOfMemory, Refusal, TagHead, Why, joined_marks, mark_head, read_expected,
+    Expected, OutOfMemory, Refusal, TagHead, Why, joined_marks, mark_read_head, read_expected,
     write_head,
 };
 use bac_value::Primitive;
@@ -53,8 +54,15 @@ fn field_mark<T: Primitive>(head: &[u8], value: &T, number: u8, contents: &[u8])
     requires headed { Heads (TagHead.Ctx number (length contents.now)) head.now }
     ensures { IsMark (head.now ++ contents.now) (least_field number (T.written value.now)) result }
 {
-    let len = value.written_len() as u32;
-    let mark = mark_head(head, TagHead::Ctx { number, len });
+    let read = TagHead::Ctx {
+        number,
+        len: contents.len() as u32,
+    };
+    let written = TagHead::Ctx {
+        number,
+        len: value.written_len() as u32,
+    };
+    let mark = mark_read_head(head, read, written);
     joined_marks(mark, head.len(), value.mark(contents))
 }
 
@@ -95,10 +103,7 @@ pub fn read_field<T: Primitive>(
                 mark,
             })
         }
-        Err(refusal) => Err(Refusal {
-            place: start + refusal.place,
-            why: refusal.why,
-        }),
+        Err(refusal) => Err(refusal.behind(start)),
     }
 }
 

@@ -47,10 +47,7 @@ fn read_request(alloc: Global, octets: &[u8]) -> Result<Part<(ObjectId, Enumerat
             taken: object.taken + property.taken,
             mark: joined_marks(object.mark, object.taken, property.mark),
         }),
-        Err(refusal) => Err(Refusal {
-            place: object.taken + refusal.place,
-            why: refusal.why,
-        }),
+        Err(refusal) => Err(refusal.behind(object.taken)),
     }
 }
 
@@ -71,10 +68,7 @@ fn read_required(
             taken: header.taken + request.taken,
             mark: joined_marks(header.mark, header.taken, request.mark),
         }),
-        Err(refusal) => Err(Refusal {
-            place: header.taken + refusal.place,
-            why: refusal.why,
-        }),
+        Err(refusal) => Err(refusal.behind(header.taken)),
     }
 }
 
@@ -131,10 +125,7 @@ impl ThinFrame {
                 };
                 Ok((frame, joined_marks(required.mark, required.taken, mark)))
             }
-            Err(refusal) => Err(Refusal {
-                place: required.taken + refusal.place,
-                why: refusal.why,
-            }),
+            Err(refusal) => Err(refusal.behind(required.taken)),
         }
     }
 

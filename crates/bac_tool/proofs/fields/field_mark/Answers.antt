@@ -21,7 +21,7 @@ returns g c =
     let w = g.T.Primitive.written c.args.value.now in
     let sized = laws.lengths c.args.value.now w (laws.written_contents c.args.value.now (laws.only_values c.args.value.now c.args.contents.now c.requires.spelled)) in
     let small : length w < 2 ^ 32 = omega (arith, sized.1, laws.within_limit.1) in
-    mark_of_field c.args.number c.args.head.now c.args.contents.now w c.mark_head-mark.result c.mark.result _ c.requires.number small c.requires.headed
-    (subst (λ (n : ℕ). IsMark c.args.head.now (narrow_head 1 c.args.number n) c.mark_head-mark.result) c.written_len-len.ensures.len
-    (c.mark_head-mark.ensures (narrow_head 1 c.args.number c.written_len-len.result) (narrow_least c.args.number c.written_len-len.result c.requires.number (omega (arith, c.written_len-len.ensures.len, small)))))
+    mark_of_field c.args.number c.args.head.now c.args.contents.now w c.mark_read_head-mark.result c.mark.result _ c.requires.number small c.requires.headed
+    (subst (λ (n : ℕ). IsMark c.args.head.now (narrow_head 1 c.args.number n) c.mark_read_head-mark.result) c.written_len.ensures.len
+    (c.mark_read_head-mark.ensures (narrow_head 1 c.args.number c.written_len.result) (narrow_least c.args.number c.written_len.result c.requires.number (omega (arith, c.written_len.ensures.len, small)))))
     c.mark.ensures.none c.mark.ensures.some c.joined_marks.ensures

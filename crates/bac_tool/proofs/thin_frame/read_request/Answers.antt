@@ -1,12 +1,7 @@
-use Rattle.std.proofs.Common.{List, ℕ, subst, take}
+use Rattle.std.proofs.lemmas.List.{take_rest}
 use Rattle.std.proofs.lemmas.Result.{err_from_is_err_and}
-use Rattle.bac_tag.specs.Octets.{IsMark}
-use Rattle.bac_tag.specs.Spelling.{Takes, IsRefusal}
-use Rattle.bac_value.specs.Numbers.{least_number}
-use Rattle.bac_tool.specs.Fields.{least_field}
 use Rattle.bac_tool.specs.ThinFrame.{ObjectField, PropertyField}
 use Rattle.bac_tool.proofs.PartLemmas.{joined_taken, joined_marked, joined_refused}
-use Rattle.bac_tool.proofs.FieldLemmas.{rest_is}
 use Rattle.bac_tool.proofs.FrameLemmas.{request_refused, object_ends}
 use Rattle.bac_tool.proofs.thin_frame.read_request.Goals as goal
 
@@ -18,15 +13,15 @@ returns-in_err-object-clause-refused c =
 pub returns-in-Ok-clause-found : goal.returns-in-Ok-clause-found
 returns-in-Ok-clause-found c =
     joined_taken ObjectField PropertyField c.args.octets.now _ _ _ _ c.in_ok-object.ensures.found
-    (subst (λ (l : List ℕ). Takes PropertyField l (c.in-Ok.property.value, c.in-Ok.property.taken)) (rest_is c.args.octets.now c.in_ok-object.object.taken) c.in-Ok.ensures.found)
+    (rw take_rest at c.in-Ok.ensures.found)
 
 pub returns-in-Ok-clause-mark : goal.returns-in-Ok-clause-mark
 returns-in-Ok-clause-mark c =
     joined_marked c.args.octets.now _ _ c.in_ok-object.object.taken c.in-Ok.property.taken c.in_ok-object.object.mark c.in-Ok.property.mark c.joined_marks.result c.in_ok-object.ensures.found.within c.in_ok-object.ensures.mark
-    (subst (λ (l : List ℕ). IsMark (take c.in-Ok.property.taken l) (least_field 1 (least_number c.in-Ok.property.value.0)) c.in-Ok.property.mark) (rest_is c.args.octets.now c.in_ok-object.object.taken) c.in-Ok.ensures.mark)
+    (rw take_rest at c.in-Ok.ensures.mark)
     c.joined_marks.ensures
 
 pub returns-in-Err-clause-refused : goal.returns-in-Err-clause-refused
 returns-in-Err-clause-refused c =
-    joined_refused ObjectField PropertyField c.args.octets.now _ _ c.in-Err.refusal object_ends c.in_ok-object.ensures.found
-    (subst (λ (l : List ℕ). IsRefusal PropertyField l c.in-Err.refusal) (rest_is c.args.octets.now c.in_ok-object.object.taken) c.in-Err.ensures.refused)
+    rw c.behind.ensures (joined_refused ObjectField PropertyField c.args.octets.now _ _ c.in-Err.refusal object_ends c.in_ok-object.ensures.found
+    (rw take_rest at c.in-Err.ensures.refused))

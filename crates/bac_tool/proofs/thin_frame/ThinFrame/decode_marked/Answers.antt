@@ -1,11 +1,7 @@
-use Rattle.std.proofs.Common.{List, ℕ, subst, sym, take, drop, take-append-drop}
+use Rattle.std.proofs.Common.{sym, take, drop, take-append-drop}
+use Rattle.std.proofs.lemmas.List.{take_rest}
 use Rattle.std.proofs.lemmas.Result.{err_from_is_err_and}
-use Rattle.bac_tag.specs.Octets.{IsMark}
-use Rattle.bac_tool.specs.Fields.{Optional}
-use Rattle.bac_tool.specs.WholeInput.{IsWholeRefusal}
-use Rattle.bac_tool.specs.ThinFrame.{IndexField, index_octets}
 use Rattle.bac_tool.proofs.PartLemmas.{whole_marked}
-use Rattle.bac_tool.proofs.FieldLemmas.{rest_is}
 use Rattle.bac_tool.proofs.FrameLemmas.{thin_refused, thin_refused_last}
 use Rattle.bac_tool.proofs.thin_frame.ThinFrame.decode_marked.Goals as goal
 
@@ -19,17 +15,17 @@ returns-in-Ok-clause-found c = record {
   front = take c.in_ok-required.required.taken c.args.octets.now;
   back = drop c.in_ok-required.required.taken c.args.octets.now;
   first = c.in_ok-required.ensures.found.spelled;
-  second = subst (λ (l : List ℕ). Optional IndexField c.in-Ok.index l) (rest_is c.args.octets.now c.in_ok-required.required.taken) c.in-Ok.ensures.found;
+  second = rw take_rest at c.in-Ok.ensures.found;
   octets = sym (take-append-drop c.in_ok-required.required.taken c.args.octets.now);
 }
 
 pub returns-in-Ok-clause-mark : goal.returns-in-Ok-clause-mark
 returns-in-Ok-clause-mark c =
     whole_marked c.args.octets.now _ _ c.in_ok-required.required.taken c.in_ok-required.required.mark c.in-Ok.mark c.joined_marks.result c.in_ok-required.ensures.found.within c.in_ok-required.ensures.mark
-    (subst (λ (l : List ℕ). IsMark l (index_octets c.in-Ok.index) c.in-Ok.mark) (rest_is c.args.octets.now c.in_ok-required.required.taken) c.in-Ok.ensures.mark)
+    (rw take_rest at c.in-Ok.ensures.mark)
     c.joined_marks.ensures
 
 pub returns-in-Err-clause-refused : goal.returns-in-Err-clause-refused
 returns-in-Err-clause-refused c =
-    thin_refused_last c.args.octets.now _ _ c.in-Err.refusal c.in_ok-required.ensures.found
-    (subst (λ (l : List ℕ). IsWholeRefusal (Optional IndexField) l c.in-Err.refusal) (rest_is c.args.octets.now c.in_ok-required.required.taken) c.in-Err.ensures.refused)
+    rw c.behind.ensures (thin_refused_last c.args.octets.now _ _ c.in-Err.refusal c.in_ok-required.ensures.found
+    (rw take_rest at c.in-Err.ensures.refused))
