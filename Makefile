@@ -3,7 +3,8 @@
 #   make test    the checks of the documents, then the merge gate: every proof from nothing, every test
 #   make check   proves what changed since the last check, while editing
 #   make bench   measures the program on a million records, and values and services of the library
-#   make memory  runs the program with each allocation refused in turn (by hand: it takes half an hour)
+#   make memory  runs the library's tests and the program with each allocation refused in turn (by hand: it takes
+#                three quarters of an hour)
 #   make clean   removes what the others made
 
 .PHONY: build test check bench memory clean need-rt
