@@ -26,8 +26,8 @@ fn misses(number: u64, unread: u32, low: u64, high: u64) -> bool
     lowest > high || lowest + (worth - 1) < low
 }
 
-/// The number that the octets in front spell, where they can become `width` octets of a number between `low` and
-/// `high`.
+/// The number that the octets in front spell, the most significant first, where they can become `width` octets of
+/// a number from `low` to `high`. There are at most as many as `width`, which is at most 8 and has room for `low`.
 ///
 /// # Errors
 /// The first place at which they no longer can.

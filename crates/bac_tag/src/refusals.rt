@@ -93,7 +93,8 @@ impl Refusal {
         }
     }
 
-    /// The same refusal where so many octets stand in front of those that it speaks of.
+    /// The same refusal where so many octets stand in front of those that it speaks of: the place is later by as
+    /// many, and has to be below 2^64.
     pub fn behind(self, count: usize) -> Refusal
         requires { count + self.place < 2 ^ 64 }
         ensures { result ≡ behind count self }

@@ -9,11 +9,11 @@ use Rattle.std.proofs.lemmas.Int.Digits.{number_lt, number_more}
 use Rattle.bac_tag.specs.OctetsLaws.{octets_take, octets_drop}
 use Rattle.bac_tag.specs.Octets.{IsOctets}
 use Rattle.bac_tag.specs.Number.{number}
-use Rattle.bac_tag.specs.NumberLaws.{number-append, number_after_is, begins_number, begins_number_only}
+use Rattle.bac_tag.specs.NumberLaws.{number-append, begins_number, begins_number_only}
 use Rattle.bac_value.specs.declared.enumeration.Enumerated.{Enumerated}
 use Rattle.bac_value.specs.Primitives.{IsBegun, IsHopelessAt}
 use Rattle.bac_value.specs.Numbers.{NumberContents}
-use Rattle.bac_value.specs.NumbersLaws.{number_begun, number_begins, number_each_length}
+use Rattle.bac_value.specs.NumbersLaws.{number_begun, number_begins, number_each_length, number-drop}
 
 abbrev pub enumerated_number : Enumerated → ℕ
 enumerated_number value = value.0
@@ -28,17 +28,6 @@ pub enumerated_each_length : (size : ℕ) → 1 ≤ size → size ≤ 8 → IsBe
 enumerated_each_length = number_each_length enumerated_number enumerated_of (λ n. refl) 0 (2 ^ 32 - 1) (lit≤ tt) (lit< tt)
 
 -- ---- octets in front of the last four
-
--- zeros are worth nothing
-zeros_worth : (front : List ℕ) → ((k : ℕ) → k < length front → get_or front k 0 ≡ 0) → number front ≡ 0
-zeros_worth [] zeros = refl
-zeros_worth (x ∷ xs) zeros =
-    let first : x ≡ 0 = zeros 0 (omega arith) in
-    let rest : number xs ≡ 0 = zeros_worth xs (λ k l. zeros (suc k) (omega arith)) in
-    let whole : number (x ∷ xs) ≡ (0 * 256 + x) * 256 ^ length xs + number xs = number_after_is (0 * 256 + x) xs in
-    let head : 0 * 256 + x ≡ 0 = omega (arith, first) in
-    let nothing : (0 * 256 + x) * 256 ^ length xs ≡ 0 * 256 ^ length xs = ap (λ (n : ℕ). n * 256 ^ length xs) head in
-    omega arith
 
 -- a number below 2^32 is that of its last four octets
 pub last_four : (octets : List ℕ) (start : ℕ) → IsOctets octets → start + 4 ≤ length octets → number octets < 2 ^ 32 → number (drop start octets) ≡ number octets
@@ -91,15 +80,6 @@ small_enough front back rest p e (inr four) =
     let one : 256 ^ 0 ≤ 256 ^ rest = pow-le-pow_right (lit≤ tt) exponent in
     omega arith
 
--- zeros in front are worth nothing
-worth_behind : (front : List ℕ) (wide : ℕ) → ((k : ℕ) → k < wide → get_or front k 0 ≡ 0) → number front ≡ number (drop wide front)
-worth_behind front wide zeros =
-    let first : number (take wide front) ≡ 0 = zeros_worth (take wide front) (λ k l. let shorter : k < wide = omega (arith, l, length-take wide front) in get_or-take wide front k 0 shorter ∙ zeros k shorter) in
-    let split : number (take wide front ++ drop wide front) ≡ number (take wide front) * 256 ^ length (drop wide front) + number (drop wide front) = number-append (take wide front) (drop wide front) in
-    let whole : number (take wide front ++ drop wide front) ≡ number front = ap number (take-append-drop wide front) in
-    let nothing : number (take wide front) * 256 ^ length (drop wide front) ≡ 0 * 256 ^ length (drop wide front) = ap (λ (n : ℕ). n * 256 ^ length (drop wide front)) first in
-    omega arith
-
 -- with zeros in front of the last four of so many octets any number can follow,
 pub four_begun : (front : List ℕ) (size wide : ℕ) → IsOctets front → length front ≤ size → (1 ≤ size) × (size ≤ 8) → wide ≤ length front → (wide ≡ length front) ⊎ (size ≤ wide + 4) → ((k : ℕ) → k < wide → get_or front k 0 ≡ 0)
     → IsBegun (λ (value : Enumerated) octets. NumberContents 0 (2 ^ 32 - 1) value.0 octets) front size
@@ -111,7 +91,7 @@ four_begun front size wide p within sized le place zeros =
       | inr four ↦ inr (omega (arith, four))
     ] in
     number_begun enumerated_number enumerated_of (λ n. refl) 0 (2 ^ 32 - 1) front size p sized
-    (begins_number 0 (2 ^ 32 - 1) front size rest (omega arith) (lit≤ tt) (small_enough front (drop wide front) rest (octets_drop wide front p) (worth_behind front wide zeros) behind) (positive front rest))
+    (begins_number 0 (2 ^ 32 - 1) front size rest (omega arith) (lit≤ tt) (small_enough front (drop wide front) rest (octets_drop wide front p) (sym (number-drop wide front zeros)) behind) (positive front rest))
 
 -- and with another octet there none can
 pub four_hopeless : (front : List ℕ) (size place : ℕ) → IsOctets front → length front ≤ size → (1 ≤ size) × (size ≤ 8) → place < length front → place + 4 < size → ((k : ℕ) → k < place → get_or front k 0 ≡ 0) → 0 < get_or front place 0

@@ -73,7 +73,8 @@ least_number_is n octets h first =
     ] in
     number_same _ _ h.are_octets w.are_octets (omega arith) (h.is ∙ sym w.is)
 
-number-drop : (start : ℕ) (octets : List ℕ) → ((k : ℕ) → k < start → get_or octets k 0 ≡ 0) → number (drop start octets) ≡ number octets
+-- zeros in front are worth nothing
+pub number-drop : (start : ℕ) (octets : List ℕ) → ((k : ℕ) → k < start → get_or octets k 0 ≡ 0) → number (drop start octets) ≡ number octets
 number-drop zero octets zeros = refl
 number-drop (suc start) [] zeros = refl
 number-drop (suc start) (x ∷ xs) zeros =
