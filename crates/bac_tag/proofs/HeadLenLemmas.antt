@@ -13,7 +13,7 @@ use Rattle.bac_tag.proofs.WritingLemmas.{narrowest_number, narrowest_length, lea
 
 -- ---- the least spelling is the narrowest
 
-fits_spelled : (h : TagHead) (b : List ℕ) → Heads h b → LengthFits h
+pub fits_spelled : (h : TagHead) (b : List ℕ) → Heads h b → LengthFits h
 fits_spelled (App number len) b s = length_below len s.lvt s.back s.ending
 fits_spelled (AppBool value) b s = tt
 fits_spelled (Ctx number len) b s = length_below len s.lvt s.back s.ending

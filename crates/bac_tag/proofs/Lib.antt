@@ -5,3 +5,4 @@ pub mod ReadingLemmas
 pub mod WritingLemmas
 pub mod MarksLemmas
 pub mod HeadLenLemmas
+pub mod ShortLemmas

@@ -10,3 +10,4 @@ pub mod HeadsLaws
 pub mod Expected
 pub mod Reading
 pub mod Writing
+pub mod Short

@@ -32,6 +32,7 @@ pub enum Expected {
 }
 
 /// Whether the number is the one that is named, or none is.
+#[inline(always)]
 fn has_number(named: Option<u8>, number: u8) -> bool
     ensures { IsTrue result ↔ HasNumber named number }
 {
@@ -42,6 +43,7 @@ fn has_number(named: Option<u8>, number: u8) -> bool
 }
 
 /// Whether some length from `least` to `most` has this LVT.
+#[inline(always)]
 fn has_lvt(lvt: u8, least: u32, most: u32) -> bool
     ensures { IsTrue result ↔ HasLvt least most lvt }
 {
@@ -78,6 +80,7 @@ impl Expected {
     }
 
     /// Whether some expected head has this class, number and LVT.
+    #[inline(always)]
     pub(crate) fn uses(self, context: bool, number: u8, lvt: u8) -> bool
         ensures { IsTrue result ↔ Uses self context number lvt }
     {
@@ -112,6 +115,7 @@ impl Expected {
     }
 
     /// A number that some expected head has, with whatever class and LVT any has.
+    #[inline(always)]
     pub(crate) fn example(self) -> u8
         ensures { result ≡ example_of self }
     {
@@ -126,6 +130,7 @@ impl Expected {
     }
 
     /// The least and the most expected length.
+    #[inline(always)]
     pub(crate) fn lengths(self) -> (u32, u32)
         ensures least { result.0 ≡ least_of self }
         ensures most { result.1 ≡ most_of self }

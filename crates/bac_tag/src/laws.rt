@@ -1,10 +1,22 @@
 //! Laws of the definitions.
 
-ghost use Rattle.std.specs.Prelude.{◌≡◌, ℕ, List, ◌++◌, ◌≤◌, length};
+ghost use Rattle.std.specs.Prelude.{◌≡◌, ◌↔◌, ◌⊎◌, ℕ, List, ◌++◌, ◌≤◌, length};
 ghost use Rattle.bac_tag.specs.Octets.{NoGreater};
-ghost use Rattle.bac_tag.specs.Spelling.{EndsItself, IsLeast};
+ghost use Rattle.bac_tag.specs.Refusals.{farther_of};
+ghost use Rattle.bac_tag.specs.Spelling.{EndsItself, IsLeast, IsViable, IsPartway, IsRefusal, Joined, OneOf};
 ghost use Rattle.bac_tag.specs.Heads.{IsValid, LengthFits, Heads};
 ghost use Rattle.bac_tag.specs.declared.heads.TagHead.{TagHead};
+ghost use Rattle.bac_tag.specs.declared.refusals.Refusal.{Refusal};
+
+/// Values and the lists that spell them, whatever they are: the laws that hold of every way to spell are stated over
+/// this.
+pub trait Spelled {
+    /// The values.
+    ghost Value: { Type 0 };
+
+    /// The lists that spell a value.
+    ghost spells: { Value → List ℕ → Type 0 };
+}
 
 /// The order is reflexive.
 pub fn no_greater_than_itself()
@@ -40,4 +52,27 @@ pub fn shorter_lengths_have_no_longer_heads()
 /// Each valid head whose length fits 32 bits has a spelling.
 pub fn heads_have_spellings()
     ensures { (head : TagHead) → IsValid head → LengthFits head → (b : List ℕ) × IsLeast (Heads head) b }
+{}
+
+/// Only valid heads whose length fits 32 bits are spelled.
+pub fn only_valid_heads_are_spelled()
+    ensures { (head : TagHead) (b : List ℕ) → Heads head b → IsValid head × LengthFits head }
+{}
+
+/// A list begins a spelling of one case or another exactly where it begins one of either.
+pub fn choices_are_viable_in_a_case<A: Spelled, B: Spelled>()
+    ensures { (b : List ℕ) → IsViable (OneOf A.spells B.spells) b ↔ (IsViable A.spells b ⊎ IsViable B.spells b) }
+{}
+
+/// Where the second of two parts has a spelling, a list begins one of both joined exactly where it begins one of the
+/// first, or is one of the first with the beginning of one of the second behind it.
+pub fn joined_parts_are_viable_in_turn<A: Spelled, B: Spelled>()
+    ensures { (y : B.Value) (d : List ℕ) → B.spells y d
+        → (b : List ℕ) → IsViable (Joined A.spells (λ _. B.spells)) b ↔ (IsViable A.spells b ⊎ IsPartway A.spells (λ _. B.spells) b) }
+{}
+
+/// Of the refusals of one input by two readings, the farther is that of a reader that takes either.
+pub fn farther_refusals_are_those_of_a_choice<A: Spelled, B: Spelled>()
+    ensures { (input : List ℕ) (first second : Refusal) → IsRefusal A.spells input first → IsRefusal B.spells input second
+        → IsRefusal (OneOf A.spells B.spells) input (farther_of first second) }
 {}

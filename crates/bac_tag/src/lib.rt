@@ -11,6 +11,7 @@ mod marks;
 mod numbers;
 mod reading;
 mod refusals;
+mod short;
 mod writing;
 
 pub use expecting::Expected;
@@ -19,6 +20,7 @@ pub use marks::{first_difference, joined_marks, mark_head, mark_read_head};
 pub use numbers::{first_hopeless, number_of, number_within};
 pub use reading::{read_expected, read_head, read_one_of};
 pub use refusals::{OutOfMemory, Refusal, Why};
+pub use short::{is_short_closing, is_short_opening, short_len};
 pub use writing::{head_len, write_head};
 
 #[cfg(test)]

@@ -37,6 +37,7 @@ pub fn mark_head(taken: &[u8], head: TagHead) -> Option<usize>
 
 /// What [`mark_head`] tells, of octets whose head `read` is known, as behind `read_head`. Where they are the least
 /// spelling, it looks at none of them.
+#[inline(always)]
 pub fn mark_read_head(taken: &[u8], read: TagHead, head: TagHead) -> Option<usize>
     requires valid { IsValid head }
     requires spelled { Heads read taken.now }
@@ -51,6 +52,7 @@ pub fn mark_read_head(taken: &[u8], read: TagHead, head: TagHead) -> Option<usiz
 }
 
 /// The mark of two parts, one behind the other, by their marks and the number of octets of the first.
+#[inline(always)]
 pub fn joined_marks(first: Option<usize>, count: usize, second: Option<usize>) -> Option<usize>
     requires { IfSome second (λ place. count + place < 2 ^ 64) }
     ensures { result ≡ joined_mark first count second }

@@ -31,6 +31,7 @@ fn misses(number: u64, unread: u32, low: u64, high: u64) -> bool
 ///
 /// # Errors
 /// The first place at which they no longer can.
+#[inline]
 pub fn number_within(front: &[u8], width: usize, low: u64, high: u64) -> Result<u64, usize>
     requires sized { length front.now ≤ width }
     requires within { width ≤ 8 }

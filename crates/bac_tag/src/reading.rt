@@ -20,7 +20,8 @@ struct Front {
 }
 
 /// The nibble, whether the class is context, and the LVT of an initial octet.
-fn initial_parts(octet: u8) -> (u8, bool, u8)
+#[inline(always)]
+pub(crate) fn initial_parts(octet: u8) -> (u8, bool, u8)
     ensures parts { octet ≡ 16 * result.0 + 8 * class_bit result.1 + result.2 }
     ensures nibble { result.0 < 16 }
     ensures lvt { result.2 < 8 }
@@ -29,12 +30,15 @@ fn initial_parts(octet: u8) -> (u8, bool, u8)
 }
 
 /// Why an initial octet is refused: for its length where the same number could stand there with another one.
+#[inline(always)]
 fn reason_at_first(expected: Expected, context: bool, number: u8, lvt: u8) -> Why
     ensures reason { IsHeadReason result }
     ensures hopeless { result ≢ Why.Short }
 {
     let has_length = !context || lvt < 6;
-    if has_length && (0..6).any(|other| expected.uses(context, number, other)) {
+    // Where a number uses any LVT of a length it uses 0 or 5.
+    let is_used = expected.uses(context, number, 5) || expected.uses(context, number, 0);
+    if has_length && is_used {
         Why::Length
     } else {
         Why::Tag
@@ -42,6 +46,7 @@ fn reason_at_first(expected: Expected, context: bool, number: u8, lvt: u8) -> Wh
 }
 
 /// The initial octet and the number octet or none.
+#[inline(always)]
 fn read_front(octets: &[u8], expected: Expected) -> Result<(Front, usize), Refusal>
     requires { IsSound expected }
     ensures found { IfOk result (Takes (IsFront expected) octets.now) }
@@ -152,6 +157,7 @@ fn read_wide_length(
 }
 
 /// The octets of a length from `least` to `most` whose LVT this is.
+#[inline(always)]
 fn read_length(octets: &[u8], lvt: u8, least: u32, most: u32) -> Result<(u32, usize), Refusal>
     requires lvt { HasLvt least most lvt }
     requires range { least ≤ most }
@@ -189,6 +195,7 @@ fn read_length(octets: &[u8], lvt: u8, least: u32, most: u32) -> Result<(u32, us
 /// # Errors
 /// The place is that of the first octet with which no expected head begins: `Tag` or `Length` as that octet
 /// says, or `Short` where the octets end before there is one.
+#[inline(always)]
 pub fn read_expected(octets: &[u8], expected: Expected) -> Result<(TagHead, usize), Refusal>
     requires { IsSound expected }
     ensures found { IfOk result (Takes (ExpectedHeads expected) octets.now) }

@@ -67,6 +67,7 @@ pub struct Refusal {
 
 impl Why {
     /// How telling the reason is, where several readings of an input come to one place.
+    #[inline(always)]
     fn weight(self) -> u8
         ensures { result ≡ weight_of self }
     {
@@ -81,6 +82,7 @@ impl Why {
 impl Refusal {
     /// Of two refusals of one input, by two readings of it, the one that came farther. At one place `Depth`
     /// goes before `Length`, and `Length` before the other reasons.
+    #[inline(always)]
     pub fn farther(self, other: Refusal) -> Refusal
         ensures { result ≡ farther_of self other }
     {
@@ -95,6 +97,7 @@ impl Refusal {
 
     /// The same refusal where so many octets stand in front of those that it speaks of: the place is later by as
     /// many, and has to be below 2^64.
+    #[inline(always)]
     pub fn behind(self, count: usize) -> Refusal
         requires { count + self.place < 2 ^ 64 }
         ensures { result ≡ behind count self }

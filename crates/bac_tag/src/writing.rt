@@ -9,6 +9,7 @@ use crate::TagHead;
 use arrayvec::ArrayVec;
 
 /// The octet with this nibble, class and LVT.
+#[inline(always)]
 fn initial_octet(nibble: u8, context: bool, lvt: u8) -> u8
     requires nibble { nibble < 16 }
     requires lvt { lvt < 8 }
@@ -18,6 +19,7 @@ fn initial_octet(nibble: u8, context: bool, lvt: u8) -> u8
 }
 
 /// The initial octet, and the number octet where the nibble has no room for the number.
+#[inline(always)]
 fn opening(context: bool, number: u8, lvt: u8) -> ArrayVec<u8, 7>
     requires number { number < 255 }
     requires lvt { lvt < 8 }
@@ -34,6 +36,7 @@ fn opening(context: bool, number: u8, lvt: u8) -> ArrayVec<u8, 7>
 }
 
 /// A head with a length, in its narrowest form.
+#[inline(always)]
 fn with_length(context: bool, number: u8, len: u32) -> ArrayVec<u8, 7>
     requires { number < 255 }
     ensures octets { result.items ≡ narrow_head (class_bit context) number len }
@@ -64,6 +67,7 @@ fn with_length(context: bool, number: u8, len: u32) -> ArrayVec<u8, 7>
 }
 
 /// The least list of octets that spells the head.
+#[inline(always)]
 pub fn write_head(head: TagHead) -> ArrayVec<u8, 7>
     requires { IsValid head }
     ensures { IsLeast (Heads head) result.items }
@@ -79,6 +83,7 @@ pub fn write_head(head: TagHead) -> ArrayVec<u8, 7>
 
 /// How many octets the initial octet and the number octet are (clause 20.2.1.2): 2 where the nibble has no room
 /// for the number.
+#[inline(always)]
 fn opening_len(number: u8) -> usize
     ensures { result ≡ 1 + length (number_octets (number_form number) number) }
 {
@@ -90,6 +95,7 @@ fn opening_len(number: u8) -> usize
 
 /// How many octets a length takes behind those, in its narrowest form (clause 20.2.1.3.1): none where it is the
 /// LVT, else 1, or 3 with `FE` in front, or 5 with `FF` in front.
+#[inline(always)]
 fn length_len(len: u32) -> usize
     ensures { result ≡ length (length_octets (length_form len) len) }
 {
@@ -102,6 +108,7 @@ fn length_len(len: u32) -> usize
 }
 
 /// How many octets the least list of octets that spells the head has, 1 to 7. None is written.
+#[inline(always)]
 pub fn head_len(head: TagHead) -> usize
     requires { IsValid head }
     ensures { (b : List ℕ) → IsLeast (Heads head) b → result ≡ length b }

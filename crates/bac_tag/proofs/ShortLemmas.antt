@@ -1,0 +1,131 @@
+-- Heads of one octet.
+use Rattle.std.proofs.Common.{◌≡◌, ℕ, ◌+◌, ◌*◌, ◌^◌, ◌<◌, ◌≤◌, inl, inr, Bool, true, false, List, [], ◌∷◌, ◌++◌, length, take, get_or, refl, sym, ap, ◌∙◌, append-nil, length-append, arith}
+use Rattle.std.proofs.lemmas.Bool.{cases_lt, lt-ltb, le-ltb}
+use Rattle.bac_tag.specs.declared.heads.TagHead.{TagHead}
+use Rattle.bac_tag.specs.declared.heads.TagHead.TheVariants.{App, AppBool, Ctx, Open, Close}
+use Rattle.bac_tag.specs.Spelling.{IsLeast}
+use Rattle.bac_tag.specs.SpellingLaws.{IsLeast-one}
+use Rattle.bac_tag.specs.Heads.{IsValid, class_bit, numbers, nibble_of, number_octets, lengths, lvt_of, length_octets, Heads, LengthFits}
+use Rattle.bac_tag.specs.HeadsLaws.{initial_parts, head_is, length_below, class_bit_below, class_bit_one}
+use Rattle.bac_tag.specs.Writing.{number_form, length_form, narrow_opening, narrow_head}
+use Rattle.bac_tag.specs.Short.{headed, BeginsShort, BeginsWith}
+use Rattle.bac_tag.proofs.WritingLemmas.{least_app, least_ctx, least_open, least_close}
+use Rattle.bac_tag.proofs.HeadLenLemmas.{length_of_app, length_of_ctx, length_of_open, length_of_close, least_as_short}
+
+-- ---- narrow forms of one octet
+
+one_opening : (class n lvt : ℕ) → n < 15 → narrow_opening class n lvt ≡ (16 * n + 8 * class + lvt) ∷ []
+one_opening class n lvt p = rw (lt-ltb n 15 p) refl
+
+one_head : (class n len : ℕ) → n < 15 → len < 5 → narrow_head class n len ≡ (16 * n + 8 * class + len) ∷ []
+one_head class n len p q = rw (lt-ltb n 15 p, lt-ltb len 5 q) refl
+
+first_of : (octets : List ℕ) → 0 < length octets → take 1 octets ≡ get_or octets 0 0 ∷ []
+first_of [] p = absurd (omega arith)
+first_of (o ∷ octets) p = refl
+
+-- ---- what is found
+
+pub short_headed : (c : Bool) (n len : ℕ) (octets : List ℕ) → IsValid (headed c n 0) → len < 5 → BeginsWith (class_bit c) n len octets → BeginsShort (headed c n len) octets
+short_headed true n len octets v small b = record { some = b.some; least = least_ctx n len (take 1 octets) v (omega arith) (first_of octets b.some ∙ ap (λ (o : ℕ). o ∷ []) b.octet ∙ sym (one_head 1 n len b.nibble small)) }
+short_headed false n len octets v small b = record { some = b.some; least = least_app n len (take 1 octets) v (omega arith) (first_of octets b.some ∙ ap (λ (o : ℕ). o ∷ []) b.octet ∙ sym (one_head 0 n len b.nibble small)) }
+
+pub short_open : (n : ℕ) (octets : List ℕ) → IsValid (Open n) → BeginsWith 1 n 6 octets → BeginsShort (Open n) octets
+short_open n octets v b = record { some = b.some; least = least_open n (take 1 octets) v (first_of octets b.some ∙ ap (λ (o : ℕ). o ∷ []) b.octet ∙ sym (one_opening 1 n 6 b.nibble)) }
+
+pub short_close : (n : ℕ) (octets : List ℕ) → IsValid (Close n) → BeginsWith 1 n 7 octets → BeginsShort (Close n) octets
+short_close n octets v b = record { some = b.some; least = least_close n (take 1 octets) v (first_of octets b.some ∙ ap (λ (o : ℕ). o ∷ []) b.octet ∙ sym (one_opening 1 n 7 b.nibble)) }
+
+-- ---- and nothing else is
+
+one_long : (octets : List ℕ) → 0 < length octets → length (take 1 octets) ≡ 1
+one_long octets p = ap length (first_of octets p)
+
+number_in_nibble : (n : ℕ) → 1 + length (number_octets (number_form n) n) ≡ 1 → n < 15
+number_in_nibble n e =
+    elim (cases_lt n 15) [
+      | inl p ↦ p
+      | inr p ↦ absurd (let f : 1 + length (number_octets (number_form n) n) ≡ 2 = rw (le-ltb n 15 p) refl in omega arith)
+    ]
+
+len_in_lvt : (len : ℕ) → len < 2 ^ 32 → length (length_octets (length_form len) len) ≡ 0 → len < 5
+len_in_lvt len fits e =
+    elim (cases_lt len 5) [
+      | inl p ↦ p
+      | inr p ↦ absurd (elim (cases_lt len 254) [
+        | inl q ↦ (let f : length (length_octets (length_form len) len) ≡ 1 = rw (le-ltb len 5 p, lt-ltb len 254 q) refl in omega arith)
+        | inr q ↦ elim (cases_lt len (2 ^ 16)) [
+          | inl r ↦ (let f : length (length_octets (length_form len) len) ≡ 3 = rw (le-ltb len 5 p, le-ltb len 254 q, lt-ltb len (2 ^ 16) r) refl in omega arith)
+          | inr r ↦ (let f : length (length_octets (length_form len) len) ≡ 5 = rw (le-ltb len 5 p, le-ltb len 254 q, le-ltb len (2 ^ 16) r) refl in omega arith)
+        ]
+      ])
+    ]
+
+-- the octet of a least spelling that is one octet
+octet_is : (octets : List ℕ) (o : ℕ) → 0 < length octets → take 1 octets ≡ o ∷ [] → get_or octets 0 0 ≡ o
+octet_is octets o some e = head_is _ _ [] [] (sym (first_of octets some) ∙ e)
+
+headed_begins : (c : Bool) (n len : ℕ) (octets : List ℕ) → BeginsShort (headed c n len) octets → BeginsWith (class_bit c) n len octets × (len < 5)
+headed_begins true n len octets b =
+    let fits = length_below len b.least.member.lvt b.least.member.back b.least.member.ending in
+    let long = length_of_ctx n len (take 1 octets) b.least in
+    let one = one_long octets b.some in
+    let p = number_in_nibble n (omega arith) in
+    let q = len_in_lvt len fits (omega arith) in
+    let same = IsLeast-one (Heads (Ctx n len)) (take 1 octets) (narrow_head 1 n len) b.least (least_ctx n len _ b.least.member.valid fits refl) in
+    (record { some = b.some; nibble = p; octet = octet_is octets _ b.some (same ∙ one_head 1 n len p q) }, q)
+headed_begins false n len octets b =
+    let fits = length_below len b.least.member.lvt b.least.member.back b.least.member.ending in
+    let long = length_of_app n len (take 1 octets) b.least in
+    let one = one_long octets b.some in
+    let p = number_in_nibble n (omega arith) in
+    let q = len_in_lvt len fits (omega arith) in
+    let same = IsLeast-one (Heads (App n len)) (take 1 octets) (narrow_head 0 n len) b.least (least_app n len _ b.least.member.valid fits refl) in
+    (record { some = b.some; nibble = p; octet = octet_is octets _ b.some (same ∙ one_head 0 n len p q) }, q)
+
+pub open_begins : (n : ℕ) (octets : List ℕ) → BeginsShort (Open n) octets → BeginsWith 1 n 6 octets
+open_begins n octets b =
+    let long = length_of_open n (take 1 octets) b.least in
+    let one = one_long octets b.some in
+    let p = number_in_nibble n (omega arith) in
+    let same = IsLeast-one (Heads (Open n)) (take 1 octets) (narrow_opening 1 n 6) b.least (least_open n _ b.least.member.valid refl) in
+    record { some = b.some; nibble = p; octet = octet_is octets _ b.some (same ∙ one_opening 1 n 6 p) }
+
+pub close_begins : (n : ℕ) (octets : List ℕ) → BeginsShort (Close n) octets → BeginsWith 1 n 7 octets
+close_begins n octets b =
+    let long = length_of_close n (take 1 octets) b.least in
+    let one = one_long octets b.some in
+    let p = number_in_nibble n (omega arith) in
+    let same = IsLeast-one (Heads (Close n)) (take 1 octets) (narrow_opening 1 n 7) b.least (least_close n _ b.least.member.valid refl) in
+    record { some = b.some; nibble = p; octet = octet_is octets _ b.some (same ∙ one_opening 1 n 7 p) }
+
+-- ---- the parts of the octet
+
+-- the octet has the parts that its head has
+pub record HasParts (c : Bool) (n len nibble : ℕ) (class : Bool) (lvt : ℕ) : Type 0 where
+  pub nibble_is : nibble ≡ n
+  pub class_is : class ≡ c
+  pub lvt_is : lvt ≡ len
+  pub low : n < 15
+  pub small : len < 5
+
+pub headed_parts : (c : Bool) (n len : ℕ) (octets : List ℕ) (nibble : ℕ) (class : Bool) (lvt : ℕ) → get_or octets 0 0 ≡ 16 * nibble + 8 * class_bit class + lvt → lvt < 8
+    → BeginsShort (headed c n len) octets → HasParts c n len nibble class lvt
+headed_parts c n len octets nibble class lvt is below b =
+    let w = headed_begins c n len octets b in
+    let h = initial_parts nibble (class_bit class) lvt n (class_bit c) len (class_bit_below class) (class_bit_below c) below (omega (arith, w.1)) (sym is ∙ w.0.octet) in
+    record { nibble_is = h.0; class_is = class_bit_one _ _ h.1; lvt_is = h.2; low = w.0.nibble; small = w.1 }
+
+pub parts_begin : (n m k l : ℕ) (class c : Bool) (octets : List ℕ) → 0 < length octets → get_or octets 0 0 ≡ 16 * n + 8 * class_bit class + l → n ≡ m → n < 15 → class ≡ c → l ≡ k → BeginsWith (class_bit c) m k octets
+parts_begin n m k l class c octets some is p low q r = record { some = some; nibble = omega arith; octet = is ∙ rw (p, q, r) refl }
+
+-- ---- a head of one octet is the least
+
+some_octet : (h : TagHead) (b : List ℕ) → Heads h b → 0 < length b
+some_octet h b s = omega (arith, ap length s.octets, ap length s.opening.octets, length-append s.front s.back)
+
+pub one_is_least : (h : TagHead) (a b : List ℕ) → Heads h a → length a ≡ 1 → IsLeast (Heads h) b → a ≡ b
+one_is_least h a b s one p = least_as_short h a b s p (elim (p.least a s) [
+  | inl shorter ↦ absurd (omega (arith, some_octet h b p.member))
+  | inr alike ↦ sym alike.0
+])

@@ -1,0 +1,5 @@
+use Rattle.bac_tag.specs.SpellingLaws.{viable-OneOf}
+use Rattle.bac_tag.proofs.laws.choices_are_viable_in_a_case.Goals as goal
+
+pub returns : goal.returns
+returns g c = λ b. viable-OneOf g.A.Spelled.spells g.B.Spelled.spells b

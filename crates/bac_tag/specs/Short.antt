@@ -1,0 +1,22 @@
+-- Heads of one octet.
+use Rattle.std.specs.Prelude.{◌≡◌, ℕ, ◌+◌, ◌*◌, ◌<◌, Bool, true, false, List, length, take, get_or}
+use Rattle.bac_tag.specs.declared.heads.TagHead.{TagHead}
+use Rattle.bac_tag.specs.declared.heads.TagHead.TheVariants.{App, Ctx}
+use Rattle.bac_tag.specs.Spelling.{IsLeast}
+use Rattle.bac_tag.specs.Heads.{Heads}
+
+-- the head with a length, of context class or else of application class
+abbrev pub headed : Bool → ℕ → ℕ → TagHead
+headed true number len = Ctx number len
+headed false number len = App number len
+
+-- The first octet alone is the least spelling of the head.
+pub record BeginsShort (head : TagHead) (octets : List ℕ) : Type 0 where
+  pub some : 0 < length octets
+  pub least : IsLeast (Heads head) (take 1 octets)
+
+-- the first octet has this class, number and LVT
+pub record BeginsWith (class number lvt : ℕ) (octets : List ℕ) : Type 0 where
+  pub some : 0 < length octets
+  pub nibble : number < 15
+  pub octet : get_or octets 0 0 ≡ 16 * number + 8 * class + lvt
