@@ -12,6 +12,7 @@ use bac_tag::{OutOfMemory, Refusal, Why, first_difference, first_hopeless, numbe
 ///
 /// Length at 0, where they are not 1 to 8; Content at the first octet that no contents of that length can
 /// have there.
+#[inline]
 pub fn read_number(octets: &[u8], low: u64, high: u64) -> Result<u64, Refusal>
     requires range { low ≤ high }
     requires room { low < 256 }
@@ -38,6 +39,7 @@ pub fn read_number(octets: &[u8], low: u64, high: u64) -> Result<u64, Refusal>
 
 /// The first place at which the octets in front no longer begin contents of that size of a number between
 /// `low` and `high`, and none where they do.
+#[inline]
 pub fn hopeless_number(front: &[u8], size: usize, low: u64, high: u64) -> Option<usize>
     requires size { HasNumberLength size }
     requires sized { length front.now ≤ size }
@@ -50,6 +52,7 @@ pub fn hopeless_number(front: &[u8], size: usize, low: u64, high: u64) -> Option
 }
 
 /// The first octet that is not 0.
+#[inline]
 pub(crate) fn first_other_than_zero(octets: &[u8]) -> Option<usize>
     ensures none { IfNone result ((k : ℕ) → k < length octets.now → slice_index octets.now k ≡ 0) }
     ensures within { IfSome result (λ place. place < length octets.now) }
@@ -60,6 +63,7 @@ pub(crate) fn first_other_than_zero(octets: &[u8]) -> Option<usize>
 }
 
 /// How many zeros stand in front of the last octet.
+#[inline]
 fn zeros_in_front(octets: &[u8]) -> usize
     requires { 0 < length octets.now }
     ensures within { result < length octets.now }
@@ -70,6 +74,7 @@ fn zeros_in_front(octets: &[u8]) -> usize
 }
 
 /// The octets without the zeros in front, but for the last.
+#[inline]
 pub(crate) fn significant(octets: &[u8]) -> &[u8]
     requires { HasNumberLength (length octets.now) }
     ensures { result.now ≡ least_number (number octets.now) }
@@ -78,6 +83,7 @@ pub(crate) fn significant(octets: &[u8]) -> &[u8]
 }
 
 /// The same of a number below 2^32. Octets in front of the last four are zeros, and not looked at.
+#[inline]
 pub(crate) fn significant_of_four(octets: &[u8]) -> &[u8]
     requires sized { HasNumberLength (length octets.now) }
     requires below { number octets.now < 2 ^ 32 }
@@ -87,6 +93,7 @@ pub(crate) fn significant_of_four(octets: &[u8]) -> &[u8]
 }
 
 /// How many octets are written of a number.
+#[inline]
 pub fn written_number_len(number: u64) -> usize
     ensures { result ≡ length (least_number number) }
 {
@@ -95,6 +102,7 @@ pub fn written_number_len(number: u64) -> usize
 
 /// The first place at which octets differ from those that are written of a number, and none where they are
 /// those.
+#[inline]
 pub fn mark_number(number: u64, octets: &[u8]) -> Option<usize>
     ensures none { IfNone result (octets.now ≡ least_number number) }
     ensures some { IfSome result (FirstDifference octets.now (least_number number)) }
@@ -103,6 +111,7 @@ pub fn mark_number(number: u64, octets: &[u8]) -> Option<usize>
 }
 
 /// Appends the fewest octets that spell a number. Where memory is refused `out` stays as it was.
+#[inline]
 pub fn write_number(number: u64, out: &mut Vec<u8>) -> Result<(), OutOfMemory>
     ensures ok { OnOk result (out.new.items ≡ out.old.items ++ least_number number) }
     ensures err { OnErr result (out.new.items ≡ out.old.items) }
