@@ -43,30 +43,30 @@ no_fault {T} x g never = (λ e. absurd (let i : ◌≡◌ {A = Result T BuildFau
 
 -- ---- groups that are open
 
-pub has_open_one : (es : List Event) (m n : ℕ) → HasOpen 16 es m → HasOpen 16 es n → m ≡ n
-has_open_one es m n (s, o, l) (t, p, k) = sym l ∙ ap length (Opens-one 16 es [] s t o p) ∙ k
+pub has_open_one : (es : List Event) (m n : ℕ) → HasOpen 32 es m → HasOpen 32 es n → m ≡ n
+has_open_one es m n (s, o, l) (t, p, k) = sym l ∙ ap length (Opens-one 32 es [] s t o p) ∙ k
 
-pub groups_open : (octets : List ℕ) (nodes : List Node) (groups : List ℕ) → IsBuilding octets nodes groups → HasOpen 16 (nodes_events octets nodes) (length groups)
+pub groups_open : (octets : List ℕ) (nodes : List Node) (groups : List ℕ) → IsBuilding octets nodes groups → HasOpen 32 (nodes_events octets nodes) (length groups)
 groups_open octets nodes groups h = (h.numbers, h.opened, length-AreOpen nodes (reverse groups) h.numbers h.groups_are ∙ length-reverse groups)
 
-pub so_many_open : (octets : List ℕ) (nodes : List Node) (groups : List ℕ) (es : List Event) (n : ℕ) → IsBuilding octets nodes groups → nodes_events octets nodes ≡ es → length groups ≡ n → HasOpen 16 es n
-so_many_open octets nodes groups es n h e l = subst (λ (es : List Event). HasOpen 16 es n) e (subst (HasOpen 16 (nodes_events octets nodes)) l (groups_open octets nodes groups h))
+pub so_many_open : (octets : List ℕ) (nodes : List Node) (groups : List ℕ) (es : List Event) (n : ℕ) → IsBuilding octets nodes groups → nodes_events octets nodes ≡ es → length groups ≡ n → HasOpen 32 es n
+so_many_open octets nodes groups es n h e l = subst (λ (es : List Event). HasOpen 32 es n) e (subst (HasOpen 32 (nodes_events octets nodes)) l (groups_open octets nodes groups h))
 
 -- another number of groups is not open
-pub not_open : (octets : List ℕ) (nodes : List Node) (groups : List ℕ) (es : List Event) (n : ℕ) → IsBuilding octets nodes groups → nodes_events octets nodes ≡ es → (length groups ≡ n → ⊥) → HasOpen 16 es n → ⊥
-not_open octets nodes groups es n h e other p = other (has_open_one (nodes_events octets nodes) (length groups) n (groups_open octets nodes groups h) (subst (λ (es : List Event). HasOpen 16 es n) (sym e) p))
+pub not_open : (octets : List ℕ) (nodes : List Node) (groups : List ℕ) (es : List Event) (n : ℕ) → IsBuilding octets nodes groups → nodes_events octets nodes ≡ es → (length groups ≡ n → ⊥) → HasOpen 32 es n → ⊥
+not_open octets nodes groups es n h e other p = other (has_open_one (nodes_events octets nodes) (length groups) n (groups_open octets nodes groups h) (subst (λ (es : List Event). HasOpen 32 es n) (sym e) p))
 
 -- ---- one event more
 
 -- an event that opens and closes nothing
-pub building_more : (o o' : List ℕ) (ns ns' : List Node) (gs : List ℕ) (event : Event) → IsBuilding o ns gs → Adds o o' ns ns' event → ((s : List ℕ) → Opens 16 s (event ∷ []) s) → IsBuilding o' ns' gs
+pub building_more : (o o' : List ℕ) (ns ns' : List Node) (gs : List ℕ) (event : Event) → IsBuilding o ns gs → Adds o o' ns ns' event → ((s : List ℕ) → Opens 32 s (event ∷ []) s) → IsBuilding o' ns' gs
 building_more o o' ns ns' gs event h a keeps =
     let is : node_event o' a.node ≡ event = (same_from_push (nodes_events o' ns) (nodes_events o ns) (node_event o' a.node) event (sym (map-append (node_event o') ns (a.node ∷ [])) ∙ ap (nodes_events o') (sym a.nodes_are) ∙ a.events_are)).1 in
-    let closed : HoldEndings (length ns) (a.node ∷ []) = closed_node o' a.node (length ns) (subst (λ (event : Event). (s : List ℕ) → Opens 16 s (event ∷ []) s) (sym is) keeps) in
+    let closed : HoldEndings (length ns) (a.node ∷ []) = closed_node o' a.node (length ns) (subst (λ (event : Event). (s : List ℕ) → Opens 32 s (event ∷ []) s) (sym is) keeps) in
     record {
       are_nodes = a.are_nodes;
       numbers = h.numbers;
-      opened = subst (λ (es : List Event). Opens 16 [] es h.numbers) (sym a.events_are) (Opens-append 16 (nodes_events o ns) (event ∷ []) [] h.numbers h.numbers h.opened (keeps h.numbers));
+      opened = subst (λ (es : List Event). Opens 32 [] es h.numbers) (sym a.events_are) (Opens-append 32 (nodes_events o ns) (event ∷ []) [] h.numbers h.numbers h.opened (keeps h.numbers));
       groups_are = subst (λ (ns : List Node). AreOpen ns (reverse gs) h.numbers) (sym a.nodes_are) (AreOpen-append ns (a.node ∷ []) (reverse gs) h.numbers h.groups_are closed);
     }
 
@@ -83,13 +83,13 @@ building_context (Err x) o o' ns ns' gs number contents f h a e = rw (e.1, e.2) 
 reverse_last : (gs : List ℕ) (index : ℕ) → reverse (gs ++ index ∷ []) ≡ index ∷ reverse gs
 reverse_last gs index = reverse-append gs (index ∷ [])
 
-pub building_open : (o : List ℕ) (ns ns' : List Node) (gs gs' : List ℕ) (number ending : ℕ) → IsBuilding o ns gs → Adds o o ns ns' (opening number) → ns' ≡ ns ++ Open number ending ∷ [] → gs' ≡ gs ++ length ns ∷ [] → length gs < 16 → IsBuilding o ns' gs'
+pub building_open : (o : List ℕ) (ns ns' : List Node) (gs gs' : List ℕ) (number ending : ℕ) → IsBuilding o ns gs → Adds o o ns ns' (opening number) → ns' ≡ ns ++ Open number ending ∷ [] → gs' ≡ gs ++ length ns ∷ [] → length gs < 32 → IsBuilding o ns' gs'
 building_open o ns ns' gs gs' number ending h a f e room =
-    let short : length h.numbers < 16 = omega (arith, length-AreOpen ns (reverse gs) h.numbers h.groups_are, length-reverse gs) in
+    let short : length h.numbers < 32 = omega (arith, length-AreOpen ns (reverse gs) h.numbers h.groups_are, length-reverse gs) in
     record {
       are_nodes = a.are_nodes;
       numbers = number ∷ h.numbers;
-      opened = rw a.events_are (Opens-append 16 (nodes_events o ns) (opening number ∷ []) [] h.numbers (number ∷ h.numbers) h.opened (short, refl));
+      opened = rw a.events_are (Opens-append 32 (nodes_events o ns) (opening number ∷ []) [] h.numbers (number ∷ h.numbers) h.opened (short, refl));
       groups_are = rw (f, e, reverse_last gs (length ns)) (AreOpen-opened ns (reverse gs) h.numbers number ending h.groups_are);
     }
 
@@ -116,8 +116,8 @@ module _ (o : List ℕ) (ns : List Node) (gs gs' : List ℕ) (index : ℕ) (h : 
       let node : Node = Open i.number i.begins.closing in
       let is : IsNode o node = subst (IsNode o) (opening_node i.front ns index i.number i.begins node) (All-get_or (IsNode o) ns index node innermost_within h.are_nodes.each) in is
 
-  pub innermost_opened : Opens 16 [] (nodes_events o ns) (i.number ∷ i.others)
-  innermost_opened = subst (Opens 16 [] (nodes_events o ns)) i.numbers_are h.opened
+  pub innermost_opened : Opens 32 [] (nodes_events o ns) (i.number ∷ i.others)
+  innermost_opened = subst (Opens 32 [] (nodes_events o ns)) i.numbers_are h.opened
 
   -- the nodes where it is closed
   abbrev pub closed_nodes : List Node
@@ -140,21 +140,21 @@ module _ (o : List ℕ) (ns : List Node) (gs gs' : List ℕ) (index : ℕ) (h : 
   building_close = record {
     are_nodes = nodes_ending o i.number i.begins.closing (length ns) (i.begins.inner ++ Close i.number ∷ []) i.front (subst (AreNodes o 0) with_closing_are with_closing.are_nodes);
     numbers = i.others;
-    opened = subst (λ (es : List Event). Opens 16 [] es i.others) (sym closed_events) (Opens-append 16 (nodes_events o ns) (closing i.number ∷ []) [] (i.number ∷ i.others) i.others innermost_opened (i.others, refl, refl));
+    opened = subst (λ (es : List Event). Opens 32 [] es i.others) (sym closed_events) (Opens-append 32 (nodes_events o ns) (closing i.number ∷ []) [] (i.number ∷ i.others) i.others innermost_opened (i.others, refl, refl));
     groups_are = AreOpen-closed i.front ns index i.number i.begins (reverse gs') i.others i.outside;
   }
 
 -- what may begin and what may end, where a group is open
 pub innermost_place : (o : List ℕ) (ns : List Node) (gs : List ℕ) (es : List Event) (number last size : ℕ) (node : Node) → IsBuilding o ns gs → nodes_events o ns ≡ es → 0 < length gs → size ≡ length gs
-    → node ≡ get_or ns (get_or gs (length gs - 1) 0) node → last ≡ node_number node → IsPlace 16 number es (nat_lt size 16) last
+    → node ≡ get_or ns (get_or gs (length gs - 1) 0) node → last ≡ node_number node → IsPlace 32 number es (nat_lt size 32) last
 innermost_place o ns gs es number last size node h view some s is n =
     let outer : List ℕ = take (length gs - 1) gs in
     let index : ℕ = get_or gs (length gs - 1) 0 in
     let i = innermost o ns gs outer index h (last_group gs (length gs - 1) (omega (arith, some))) in
     let many : length (i.number ∷ i.others) ≡ size = sym (ap length i.numbers_are) ∙ length-AreOpen ns (reverse gs) h.numbers h.groups_are ∙ length-reverse gs ∙ sym s in (
       i.number ∷ i.others,
-      subst (λ (es : List Event). Opens 16 [] es (i.number ∷ i.others)) view (innermost_opened o ns gs outer index h i),
-      (λ t. let few : size < 16 = ltb-true size 16 t in omega (arith, many, few), λ l. lt-ltb size 16 (omega (arith, many, l))),
+      subst (λ (es : List Event). Opens 32 [] es (i.number ∷ i.others)) view (innermost_opened o ns gs outer index h i),
+      (λ t. let few : size < 32 = ltb-true size 32 t in omega (arith, many, few), λ l. lt-ltb size 32 (omega (arith, many, l))),
       innermost_number o ns gs outer index h i last node n is,
     )
 
@@ -182,7 +182,7 @@ on_err_then (Ok x) h f = tt
 on_err_then (Err x) h f = f h
 
 -- an event that opens and closes nothing, where memory may be refused
-pub building_kept : (r : Result (Unit {0}) BuildFault) (o o' : List ℕ) (ns ns' : List Node) (gs : List ℕ) (event : Event) (f : BuildFault) → ((s : List ℕ) → Opens 16 s (event ∷ []) s) → IsBuilding o ns gs → OnOk r (Adds o o' ns ns' event)
+pub building_kept : (r : Result (Unit {0}) BuildFault) (o o' : List ℕ) (ns ns' : List Node) (gs : List ℕ) (event : Event) (f : BuildFault) → ((s : List ℕ) → Opens 32 s (event ∷ []) s) → IsBuilding o ns gs → OnOk r (Adds o o' ns ns' event)
     → IfErr r (λ fault. (fault ≡ f) × (o' ≡ o) × (ns' ≡ ns)) → IsBuilding o' ns' gs
 building_kept (Ok x) o o' ns ns' gs event f keeps h a e = building_more o o' ns ns' gs event h a keeps
 building_kept (Err x) o o' ns ns' gs event f keeps h a e = rw (e.1, e.2) h
@@ -191,16 +191,16 @@ first_same : {a b : ℕ} {x y : List ℕ} → a ∷ x ≡ b ∷ y → a ≡ b
 first_same e = cc
 
 -- the closing that may follow is that of the innermost group
-pub closing_follows : (old new : List Event) (n : ℕ) → MayFollow 16 old (closing n) → ((number : ℕ) × IsInnermost 16 old number × (new ≡ old ++ closing number ∷ [])) → new ≡ old ++ closing n ∷ []
+pub closing_follows : (old new : List Event) (n : ℕ) → MayFollow 32 old (closing n) → ((number : ℕ) × IsInnermost 32 old number × (new ≡ old ++ closing number ∷ [])) → new ≡ old ++ closing n ∷ []
 closing_follows old new n (s, t, o, (r, e, h)) (number, (outer, p), is) =
-    let same : number ∷ outer ≡ n ∷ r = Opens-one 16 old [] (number ∷ outer) (n ∷ r) p (subst (Opens 16 [] old) e o) in
+    let same : number ∷ outer ≡ n ∷ r = Opens-one 32 old [] (number ∷ outer) (n ∷ r) p (subst (Opens 32 [] old) e o) in
     is ∙ ap (λ (k : ℕ). old ++ closing k ∷ []) (first_same same)
 
-pub complete_open : (octets : List ℕ) (nodes : List Node) (groups : List ℕ) (es : List Event) (b : Bool) → IsBuilding octets nodes groups → nodes_events octets nodes ≡ es → b ≡ (length groups == 0) → IsTrue b ↔ HasOpen 16 es 0
+pub complete_open : (octets : List ℕ) (nodes : List Node) (groups : List ℕ) (es : List Event) (b : Bool) → IsBuilding octets nodes groups → nodes_events octets nodes ≡ es → b ≡ (length groups == 0) → IsTrue b ↔ HasOpen 32 es 0
 complete_open octets nodes groups es b h e test = (
   λ t. let empty : length groups ≡ 0 = eqb-true (length groups) 0 (sym test ∙ t) in
       so_many_open octets nodes groups es 0 h e empty,
-  λ p. test ∙ eq-eqb (length groups) 0 (has_open_one (nodes_events octets nodes) (length groups) 0 (groups_open octets nodes groups h) (subst (λ (es : List Event). HasOpen 16 es 0) (sym e) p)),
+  λ p. test ∙ eq-eqb (length groups) 0 (has_open_one (nodes_events octets nodes) (length groups) 0 (groups_open octets nodes groups h) (subst (λ (es : List Event). HasOpen 32 es 0) (sym e) p)),
 )
 
 pub bit_byte : (bit : Bool) → bool_byte bit ≡ (if bit then 1 else 0)

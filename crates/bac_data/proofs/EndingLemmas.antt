@@ -93,7 +93,7 @@ module _ (front ns : List Node) (index number : ℕ) (g : Begins front ns index 
 
 -- ---- a node of an event that opens and closes nothing
 
-pub closed_node : (octets : List ℕ) (node : Node) (place : ℕ) → ((s : List ℕ) → Opens 16 s (node_event octets node ∷ []) s) → HoldEndings place (node ∷ [])
+pub closed_node : (octets : List ℕ) (node : Node) (place : ℕ) → ((s : List ℕ) → Opens 32 s (node_event octets node ∷ []) s) → HoldEndings place (node ∷ [])
 closed_node octets (Application number start end) place keeps = refl
 closed_node octets (Context number start end) place keeps = refl
 closed_node octets (Open number ending) place keeps = absurd (let i : number ∷ [] ≡ [] = (keeps []).1 in cc)

@@ -16,3 +16,6 @@ mod EventCounts
 mod MarkLemmas
 mod ReasonLemmas
 mod RangeLemmas
+mod DepthLemmas
+pub mod ValueLemmas
+mod PartLemmas

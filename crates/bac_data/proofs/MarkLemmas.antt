@@ -10,6 +10,7 @@ use Rattle.bac_tag.specs.SpellingLaws.{IsLeast-one}
 use Rattle.bac_tag.specs.Heads.{Heads}
 use Rattle.bac_tag.specs.HeadsLaws.{heads_end}
 use Rattle.bac_tag.proofs.WritingLemmas.{some_least}
+use Rattle.bac_tag.proofs.ShortLemmas.{one_is_least}
 use Rattle.bac_value.specs.declared.prim.PrimitiveValue.{PrimitiveValue}
 use Rattle.bac_value.specs.declared.prim.PrimitiveValue.TheVariants.{Boolean}
 use Rattle.bac_value.specs.OctetStringContents.{IsOctetString}
@@ -22,7 +23,7 @@ use Rattle.bac_data.specs.declared.items.Item.TheVariants as item
 use Rattle.bac_data.specs.OpenValue.{Elements, depth}
 use Rattle.bac_data.specs.Spells.{SpellsPrimitive, SpellsContext, SpellsOpen}
 use Rattle.bac_data.specs.Events.{Event, opening, closing, events, SpellsEvent}
-use Rattle.bac_data.specs.Reading.{item_event, item_contents, item_head, IsItem, LiesInFront}
+use Rattle.bac_data.specs.Reading.{item_event, item_contents, item_head, IsItem, HasLeastContents, LiesInFront}
 use Rattle.bac_data.specs.Marks.{HasMark}
 use Rattle.bac_data.proofs.EventLeastLemmas.{least_contents, least_boolean_of, least_context}
 use Rattle.bac_data.proofs.LeastLemmas.{least_more, least_one, least_open}
@@ -129,6 +130,16 @@ mark_by_head (item.Context number octets) is other head m mark = mark_context nu
 mark_by_head (item.Open number) is other head m mark = mark_tag (Open number) head m mark
 mark_by_head (item.Close number) is other head m mark = mark_tag (Close number) head m mark
 
+-- an item with a head of one octet and the contents that are written
+pub least_lies : (i : Item) → IsItem i → (head : List ℕ) → Heads (item_head i) head → length head ≡ 1 → HasLeastContents i → ItemMark head i None
+least_lies (item.Application number contents) (fits, other, found) head h one least =
+    mark_application number found.0 contents.now found.1 head None None None fits other h
+    (λ b p. one_is_least (App number (length contents.now)) head b h one (subst (λ (n : ℕ). IsLeast (Heads (App number n)) b) (sym (ap length (least found.0 found.1))) p)) least tt refl
+least_lies (item.Boolean bit) is head h one least = mark_boolean bit head None (λ b p. one_is_least (AppBool bit) head b h one p)
+least_lies (item.Context number octets) is head h one least = mark_context number octets.now head None is.0 is.1 (λ b p. one_is_least (Ctx number (length octets.now)) head b h one p)
+least_lies (item.Open number) is head h one least = mark_tag (Open number) head None (λ b p. one_is_least (Open number) head b h one p)
+least_lies (item.Close number) is head h one least = mark_tag (Close number) head None (λ b p. one_is_least (Close number) head b h one p)
+
 pub of_item : (i j : Item) (head : List ℕ) (m : Option ℕ) → i ≡ j → ItemMark head j m → ItemMark head i m
 of_item i j head m e h = subst (λ (i : Item). ItemMark head i m) (sym e) h
 
@@ -168,8 +179,8 @@ pub mark_inside : (input : List ℕ) (place start taken : ℕ) (i : Item) (o : O
 mark_inside input place start taken i None within is lies mark = tt
 mark_inside input place start taken i (Some k) within is lies mark = let l = least_item i is in place_inside input place start taken i (Some k) within is lies mark k (mark l.0 l.1)
 
-pub value_marked : (n : ℕ) (input : List ℕ) (place : ℕ) (v : Elements) (m : Option ℕ) → depth v ≤ 16 → HasMark n input place (events v ++ closing n ∷ []) m → (b : List ℕ) → IsLeast (SpellsOpen 16 n v) b → IsMark (take place input) b m
-value_marked n input place v m deep h b p = by_least (SpellsOpen 16 n v) h.least b (take place input) m (least_open 16 n v h.least deep h.is_least) h.is_mark p
+pub value_marked : (n : ℕ) (input : List ℕ) (place : ℕ) (v : Elements) (m : Option ℕ) → depth v ≤ 32 → HasMark n input place (events v ++ closing n ∷ []) m → (b : List ℕ) → IsLeast (SpellsOpen 32 n v) b → IsMark (take place input) b m
+value_marked n input place v m deep h b p = by_least (SpellsOpen 32 n v) h.least b (take place input) m (least_open 32 n v h.least deep h.is_least) h.is_mark p
 
 -- the events of a value and its closing tag
 pub ended_events : (es : List Event) (v : Elements) (e : Event) (n : ℕ) → events v ≡ es → e ≡ closing n → events v ++ closing n ∷ [] ≡ es ++ e ∷ []

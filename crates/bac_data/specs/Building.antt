@@ -17,7 +17,7 @@ IsInnermost limit es number = (outer : List ℕ) × Opens limit [] es (number �
 pub record IsBuilding (octets : List ℕ) (nodes : List Node) (groups : List ℕ) : Type 0 where
   pub are_nodes : AreNodes octets 0 nodes
   pub numbers : List ℕ
-  pub opened : Opens 16 [] (nodes_events octets nodes) numbers
+  pub opened : Opens 32 [] (nodes_events octets nodes) numbers
   pub groups_are : AreOpen nodes (reverse groups) numbers
 
 -- the number that ends the innermost group, or the value, which has this one

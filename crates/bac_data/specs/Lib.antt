@@ -1,5 +1,6 @@
 pub mod OpenValue
 pub mod Spells
+pub mod Parts
 pub mod Events
 pub mod EventsLaws
 pub mod Nodes

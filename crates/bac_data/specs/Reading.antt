@@ -8,7 +8,7 @@ use Rattle.bac_tag.specs.declared.expecting.Expected.TheVariants as expected
 use Rattle.bac_value.specs.declared.prim.PrimitiveValue.{PrimitiveValue}
 use Rattle.bac_value.specs.declared.prim.PrimitiveValue.TheVariants.{Boolean}
 use Rattle.bac_value.specs.OctetStringContents.{IsOctetString}
-use Rattle.bac_value.specs.PrimContents.{ContentsOf}
+use Rattle.bac_value.specs.PrimContents.{ContentsOf, prim_written}
 use Rattle.bac_value.specs.PrimOfContents.{prim_of_contents}
 use Rattle.bac_data.specs.declared.items.Item.{Item}
 use Rattle.bac_data.specs.declared.items.Item.TheVariants as item
@@ -81,6 +81,11 @@ IsItem (item.Application number contents) = (number ≤ 12) × (number ≢ 1) ×
 IsItem (item.Context number octets) = (number ≤ 254) × IsOctetString octets.now
 IsItem (item.Open number) = number ≤ 254
 IsItem (item.Close number) = number ≤ 254
+
+-- its contents are those that are written of its value
+abbrev pub HasLeastContents : Item → Type 0
+HasLeastContents (item.Application number contents) = (prim : PrimitiveValue) → ContentsOf number prim contents.now → contents.now ≡ prim_written prim
+HasLeastContents _ = Unit {0}
 
 -- the item lies at the front of the octets: so many of them are its head, and so many it takes with its contents
 pub record LiesInFront (item : Item) (start taken : ℕ) (octets : List ℕ) : Type 0 where

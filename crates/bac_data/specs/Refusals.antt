@@ -1,4 +1,7 @@
 -- The reasons for which an open value is refused.
+use Rattle.std.specs.Prelude.{◌≡◌, ℕ, ◌<◌, ◌%◌, List, ◌∷◌, length, take, slice_index}
+use Rattle.bac_data.specs.Events.{Event, opening, SpellsEvents}
+use Rattle.bac_data.specs.Building.{HasOpen}
 use Rattle.bac_tag.specs.declared.refusals.Why.{Why}
 use Rattle.bac_tag.specs.declared.refusals.Why.TheVariants.{Short, Tag, Length, Content, Depth, OutOfMemory}
 
@@ -10,6 +13,23 @@ IsItemReason Length = Unit {0}
 IsItemReason Content = Unit {0}
 IsItemReason Depth = Unit {0}
 IsItemReason _ = ⊥
+
+-- of what stands under a head
+abbrev pub IsContentsReason : Why → Type 0
+IsContentsReason Short = Unit {0}
+IsContentsReason Content = Unit {0}
+IsContentsReason _ = ⊥
+
+-- at the place stands the first octet of an opening tag: context class and LVT 6 (clause 20.2.1.3.2)
+abbrev pub BeginsGroup : ℕ → List ℕ → Type 0
+BeginsGroup place octets = (place < length octets) × (slice_index octets place % 16 ≡ 14)
+
+-- Another group begins at the place, and behind the opening tag and the events in front of it as many are open as may nest.
+pub record IsTooDeep (limit number : ℕ) (octets : List ℕ) (place : ℕ) : Type 0 where
+  pub events : List Event
+  pub spelled : SpellsEvents (opening number ∷ events) (take place octets)
+  pub full : HasOpen limit events limit
+  pub begins : BeginsGroup place octets
 
 -- of the value
 abbrev pub IsOpenValueReason : Why → Type 0

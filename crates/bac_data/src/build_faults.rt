@@ -6,7 +6,7 @@
 pub enum BuildFault {
     /// 255 is no tag number.
     Number,
-    /// Sixteen groups are open.
+    /// Thirty-two groups are open.
     Depth,
     /// There is no group to close.
     NothingOpen,

@@ -16,7 +16,7 @@ use std::alloc::Global;
 use std::marker::Model;
 
 /// How many groups nest at most.
-const MAX_GROUPS: usize = 16;
+const MAX_GROUPS: usize = 32;
 
 /// An open value (clause 20.2) that is being built, event by event. After each fault it is as it was.
 #[derive(Debug, Drop)]
@@ -89,11 +89,11 @@ impl AnyBuilder {
     /// Begins a group with this number, at most 254 (clause 20.2.1.3.2).
     ///
     /// # Errors
-    /// `Number` for 255, else `Depth` where sixteen groups are open, else `OutOfMemory`.
+    /// `Number` for 255, else `Depth` where thirty-two groups are open, else `OutOfMemory`.
     pub fn open(&mut self, number: u8) -> Result<(), BuildFault>
         ensures ok { OnOk result (self.new ≡ self.old ++ opening number ∷ []) }
         ensures number { IsErrOf result BuildFault.Number ↔ (number ≡ 255) }
-        ensures depth { IsErrOf result BuildFault.Depth ↔ ((number ≢ 255) × HasOpen 16 self.old 16) }
+        ensures depth { IsErrOf result BuildFault.Depth ↔ ((number ≢ 255) × HasOpen 32 self.old 32) }
         ensures others { IfErr result (λ fault. (fault ≡ BuildFault.Number) ⊎ (fault ≡ BuildFault.Depth) ⊎ (fault ≡ BuildFault.OutOfMemory)) }
         ensures err { OnErr result (self.new ≡ self.old) }
     {
@@ -118,8 +118,8 @@ impl AnyBuilder {
     /// # Errors
     /// `NothingOpen` where no group is open, else `OutOfMemory`.
     pub fn close(&mut self) -> Result<(), BuildFault>
-        ensures ok { OnOk result ((number : ℕ) × IsInnermost 16 self.old number × (self.new ≡ self.old ++ closing number ∷ [])) }
-        ensures nothing_open { IsErrOf result BuildFault.NothingOpen ↔ HasOpen 16 self.old 0 }
+        ensures ok { OnOk result ((number : ℕ) × IsInnermost 32 self.old number × (self.new ≡ self.old ++ closing number ∷ [])) }
+        ensures nothing_open { IsErrOf result BuildFault.NothingOpen ↔ HasOpen 32 self.old 0 }
         ensures others { IfErr result (λ fault. (fault ≡ BuildFault.NothingOpen) ⊎ (fault ≡ BuildFault.OutOfMemory)) }
         ensures err { OnErr result (self.new ≡ self.old) }
     {
@@ -141,7 +141,7 @@ impl AnyBuilder {
     /// this one.
     pub(crate) fn place(&self, number: u8) -> (bool, u8)
         requires { number ≤ 254 }
-        ensures place { IsPlace 16 number self.now result.0 result.1 }
+        ensures place { IsPlace 32 number self.now result.0 result.1 }
         ensures small { result.1 ≤ 254 }
     {
         let room = self.groups.len() < MAX_GROUPS;
@@ -153,7 +153,7 @@ impl AnyBuilder {
 
     /// Whether no group is open.
     pub(crate) fn is_complete(&self) -> bool
-        ensures { IsTrue result ↔ HasOpen 16 self.now 0 }
+        ensures { IsTrue result ↔ HasOpen 32 self.now 0 }
     {
         self.groups.is_empty()
     }
@@ -161,7 +161,7 @@ impl AnyBuilder {
     /// Appends what stands next.
     pub(crate) fn take(&mut self, item: Item<'_>) -> Result<(), BuildFault>
         requires item { IsItem item }
-        requires follows { MayFollow 16 self.old (item_event item) }
+        requires follows { MayFollow 32 self.old (item_event item) }
         ensures ok { OnOk result (self.new ≡ self.old ++ item_event item.entry ∷ []) }
     {
         match item {
@@ -180,7 +180,7 @@ impl AnyBuilder {
     /// The value with the events so far. Where a group is still open the builder comes back. It takes no memory.
     pub fn finish(self) -> Result<Any, (AnyBuilder, BuildFault)>
         ensures value { IfOk result (λ value. events value ≡ self) }
-        ensures complete { IsOk result ↔ HasOpen 16 self 0 }
+        ensures complete { IsOk result ↔ HasOpen 32 self 0 }
         ensures back { IfErr result (λ back. (back.0 ≡ self) × (back.1 ≡ BuildFault.StillOpen)) }
     {
         if !self.groups.is_empty() {

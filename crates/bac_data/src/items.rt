@@ -1,6 +1,6 @@
 //! What stands next in an open value.
 
-ghost use Rattle.std.specs.Prelude.{◌≡◌, ◌≢◌, ◌≤◌, ◌<◌, ◌⊎◌, ◌++◌, true, IsTrue, ℕ, List, length, take, [], IfOk, IfErr};
+ghost use Rattle.std.specs.Prelude.{◌≡◌, ◌≢◌, ◌↔◌, ◌≤◌, ◌<◌, ◌⊎◌, ◌++◌, true, false, Bool, IsTrue, IfSome, ℕ, List, length, take, [], IfOk, IfErr};
 ghost use Rattle.bac_tag.specs.Octets.{IsMark};
 ghost use Rattle.bac_tag.specs.Spelling.{IsLeast, IsRefusal, Takes};
 ghost use Rattle.bac_tag.specs.Heads.{Heads, IsValid};
@@ -8,13 +8,15 @@ ghost use Rattle.bac_tag.specs.Expected.{FitsOne, HeadsOfOne};
 ghost use Rattle.bac_value.specs.declared.prim.PrimitiveValue.{PrimitiveValue};
 ghost use Rattle.bac_value.specs.Primitives.{IsBegun, OfSize};
 ghost use Rattle.bac_value.specs.PrimContents.{ContentsOf};
-ghost use Rattle.bac_data.specs.Refusals.{IsItemReason};
+ghost use Rattle.bac_tag.specs.Refusals.{IsHeadReason};
+ghost use Rattle.bac_data.specs.Refusals.{IsContentsReason, IsItemReason, BeginsGroup};
 ghost use Rattle.bac_data.specs.Under.{Under, HasContents};
 ghost use Rattle.bac_data.specs.Events.{SpellsEvent};
-ghost use Rattle.bac_data.specs.Reading.{SpellsStanding, next_heads, item_event, item_contents, item_head, IsItem, LiesInFront};
+ghost use Rattle.bac_data.specs.Reading.{SpellsStanding, next_heads, item_event, item_contents, item_head, IsItem, HasLeastContents, LiesInFront};
 
 use bac_tag::{
-    Expected, Refusal, TagHead, Why, joined_marks, mark_read_head, read_head, read_one_of,
+    Expected, Refusal, TagHead, Why, is_short_closing, joined_marks, mark_read_head, read_head,
+    read_one_of, short_len,
 };
 use bac_value::{
     Bits, Date, DoubleBits, Enumerated, Null, ObjectId, Octets, Prim, Primitive, RealBits, Signed,
@@ -46,7 +48,7 @@ fn read_contents(number: u8, size: usize, octets: &[u8]) -> Result<&[u8], Refusa
     ensures front { IfOk result (λ contents. (contents.now ≡ take size octets.now) × (size ≤ length octets.now)) }
     ensures found { IfOk result (λ contents. (prim : PrimitiveValue) × ContentsOf number prim contents.now) }
     ensures refused { IfErr result (IsRefusal (OfSize (ContentsOf number) size) octets.now) }
-    ensures reasons { IfErr result (λ refusal. IsItemReason refusal.why) }
+    ensures reasons { IfErr result (λ refusal. IsContentsReason refusal.why) }
 {
     let seen = &octets[..size.min(octets.len())];
     if let Some(place) = Prim::hopeless(number, seen, size) {
@@ -76,7 +78,7 @@ fn read_under(head: TagHead, octets: &[u8]) -> Result<(Item<'_>, usize), Refusal
     ensures head { IfOk result (λ found. item_head found.0 ≡ head) }
     ensures item { IfOk result (λ found. IsItem found.0) }
     ensures refused { IfErr result (IsRefusal (Under head) octets.now) }
-    ensures reasons { IfErr result (λ refusal. IsItemReason refusal.why) }
+    ensures reasons { IfErr result (λ refusal. IsContentsReason refusal.why) }
 {
     match head {
         TagHead::App { number, len } => {
@@ -145,13 +147,16 @@ fn application_head<T: Primitive>() -> Expected
     }
 }
 
+/// The lower four bits of the first octet of an opening tag: context class and LVT 6 (clause 20.2.1.3.2).
+const OPENING: u8 = 0x0E;
+
 /// Whether the octets begin with an opening tag.
 fn begins_group(octets: &[u8]) -> bool
-    ensures { IsTrue result → 0 < length octets.now }
+    ensures { IsTrue result ↔ BeginsGroup 0 octets.now }
 {
-    match octets.first() {
-        Some(octet) => octet & 0x0F == 0x0E,
-        None => false,
+    match octets {
+        [octet, ..] => octet % 16 == OPENING,
+        [] => false,
     }
 }
 
@@ -181,6 +186,7 @@ fn read_next_head(octets: &[u8], room: bool, closing: u8) -> Result<(TagHead, us
     requires { closing ≤ 254 }
     ensures found { IfOk result (Takes (HeadsOfOne (next_heads room closing)) octets.now) }
     ensures refused { IfErr result (IsRefusal (HeadsOfOne (next_heads room closing)) octets.now) }
+    ensures depth { IfErr result (λ refusal. (refusal.why ≡ Why.Depth) ↔ ((room ≡ false) × (refusal.place ≡ 0) × BeginsGroup 0 octets.now)) }
     ensures reasons { IfErr result (λ refusal. IsItemReason refusal.why) }
 {
     match read_head(octets) {
@@ -197,6 +203,7 @@ fn read_listed_head(octets: &[u8], room: bool, closing: u8) -> Result<(TagHead, 
     requires { closing ≤ 254 }
     ensures found { IfOk result (Takes (HeadsOfOne (next_heads room closing)) octets.now) }
     ensures refused { IfErr result (IsRefusal (HeadsOfOne (next_heads room closing)) octets.now) }
+    ensures depth { IfErr result (λ refusal. (refusal.why ≡ Why.Depth) ↔ ((room ≡ false) × (refusal.place ≡ 0) × BeginsGroup 0 octets.now)) }
     ensures reasons { IfErr result (λ refusal. IsItemReason refusal.why) }
 {
     let heads = next_heads(closing);
@@ -209,8 +216,10 @@ fn read_listed_head(octets: &[u8], room: bool, closing: u8) -> Result<(TagHead, 
 
 /// The refusal, with the reason `Depth` where a group begins and there is no room for one.
 fn told(refusal: Refusal, octets: &[u8], room: bool) -> Refusal
+    requires { IsHeadReason refusal.why }
     ensures place { result.place ≡ refusal.place }
-    ensures reasons { IsItemReason refusal.why → IsItemReason result.why }
+    ensures depth { (result.why ≡ Why.Depth) ↔ ((room ≡ false) × (refusal.place ≡ 0) × BeginsGroup 0 octets.now) }
+    ensures reasons { IsItemReason result.why }
     ensures why { (result.why ≡ refusal.why) ⊎ ((result.why ≡ Why.Depth) × (refusal.place ≡ 0) × (0 < length octets.now)) }
 {
     if room || refusal.place != 0 || !begins_group(octets) {
@@ -219,6 +228,38 @@ fn told(refusal: Refusal, octets: &[u8], room: bool) -> Refusal
     Refusal {
         place: 0,
         why: Why::Depth,
+    }
+}
+
+/// What stands next and how many octets it takes, where it is the closing tag of this number or an application
+/// primitive, and its head is the least one and has one octet.
+#[inline(always)]
+fn read_short_item(octets: &[u8], closing: u8) -> Option<(Item<'_>, usize)>
+    requires { closing ≤ 254 }
+    ensures found { IfSome result (λ found. (room : Bool) → Takes (SpellsStanding room closing) octets.now (item_event found.0, found.1)) }
+    ensures parts { IfSome result (λ found. LiesInFront found.0 1 found.1 octets.now) }
+    ensures some { IfSome result (λ found. 0 < found.1) }
+    ensures item { IfSome result (λ found. IsItem found.0) }
+{
+    if is_short_closing(octets, closing) {
+        return Some((Item::Close(closing), 1));
+    }
+    let number = *octets.first()? >> 4;
+    if number > 12 || number == 1 {
+        return None;
+    }
+    let size = short_len(octets, false, number)?;
+    let (shortest, longest) = Prim::lengths(number);
+    if size < shortest || longest < size {
+        return None;
+    }
+    let head = TagHead::App {
+        number,
+        len: size as u32,
+    };
+    match read_under(head, &octets[1..]) {
+        Ok((item, taken)) => Some((item, 1 + taken)),
+        Err(_) => None,
     }
 }
 
@@ -239,8 +280,12 @@ pub(crate) fn read_item(
     ensures some { IfOk result (λ found. 0 < found.2) }
     ensures item { IfOk result (λ found. IsItem found.0) }
     ensures refused { IfErr result (IsRefusal (SpellsStanding room closing) octets.now) }
+    ensures depth { IfErr result (λ refusal. (refusal.why ≡ Why.Depth) ↔ ((room ≡ false) × (refusal.place ≡ 0) × BeginsGroup 0 octets.now)) }
     ensures reasons { IfErr result (λ refusal. IsItemReason refusal.why) }
 {
+    if let Some((item, taken)) = read_short_item(octets, closing) {
+        return Ok((item, 1, taken));
+    }
     let (head, start) = read_next_head(octets, room, closing)?;
     match read_under(head, &octets[start..]) {
         Ok((item, size)) => Ok((item, start, start + size)),
@@ -268,12 +313,28 @@ fn head_of(item: Item<'_>) -> TagHead
     }
 }
 
+/// Whether the contents of an item are those that are written.
+#[inline(always)]
+fn contents_are_least(item: Item<'_>) -> bool
+    requires { IsItem item }
+    ensures { IsTrue result → HasLeastContents item.entry }
+{
+    match item {
+        Item::Application { number, contents } => mark_contents(number, contents).is_none(),
+        _ => true,
+    }
+}
+
 /// The first octet of an item, whose head has these octets, that differs from the canonical ones.
 pub(crate) fn mark_item(head: &[u8], item: Item<'_>) -> Option<usize>
     requires item { IsItem item }
     requires headed { Heads (item_head item) head.now }
     ensures { (b : List ℕ) → IsLeast (SpellsEvent (item_event item.entry)) b → IsMark (head.now ++ item_contents item.entry) b result }
 {
+    // A head of one octet is the least one.
+    if head.len() == 1 && contents_are_least(item) {
+        return None;
+    }
     let read = head_of(item);
     match item {
         Item::Application { number, contents } => {

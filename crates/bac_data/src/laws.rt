@@ -1,9 +1,10 @@
 //! Laws of the definitions.
 
-ghost use Rattle.std.specs.Prelude.{◌≡◌, ◌↔◌, ℕ, List};
-ghost use Rattle.bac_tag.specs.Spelling.{EndsItself, IsLeast};
-ghost use Rattle.bac_data.specs.OpenValue.{Elements};
-ghost use Rattle.bac_data.specs.Spells.{SpellsOpen};
+ghost use Rattle.std.specs.Prelude.{◌≡◌, ◌↔◌, ◌⊎◌, ◌≤◌, ℕ, List};
+ghost use Rattle.bac_tag.specs.Spelling.{EndsItself, IsLeast, IsViable, IsPartway};
+ghost use Rattle.bac_data.specs.OpenValue.{Elements, IsOpenValue};
+ghost use Rattle.bac_data.specs.Parts.{SpellsContextOf, SpellsGroup, SpellsMore};
+ghost use Rattle.bac_data.specs.Spells.{SpellsPrimitive, Spells, SpellsAll, SpellsOpen};
 ghost use Rattle.bac_data.specs.Events.{events};
 
 /// The events of a walk determine the value.
@@ -19,4 +20,26 @@ pub fn open_values_end_themselves()
 /// Two open values are the same exactly where their canonical octets are equal.
 pub fn canonical_octets_tell_the_value()
     ensures { (limit number : ℕ) (v w : Elements) (c d : List ℕ) → IsLeast (SpellsOpen limit number v) c → IsLeast (SpellsOpen limit number w) d → (v ≡ w) ↔ (c ≡ d) }
+{}
+
+/// Each open value has a least spelling between tags of each number up to 254.
+pub fn open_values_have_spellings()
+    ensures { (limit number : ℕ) (v : Elements) → number ≤ 254 → IsOpenValue limit v → (b : List ℕ) × IsLeast (SpellsOpen limit number v) b }
+{}
+
+/// Only open values are spelled, and only between tags of a number up to 254.
+pub fn only_open_values_are_spelled()
+    ensures { (limit number : ℕ) (v : Elements) (b : List ℕ) → SpellsOpen limit number v b → (number ≤ 254) × IsOpenValue limit v }
+{}
+
+/// A list begins a spelling of an element exactly where it begins one of an application primitive, of a context
+/// primitive or of a group.
+pub fn elements_are_viable_in_a_case()
+    ensures { (b : List ℕ) → IsViable Spells b ↔ (IsViable SpellsPrimitive b ⊎ (IsViable SpellsContextOf b ⊎ IsViable SpellsGroup b)) }
+{}
+
+/// A list begins a spelling of an element and others behind it exactly where it begins one of an element, or is one of
+/// an element with the beginning of others behind it.
+pub fn lists_are_viable_in_turn()
+    ensures { (b : List ℕ) → IsViable SpellsMore b ↔ (IsViable Spells b ⊎ IsPartway Spells (λ _. SpellsAll) b) }
 {}

@@ -37,6 +37,7 @@ pub(crate) enum Node {
 
 impl Node {
     /// The number of its type, its tag or its group.
+    #[inline]
     pub(crate) fn number(self) -> u8
         ensures { result ≡ node_number self }
     {
@@ -50,6 +51,7 @@ impl Node {
 }
 
 /// Appends a node. Where memory is refused, the octets from `start` on go with it.
+#[inline]
 fn put(
     octets: &mut Vec<u8>,
     nodes: &mut Vec<Node>,
@@ -67,6 +69,7 @@ fn put(
 }
 
 /// Appends an application primitive. Where memory is refused it comes back, and all is as it was.
+#[inline]
 pub(crate) fn append_primitive(
     octets: &mut Vec<u8>,
     nodes: &mut Vec<Node>,
@@ -93,6 +96,7 @@ pub(crate) fn append_primitive(
 
 /// Appends the application primitive with this number and these contents. Where memory is refused all is as it
 /// was.
+#[inline]
 pub(crate) fn append_application(
     octets: &mut Vec<u8>,
     nodes: &mut Vec<Node>,
@@ -118,6 +122,7 @@ pub(crate) fn append_application(
 }
 
 /// Appends a context primitive. Where memory is refused all is as it was.
+#[inline]
 pub(crate) fn append_context(
     octets: &mut Vec<u8>,
     nodes: &mut Vec<Node>,

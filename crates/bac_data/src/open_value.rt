@@ -12,7 +12,7 @@ use crate::walking::Events;
 use std::marker::Model;
 
 /// An open value: a list of elements, each an application primitive, a context primitive (its number and its
-/// contents) or a group (its number and its elements). At most 16 groups nest.
+/// contents) or a group (its number and its elements). At most 32 groups nest.
 #[derive(Debug, Drop)]
 pub struct Any {
     octets: Vec<u8>,
@@ -33,7 +33,7 @@ impl Model for Any {
 
     ghost view = { λ any. value_of_events (nodes_events any.octets.items any.nodes.items) };
 
-    ghost invariant = { λ any. AreNodes any.octets.items 0 any.nodes.items × Opens 16 [] (nodes_events any.octets.items any.nodes.items) [] × HoldEndings 0 any.nodes.items };
+    ghost invariant = { λ any. AreNodes any.octets.items 0 any.nodes.items × Opens 32 [] (nodes_events any.octets.items any.nodes.items) [] × HoldEndings 0 any.nodes.items };
 }
 
 impl Any {
@@ -41,7 +41,7 @@ impl Any {
     /// closing.
     pub(crate) fn of_nodes(octets: Vec<u8>, nodes: Vec<Node>) -> Any
         requires nodes { AreNodes octets.items 0 nodes.items }
-        requires closed { Opens 16 [] (nodes_events octets.items nodes.items) [] }
+        requires closed { Opens 32 [] (nodes_events octets.items nodes.items) [] }
         requires endings { HoldEndings 0 nodes.items }
         ensures { events result ≡ nodes_events octets.items nodes.items }
     {
@@ -52,7 +52,7 @@ impl Any {
     pub(crate) fn parts(&self) -> (&[u8], &[Node])
         ensures nodes { AreNodes result.0.now 0 result.1.now }
         ensures events { nodes_events result.0.now result.1.now ≡ events self.now }
-        ensures depth { depth self.now ≤ 16 }
+        ensures depth { depth self.now ≤ 32 }
     {
         (&self.octets, &self.nodes)
     }
@@ -60,7 +60,7 @@ impl Any {
     /// A walk over the value. It takes no memory.
     pub fn events(&self) -> Events<'_>
         ensures events { result ≡ events self.now }
-        ensures value { IsOpenValue 16 self.now }
+        ensures value { IsOpenValue 32 self.now }
     {
         Events::over(&self.octets, &self.nodes)
     }

@@ -6,7 +6,7 @@ ghost use Rattle.bac_tag.specs.Spelling.{IsLeast, IsRefusal, Takes};
 ghost use Rattle.bac_data.specs.Spells.{SpellsOpen};
 ghost use Rattle.bac_data.specs.Events.{closing};
 ghost use Rattle.bac_data.specs.Reading.{item_event};
-ghost use Rattle.bac_data.specs.Refusals.{IsOpenValueReason};
+ghost use Rattle.bac_data.specs.Refusals.{IsOpenValueReason, IsTooDeep};
 
 use crate::building::AnyBuilder;
 use crate::items::{Item, mark_item, read_item};
@@ -38,10 +38,11 @@ fn read_value(
     marks: bool,
 ) -> Result<(Any, usize, Option<usize>), Refusal>
     requires { number ≤ 254 }
-    ensures found { IfOk result (λ found. Takes (SpellsOpen 16 number) octets.now (found.0, found.1)) }
-    ensures mark { IfOk result (λ found. IsTrue marks → (b : List ℕ) → IsLeast (SpellsOpen 16 number found.0) b → IsMark (take found.1 octets.now) b found.2) }
-    ensures refused { IfErr result (λ refusal. refusal.why ≢ Why.OutOfMemory → IsRefusal (SpellsOpen 16 number) octets.now refusal) }
+    ensures found { IfOk result (λ found. Takes (SpellsOpen 32 number) octets.now (found.0, found.1)) }
+    ensures mark { IfOk result (λ found. IsTrue marks → (b : List ℕ) → IsLeast (SpellsOpen 32 number found.0) b → IsMark (take found.1 octets.now) b found.2) }
+    ensures refused { IfErr result (λ refusal. refusal.why ≢ Why.OutOfMemory → IsRefusal (SpellsOpen 32 number) octets.now refusal) }
     ensures memory { IfErr result (λ refusal. refusal.why ≡ Why.OutOfMemory → refusal.place ≡ 0) }
+    ensures depth { IfErr result (λ refusal. refusal.why ≡ Why.Depth → IsTooDeep 32 number octets.now refusal.place) }
     ensures reasons { IfErr result (λ refusal. IsOpenValueReason refusal.why) }
 {
     let (opening, mut place) = read_expected(octets, Expected::Open(Some(number)))?;
@@ -84,9 +85,10 @@ fn read_value(
 /// refused.
 pub fn read_any(alloc: Global, octets: &[u8], number: u8) -> Result<(Any, usize), Refusal>
     requires { number ≤ 254 }
-    ensures found { IfOk result (Takes (SpellsOpen 16 number) octets.now) }
-    ensures refused { IfErr result (λ refusal. refusal.why ≢ Why.OutOfMemory → IsRefusal (SpellsOpen 16 number) octets.now refusal) }
+    ensures found { IfOk result (Takes (SpellsOpen 32 number) octets.now) }
+    ensures refused { IfErr result (λ refusal. refusal.why ≢ Why.OutOfMemory → IsRefusal (SpellsOpen 32 number) octets.now refusal) }
     ensures memory { IfErr result (λ refusal. refusal.why ≡ Why.OutOfMemory → refusal.place ≡ 0) }
+    ensures depth { IfErr result (λ refusal. refusal.why ≡ Why.Depth → IsTooDeep 32 number octets.now refusal.place) }
     ensures reasons { IfErr result (λ refusal. IsOpenValueReason refusal.why) }
 {
     let (value, taken, _) = read_value(alloc, octets, number, false)?;
@@ -104,10 +106,11 @@ pub fn read_any_marked(
     number: u8,
 ) -> Result<(Any, usize, Option<usize>), Refusal>
     requires { number ≤ 254 }
-    ensures found { IfOk result (λ found. Takes (SpellsOpen 16 number) octets.now (found.0, found.1)) }
-    ensures mark { IfOk result (λ found. (b : List ℕ) → IsLeast (SpellsOpen 16 number found.0) b → IsMark (take found.1 octets.now) b found.2) }
-    ensures refused { IfErr result (λ refusal. refusal.why ≢ Why.OutOfMemory → IsRefusal (SpellsOpen 16 number) octets.now refusal) }
+    ensures found { IfOk result (λ found. Takes (SpellsOpen 32 number) octets.now (found.0, found.1)) }
+    ensures mark { IfOk result (λ found. (b : List ℕ) → IsLeast (SpellsOpen 32 number found.0) b → IsMark (take found.1 octets.now) b found.2) }
+    ensures refused { IfErr result (λ refusal. refusal.why ≢ Why.OutOfMemory → IsRefusal (SpellsOpen 32 number) octets.now refusal) }
     ensures memory { IfErr result (λ refusal. refusal.why ≡ Why.OutOfMemory → refusal.place ≡ 0) }
+    ensures depth { IfErr result (λ refusal. refusal.why ≡ Why.Depth → IsTooDeep 32 number octets.now refusal.place) }
     ensures reasons { IfErr result (λ refusal. IsOpenValueReason refusal.why) }
 {
     read_value(alloc, octets, number, true)

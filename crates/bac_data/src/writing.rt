@@ -16,6 +16,7 @@ use crate::open_value::Any;
 use bac_tag::{OutOfMemory, TagHead, write_head};
 
 /// Appends a head. Where memory is refused nothing is appended.
+#[inline(always)]
 fn append_head(head: TagHead, out: &mut Vec<u8>) -> Result<(), OutOfMemory>
     requires { IsValid head }
     ensures ok { OnOk result (Appends (IsLeast (Heads head)) out.old.items out.new.items) }
@@ -27,6 +28,7 @@ fn append_head(head: TagHead, out: &mut Vec<u8>) -> Result<(), OutOfMemory>
 
 /// Appends an application primitive by its number and its written contents. Where memory is refused some
 /// octets may be there.
+#[inline]
 fn append_primitive(number: u8, contents: &[u8], out: &mut Vec<u8>) -> Result<(), OutOfMemory>
     requires number { number ≤ 12 }
     requires contents { IsWrittenOf number contents.now }
@@ -43,6 +45,7 @@ fn append_primitive(number: u8, contents: &[u8], out: &mut Vec<u8>) -> Result<()
 }
 
 /// Appends an event. Where memory is refused some octets may be there.
+#[inline]
 fn append_node(octets: &[u8], node: Node, out: &mut Vec<u8>) -> Result<(), OutOfMemory>
     requires within { IsWithin (length octets.now) node }
     requires node { IsNode octets.now node }
@@ -66,6 +69,7 @@ fn append_node(octets: &[u8], node: Node, out: &mut Vec<u8>) -> Result<(), OutOf
 }
 
 /// Appends events. Where memory is refused some octets may be there.
+#[inline]
 fn append_nodes(octets: &[u8], nodes: &[Node], out: &mut Vec<u8>) -> Result<(), OutOfMemory>
     requires within { AllByRecursion (IsWithin (length octets.now)) nodes.now }
     requires nodes { AllByRecursion (IsNode octets.now) nodes.now }
@@ -88,9 +92,10 @@ fn room_for(octets: &[u8], nodes: &[Node]) -> usize {
 }
 
 /// Appends an open value with its tags. Where memory is refused some octets may be there.
+#[inline]
 fn append_any(value: &Any, number: u8, out: &mut Vec<u8>) -> Result<(), OutOfMemory>
     requires { number ≤ 254 }
-    ensures ok { OnOk result (Appends (IsLeast (SpellsOpen 16 number value.now)) out.old.items out.new.items) }
+    ensures ok { OnOk result (Appends (IsLeast (SpellsOpen 32 number value.now)) out.old.items out.new.items) }
     ensures err { OnErr result (Extends out.old.items out.new.items) }
 {
     let (octets, nodes) = value.parts();
@@ -104,7 +109,7 @@ fn append_any(value: &Any, number: u8, out: &mut Vec<u8>) -> Result<(), OutOfMem
 /// number around it (clause 20.2.1.3.2), which is at most 254. Where memory is refused `out` stays as it was.
 pub fn write_any(value: &Any, number: u8, out: &mut Vec<u8>) -> Result<(), OutOfMemory>
     requires { number ≤ 254 }
-    ensures ok { OnOk result (Appends (IsLeast (SpellsOpen 16 number value.now)) out.old.items out.new.items) }
+    ensures ok { OnOk result (Appends (IsLeast (SpellsOpen 32 number value.now)) out.old.items out.new.items) }
     ensures err { OnErr result (out.new.items ≡ out.old.items) }
 {
     let start = out.len();

@@ -2,7 +2,7 @@ use Rattle.std.proofs.Common.{ℕ, arith, subst}
 use Rattle.std.proofs.lemmas.Option.{IfSome_then}
 use Rattle.bac_data.specs.declared.items.Item.{Item}
 use Rattle.bac_data.specs.Reading.{IsItem, item_head}
-use Rattle.bac_data.proofs.MarkLemmas.{HeadMark, of_item, mark_application, mark_below, mark_by_head, written_small}
+use Rattle.bac_data.proofs.MarkLemmas.{HeadMark, of_item, mark_application, mark_below, mark_by_head, written_small, least_lies}
 use Rattle.bac_tag.specs.declared.heads.TagHead.{TagHead}
 use Rattle.bac_tag.specs.declared.heads.TagHead.TheVariants.{App}
 use Rattle.bac_tag.specs.Heads.{Heads}
@@ -34,3 +34,7 @@ pub returns-in_default : goal.returns-in_default
 returns-in_default c =
     mark_by_head c.args.item c.requires.item c.in_default.not-Application c.args.head.now c.mark_read_head.result
     (subst (λ (h : TagHead). HeadMark c.args.head.now h c.mark_read_head.result) c.head_of-read.ensures c.mark_read_head.ensures)
+
+pub returns-then-contents_are_least : goal.returns-then-contents_are_least
+returns-then-contents_are_least c =
+    least_lies c.args.item c.requires.item c.args.head.now c.requires.headed c.if-head-eq1.true (c.contents_are_least.ensures c.if-contents_are_least.true)

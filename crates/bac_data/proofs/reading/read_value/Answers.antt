@@ -7,6 +7,7 @@ use Rattle.bac_data.specs.Events.{events, closing}
 use Rattle.bac_data.specs.Reading.{item_event, item_head}
 use Rattle.bac_data.proofs.MarkLemmas.{ItemMark, mark_inside, marked_opening, marked_more, value_marked, ended_events}
 use Rattle.bac_data.proofs.AnyLemmas.{has_read_opening, refused_opening, has_read_more, refused_behind_events, may_follow, value_read, where_ok}
+use Rattle.bac_data.proofs.DepthLemmas.{too_deep_behind}
 use Rattle.bac_data.proofs.ReasonLemmas.{item_memory}
 use Rattle.bac_data.proofs.reading.read_value.Goals.{then-marks, else-marks, then-marks-2, else-marks-2, in-Ok-finish, in-Err-finish, else-is_complete-via-then-is_complete+else-ends, else-is_complete-via-else-is_complete}
 use Rattle.bac_data.proofs.reading.read_value.Goals as goal
@@ -20,6 +21,11 @@ pub returns-in-Err-clause-refused : goal.returns-in-Err-clause-refused
 returns-in-Err-clause-refused c = λ w.
     rw c.behind.ensures (refused_behind_events c.args.number c.args.octets.now c.loop-found.place c.loop-found.builder c.place-room.result.0 c.place-room.result.1 c.in-Err.refusal c.loop-found.invariant.0 c.place-room.ensures.place
     (rw take_rest at c.in-Err.ensures.refused))
+
+pub returns-in-Err-clause-depth : goal.returns-in-Err-clause-depth
+returns-in-Err-clause-depth c =
+    rw c.behind.ensures (too_deep_behind c.args.number c.args.octets.now c.loop-found.place c.loop-found.builder c.place-room.result.0 c.place-room.result.1 c.in-Err.refusal c.loop-found.invariant.0 c.place-room.ensures.place
+    (rw take_rest at c.in-Err.ensures.depth))
 
 pub returns-in-Err-clause-memory : goal.returns-in-Err-clause-memory
 returns-in-Err-clause-memory c = λ w. absurd (item_memory c.in-Err.refusal.why c.in-Err.ensures.reasons (rw c.behind.ensures at w))

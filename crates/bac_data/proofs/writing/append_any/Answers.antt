@@ -20,7 +20,7 @@ returns-clause-ok c =
     let b = c.in_ok-append_nodes.ensures.ok in
     on_ok c.append_head-2.result c.append_head-2.ensures.ok (λ d. (
       a.0 ++ (b.0 ++ d.0),
-      least_open 16 c.args.number c.args.value.now (a.0 ++ (b.0 ++ d.0)) c.parts.ensures.depth
+      least_open 32 c.args.number c.args.value.now (a.0 ++ (b.0 ++ d.0)) c.parts.ensures.depth
           (least_whole c.args.number c.args.value.now (nodes_events c.parts.result.0.now c.parts.result.1.now) a.0 b.0 d.0 (sym c.parts.ensures.events) a.1 b.1 d.1),
       d.2 ∙ ap (λ (l : List ℕ). l ++ d.0) (b.2 ∙ ap (λ (l : List ℕ). l ++ b.0) (a.2 ∙ ap (λ (l : List ℕ). l ++ a.0) c.reserve.ensures.items)) ∙ append_assoc (c.args.out.now.items ++ a.0) b.0 d.0 ∙ append_assoc c.args.out.now.items a.0 (b.0 ++ d.0),
     ))

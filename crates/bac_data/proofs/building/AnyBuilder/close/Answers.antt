@@ -45,7 +45,7 @@ pub returns-clause-ok : goal.returns-clause-ok
 returns-clause-ok c =
     let i = group c in (
       i.number,
-      (i.others, subst (λ (es : List Event). Opens 16 [] es (i.number ∷ i.others)) c.self.view_is (innermost_opened c.self.inside.octets.items c.self.inside.nodes.items c.self.inside.groups.items c.pop.new.self.items (get_or c.deref.result.now (c.len.result - 1) 0) c.self.invariant i)),
+      (i.others, subst (λ (es : List Event). Opens 32 [] es (i.number ∷ i.others)) c.self.view_is (innermost_opened c.self.inside.octets.items c.self.inside.nodes.items c.self.inside.groups.items c.pop.new.self.items (get_or c.deref.result.now (c.len.result - 1) 0) c.self.invariant i)),
       ap (nodes_events c.self.inside.octets.items) (closed c) ∙ closed_events c.self.inside.octets.items c.self.inside.nodes.items c.self.inside.groups.items c.pop.new.self.items (get_or c.deref.result.now (c.len.result - 1) 0) c.self.invariant i ∙ ap (λ (es : List Event). es ++ closing i.number ∷ []) c.self.view_is,
     )
 

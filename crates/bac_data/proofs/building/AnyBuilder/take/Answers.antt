@@ -20,7 +20,7 @@ invariant_of-self-in-Application c =
 
 pub returns-in-Close : goal.returns-in-Close
 returns-in-Close c =
-    let follows : MayFollow 16 c.args.self.now (closing c.in-Close.field-0) = subst (λ (i : Item). MayFollow 16 c.args.self.now (item_event i)) c.in-Close.is c.requires.follows in
+    let follows : MayFollow 32 c.args.self.now (closing c.in-Close.field-0) = subst (λ (i : Item). MayFollow 32 c.args.self.now (item_event i)) c.in-Close.is c.requires.follows in
     record {
       ok = on_ok c.close.result c.close.ensures.ok (λ h.
           closing_follows c.args.self.now _ c.in-Close.field-0 follows h ∙ ap (λ (i : Item). c.args.self.now ++ item_event i ∷ []) (sym c.in-Close.is));
