@@ -20,14 +20,14 @@ pub record Notification : Type 0 where
 abbrev pub notification_of : CovNotification → Notification
 notification_of n = record { process = n.process; device = n.device; object = n.object; remaining = n.remaining; values = n.values.items }
 
-abbrev pub SpellsNotification : Notification → List ℕ → Type 0
-SpellsNotification n =
+abbrev pub SpellsNotification : ℕ → Notification → List ℕ → Type 0
+SpellsNotification groups n =
     Joins (UnsignedField 0 n.process) (Joins (ObjectField 1 n.device) (Joins (ObjectField 2 n.object) (
-    Joins (UnsignedField 3 n.remaining) (Grouped 4 (Items SpellsPropertyValue) n.values)
+    Joins (UnsignedField 3 n.remaining) (Grouped 4 (Items (SpellsPropertyValue groups)) n.values)
     )))
 
-pub notification_parts : IsRecordOf (Both (UnsignedField 0) (Both (ObjectField 1) (Both (ObjectField 2) (Both (UnsignedField 3) (Grouped 4 (Items SpellsPropertyValue)))))) SpellsNotification
-notification_parts = record {
+pub notification_parts : (groups : ℕ) → IsRecordOf (Both (UnsignedField 0) (Both (ObjectField 1) (Both (ObjectField 2) (Both (UnsignedField 3) (Grouped 4 (Items (SpellsPropertyValue groups))))))) (SpellsNotification groups)
+notification_parts groups = record {
   fields = λ n. (n.process, (n.device, (n.object, (n.remaining, n.values))));
   of_fields = λ p. record { process = p.0; device = p.1.0; object = p.1.1.0; remaining = p.1.1.1.0; values = p.1.1.1.1 };
   same = λ n. refl;

@@ -206,6 +206,14 @@ module _ {V : Type 0} (contents : V → List ℕ → Type 0) (c : Option ℕ) (a
           let same = heads_end (heading c app (length body)) (heading c app (length w)) front head [] [] headed p (ap (λ (l : List ℕ). l ++ []) h) in
           mark-append front body head w None o h (mark_by body w o (heading_length c app (length body) (length w) same.1) none some)
 
+  -- where the head is the least of the length that the contents have, and the contents are the least
+  pub least_mark : (front body : List ℕ) → IsLeast (Heads (heading c app (length body))) front → body ≡ w → HasMark (IsField (heading c app) contents v) (front ++ body) None
+  least_mark front body h e = record {
+    least = front ++ w;
+    is_least = least_field front (subst (λ (l : List ℕ). IsLeast (Heads (heading c app (length l))) front) e h);
+    is_mark = ap (λ (l : List ℕ). front ++ l) e;
+  }
+
 -- ---- a head that was read, by its length
 
 length_is : (c : Option ℕ) (app m len : ℕ) (head : TagHead) → head ≡ heading c app m → ((n : ℕ) × (head ≡ Ctx n len)) ⊎ ((n : ℕ) × (head ≡ App n len)) → m ≡ len

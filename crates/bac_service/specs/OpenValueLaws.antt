@@ -15,7 +15,7 @@ use Rattle.bac_data.specs.Spells.{SpellsPrimitive, SpellsOpen}
 use Rattle.bac_data.specs.Events.{Event, application, contextual, opening, closing, SpellsEvent, SpellsEvents}
 use Rattle.bac_data.proofs.EventLemmas.{whole, whole_spelled}
 use Rattle.bac_data.proofs.EventLeastLemmas.{least_contents, least_boolean_of, least_context}
-use Rattle.bac_data.proofs.LeastLemmas.{least_open, least_none}
+use Rattle.bac_data.proofs.ValueLemmas.{least_open_value}
 use Rattle.bac_data.proofs.OpenLemmas.{open_ends}
 use Rattle.bac_service.specs.Leads as lead
 use Rattle.bac_service.specs.Leads.{BeginsIn}
@@ -26,34 +26,6 @@ use Rattle.bac_service.specs.LongestLaws.{leaf_longest}
 use Rattle.bac_service.specs.RefusalLaws.{leaf_reach}
 use Rattle.bac_service.specs.LeastLaws.{least_joined}
 use Rattle.bac_service.specs.TagLaws.{number_within}
-
--- ---- what is spelled has a least spelling
-
-least_event : (e : Event) (b : List ℕ) → SpellsEvent e b → (w : List ℕ) × IsLeast (SpellsEvent e) w
-least_event (application prim) b (inl p) =
-    let l = some_least (AppBool p.value.0) tt tt in
-    (l.0, subst (λ (k : PrimitiveValue). IsLeast (SpellsPrimitive k) l.0) (sym p.is) (least_boolean_of p.value l.0 l.1))
-least_event (application prim) b (inr p) =
-    let written = prim_written_contents prim (prim_only_values prim p.contents p.spelled) in
-    let l = some_least (App (application_number prim) (length (prim_written prim))) p.headed.valid (omega (arith, prim_limit prim (prim_written prim) written)) in
-    (l.0 ++ prim_written prim, least_contents prim (prim_written prim) l.0 p.headed.valid.1 written refl l.1)
-least_event (contextual number octets) b p =
-    let l = some_least (Ctx number (length octets)) p.headed.valid (omega (arith, p.within.1)) in
-    (l.0 ++ octets, least_context number octets l.0 p.within l.1)
-least_event (opening number) b p = some_least (Open number) p.valid tt
-least_event (closing number) b p = some_least (Close number) p.valid tt
-
-least_events : (es : List Event) (b : List ℕ) → SpellsEvents es b → (w : List ℕ) × IsLeast (SpellsEvents es) w
-least_events [] b p = ([], least_none [] refl)
-least_events (e ∷ es) b p =
-    let first = least_event e p.front p.first in
-    let rest = least_events es p.back p.second in
-    (first.0 ++ rest.0, least_joined first.1 rest.1)
-
-pub least_open_value : (limit n : ℕ) (v : Elements) (b : List ℕ) → SpellsOpen limit n v b → (w : List ℕ) × IsLeast (SpellsOpen limit n v) w
-least_open_value limit n v b p =
-    let l = least_events (whole n v) b (whole_spelled limit n v b p) in
-    (l.0, least_open limit n v l.0 p.nested l.1)
 
 -- ---- the laws
 

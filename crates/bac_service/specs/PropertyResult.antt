@@ -14,12 +14,12 @@ use Rattle.bac_service.specs.Contents.{EnumeratedField, UnsignedField}
 use Rattle.bac_service.specs.ErrorCause.{SpellsErrorCause}
 use Rattle.bac_service.specs.Productions.{Both, Optional, Grouped, IsRecordOf}
 
-abbrev pub SpellsReadResult : ReadResult → List ℕ → Type 0
-SpellsReadResult (Value value) = SpellsOpen 16 4 value
-SpellsReadResult (Error cause) = Grouped 5 SpellsErrorCause cause
+abbrev pub SpellsReadResult : ℕ → ReadResult → List ℕ → Type 0
+SpellsReadResult groups (Value value) = SpellsOpen groups 4 value
+SpellsReadResult groups (Error cause) = Grouped 5 SpellsErrorCause cause
 
-abbrev pub SpellsPropertyResult : PropertyResult → List ℕ → Type 0
-SpellsPropertyResult r = Joins (EnumeratedField 2 r.property) (Joins (Optional (UnsignedField 3) r.index) (SpellsReadResult r.result))
+abbrev pub SpellsPropertyResult : ℕ → PropertyResult → List ℕ → Type 0
+SpellsPropertyResult groups r = Joins (EnumeratedField 2 r.property) (Joins (Optional (UnsignedField 3) r.index) (SpellsReadResult groups r.result))
 
 abbrev pub read_result_of : Elements ⊎ ErrorCause → ReadResult
 read_result_of (inl value) = Value value
@@ -31,13 +31,13 @@ choice_of (Error cause) = inr cause
 
 -- ---- the parts
 
-chosen : (r : ReadResult) → SpellsReadResult r ≡ OneOf (SpellsOpen 16 4) (Grouped 5 SpellsErrorCause) (choice_of r)
-chosen (Value value) = refl
-chosen (Error cause) = refl
+chosen : (groups : ℕ) (r : ReadResult) → SpellsReadResult groups r ≡ OneOf (SpellsOpen groups 4) (Grouped 5 SpellsErrorCause) (choice_of r)
+chosen groups (Value value) = refl
+chosen groups (Error cause) = refl
 
-told : (x : Elements ⊎ ErrorCause) → OneOf (SpellsOpen 16 4) (Grouped 5 SpellsErrorCause) x ≡ SpellsReadResult (read_result_of x)
-told (inl value) = refl
-told (inr cause) = refl
+told : (groups : ℕ) (x : Elements ⊎ ErrorCause) → OneOf (SpellsOpen groups 4) (Grouped 5 SpellsErrorCause) x ≡ SpellsReadResult groups (read_result_of x)
+told groups (inl value) = refl
+told groups (inr cause) = refl
 
 once : (r : ReadResult) → read_result_of (choice_of r) ≡ r
 once (Value value) = refl
@@ -46,18 +46,18 @@ once (Error cause) = refl
 abbrev pub property_result_of : Enumerated × (Option Unsigned32 × (Elements ⊎ ErrorCause)) → PropertyResult
 property_result_of p = record { property = p.0; index = p.1.0; result = read_result_of p.1.1 }
 
-pub property_result_alike : (p : Enumerated × (Option Unsigned32 × (Elements ⊎ ErrorCause))) (b : List ℕ)
-    → Both (EnumeratedField 2) (Both (Optional (UnsignedField 3)) (OneOf (SpellsOpen 16 4) (Grouped 5 SpellsErrorCause))) p b ↔ SpellsPropertyResult (property_result_of p) b
-property_result_alike p b = (
-  λ s. subst (λ (P : List ℕ → Type 0). Joins (EnumeratedField 2 p.0) (Joins (Optional (UnsignedField 3) p.1.0) P) b) (told p.1.1) s,
-  λ s. subst (λ (P : List ℕ → Type 0). Joins (EnumeratedField 2 p.0) (Joins (Optional (UnsignedField 3) p.1.0) P) b) (sym (told p.1.1)) s,
+pub property_result_alike : (groups : ℕ) (p : Enumerated × (Option Unsigned32 × (Elements ⊎ ErrorCause))) (b : List ℕ)
+    → Both (EnumeratedField 2) (Both (Optional (UnsignedField 3)) (OneOf (SpellsOpen groups 4) (Grouped 5 SpellsErrorCause))) p b ↔ SpellsPropertyResult groups (property_result_of p) b
+property_result_alike groups p b = (
+  λ s. subst (λ (P : List ℕ → Type 0). Joins (EnumeratedField 2 p.0) (Joins (Optional (UnsignedField 3) p.1.0) P) b) (told groups p.1.1) s,
+  λ s. subst (λ (P : List ℕ → Type 0). Joins (EnumeratedField 2 p.0) (Joins (Optional (UnsignedField 3) p.1.0) P) b) (sym (told groups p.1.1)) s,
 )
 
-pub property_result_parts : IsRecordOf (Both (EnumeratedField 2) (Both (Optional (UnsignedField 3)) (OneOf (SpellsOpen 16 4) (Grouped 5 SpellsErrorCause)))) SpellsPropertyResult
-property_result_parts = record {
+pub property_result_parts : (groups : ℕ) → IsRecordOf (Both (EnumeratedField 2) (Both (Optional (UnsignedField 3)) (OneOf (SpellsOpen groups 4) (Grouped 5 SpellsErrorCause)))) (SpellsPropertyResult groups)
+property_result_parts groups = record {
   fields = λ r. (r.property, (r.index, choice_of r.result));
   of_fields = property_result_of;
   same = λ r. ap (λ (x : ReadResult). record { property = r.property; index = r.index; result = x }) (once r.result);
-  split = λ r b s. subst (λ (P : List ℕ → Type 0). Joins (EnumeratedField 2 r.property) (Joins (Optional (UnsignedField 3) r.index) P) b) (chosen r.result) s;
-  joined = λ p b s. (property_result_alike p b).0 s;
+  split = λ r b s. subst (λ (P : List ℕ → Type 0). Joins (EnumeratedField 2 r.property) (Joins (Optional (UnsignedField 3) r.index) P) b) (chosen groups r.result) s;
+  joined = λ p b s. (property_result_alike groups p b).0 s;
 }

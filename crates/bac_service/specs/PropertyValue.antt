@@ -5,14 +5,14 @@ use Rattle.bac_service.specs.declared.property_value.PropertyValue.{PropertyValu
 use Rattle.bac_service.specs.Contents.{EnumeratedField, UnsignedField, PriorityField}
 use Rattle.bac_service.specs.Productions.{Both, Optional, IsRecordOf}
 
-abbrev pub SpellsPropertyValue : PropertyValue → List ℕ → Type 0
-SpellsPropertyValue value =
+abbrev pub SpellsPropertyValue : ℕ → PropertyValue → List ℕ → Type 0
+SpellsPropertyValue groups value =
     Joins (EnumeratedField 0 value.property) (Joins (Optional (UnsignedField 1) value.index) (
-    Joins (SpellsOpen 16 2 value.value) (Optional (PriorityField 3) value.priority)
+    Joins (SpellsOpen groups 2 value.value) (Optional (PriorityField 3) value.priority)
     ))
 
-pub property_value_parts : IsRecordOf (Both (EnumeratedField 0) (Both (Optional (UnsignedField 1)) (Both (SpellsOpen 16 2) (Optional (PriorityField 3))))) SpellsPropertyValue
-property_value_parts = record {
+pub property_value_parts : (groups : ℕ) → IsRecordOf (Both (EnumeratedField 0) (Both (Optional (UnsignedField 1)) (Both (SpellsOpen groups 2) (Optional (PriorityField 3))))) (SpellsPropertyValue groups)
+property_value_parts groups = record {
   fields = λ v. (v.property, (v.index, (v.value, v.priority)));
   of_fields = λ p. record { property = p.0; index = p.1.0; value = p.1.1.0; priority = p.1.1.1 };
   same = λ v. refl;

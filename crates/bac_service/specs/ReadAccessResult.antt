@@ -17,11 +17,11 @@ pub record AccessResult : Type 0 where
 abbrev pub access_result_of : ReadAccessResult → AccessResult
 access_result_of r = record { object = r.object; results = option_map (λ results. results.items) r.results }
 
-abbrev pub SpellsAccessResult : AccessResult → List ℕ → Type 0
-SpellsAccessResult r = Joins (ObjectField 0 r.object) (Optional (Grouped 1 (Items SpellsPropertyResult)) r.results)
+abbrev pub SpellsAccessResult : ℕ → AccessResult → List ℕ → Type 0
+SpellsAccessResult groups r = Joins (ObjectField 0 r.object) (Optional (Grouped 1 (Items (SpellsPropertyResult groups))) r.results)
 
-pub access_result_parts : IsRecordOf (Both (ObjectField 0) (Optional (Grouped 1 (Items SpellsPropertyResult)))) SpellsAccessResult
-access_result_parts = record {
+pub access_result_parts : (groups : ℕ) → IsRecordOf (Both (ObjectField 0) (Optional (Grouped 1 (Items (SpellsPropertyResult groups))))) (SpellsAccessResult groups)
+access_result_parts groups = record {
   fields = λ r. (r.object, r.results);
   of_fields = λ p. record { object = p.0; results = p.1 };
   same = λ r. refl;

@@ -5,12 +5,12 @@ use Rattle.bac_service.specs.declared.read_property_ack.ReadPropertyAck.{ReadPro
 use Rattle.bac_service.specs.Contents.{ObjectField, EnumeratedField, UnsignedField}
 use Rattle.bac_service.specs.Productions.{Both, Optional, IsRecordOf}
 
-abbrev pub SpellsReadPropertyAck : ReadPropertyAck → List ℕ → Type 0
-SpellsReadPropertyAck ack =
-    Joins (ObjectField 0 ack.object) (Joins (EnumeratedField 1 ack.property) (Joins (Optional (UnsignedField 2) ack.index) (SpellsOpen 16 3 ack.value)))
+abbrev pub SpellsReadPropertyAck : ℕ → ReadPropertyAck → List ℕ → Type 0
+SpellsReadPropertyAck groups ack =
+    Joins (ObjectField 0 ack.object) (Joins (EnumeratedField 1 ack.property) (Joins (Optional (UnsignedField 2) ack.index) (SpellsOpen groups 3 ack.value)))
 
-pub read_property_ack_parts : IsRecordOf (Both (ObjectField 0) (Both (EnumeratedField 1) (Both (Optional (UnsignedField 2)) (SpellsOpen 16 3)))) SpellsReadPropertyAck
-read_property_ack_parts = record {
+pub read_property_ack_parts : (groups : ℕ) → IsRecordOf (Both (ObjectField 0) (Both (EnumeratedField 1) (Both (Optional (UnsignedField 2)) (SpellsOpen groups 3)))) (SpellsReadPropertyAck groups)
+read_property_ack_parts groups = record {
   fields = λ a. (a.object, (a.property, (a.index, a.value)));
   of_fields = λ p. record { object = p.0; property = p.1.0; index = p.1.1.0; value = p.1.1.1 };
   same = λ a. refl;

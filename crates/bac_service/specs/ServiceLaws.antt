@@ -1,55 +1,125 @@
--- Which service a kind and a choice name.
-use Rattle.std.specs.Prelude.{◌≡◌, ℕ, true, false, cond, nat_eq, List, refl}
-use Rattle.std.proofs.Common.{sym, ◌∙◌, ap, subst}
+-- Which services a kind and a choice have, and that no list spells two of them.
+use Rattle.std.specs.Prelude.{◌≡◌, ◌↔◌, ℕ, ◌<◌, Bool, true, false, cond, ◌||◌, IsTrue, IsNone, nat_eq, Option, None, Some, List, [], ◌∷◌, ◌++◌, refl}
+use Rattle.std.specs.List.{list_any}
+use Rattle.std.specs.Map.{keys_of, lookup}
+use Rattle.std.specs.Option.{is_some}
+use Rattle.std.proofs.Common.{length, get_or, sym, ◌∙◌, ap, subst, lit<}
+use Rattle.std.proofs.lemmas.List.Elements.{recursion_from_All, All-from_get_or}
+use Rattle.std.proofs.lemmas.Map.Made.{is_some-lookup}
+use Rattle.bac_tag.specs.Octets.{IsOctets}
+use Rattle.bac_tag.specs.OctetsLaws.{NoGreater-same}
+use Rattle.bac_tag.specs.Spelling.{IsLeast}
 use Rattle.bac_service.specs.declared.kind.Kind.{Kind}
-use Rattle.bac_service.specs.declared.kind.Kind.TheVariants.{Confirmed, Unconfirmed, ComplexAck, Error}
-use Rattle.bac_service.specs.declared.read_property.ReadProperty.{ReadProperty}
-use Rattle.bac_service.specs.declared.read_property_ack.ReadPropertyAck.{ReadPropertyAck}
-use Rattle.bac_service.specs.declared.write_property.WriteProperty.{WriteProperty}
-use Rattle.bac_service.specs.declared.who_is.WhoIs.{WhoIs}
-use Rattle.bac_service.specs.declared.i_am.IAm.{IAm}
-use Rattle.bac_service.specs.declared.subscribe_cov.SubscribeCov.{SubscribeCov}
-use Rattle.bac_service.specs.declared.error_cause.ErrorCause.{ErrorCause}
-use Rattle.bac_service.specs.ReadAccessSpecification.{Specification}
-use Rattle.bac_service.specs.ReadAccessResult.{AccessResult}
-use Rattle.bac_service.specs.CovNotification.{Notification}
-use Rattle.bac_service.specs.Choices.{has_production}
-use Rattle.bac_service.specs.ServiceValues.{ServiceValue, read_property, read_property_ack, write_property, read_property_multiple, read_property_multiple_ack, who_is, i_am, subscribe_cov, cov_notification, service_error, opaque, kind_of, choice_of}
-use Rattle.bac_service.specs.Services.{SpellsService}
+use Rattle.bac_service.specs.declared.kind.Kind.TheVariants.{Confirmed, Unconfirmed, Error}
+use Rattle.bac_service.specs.ServiceTable.{ServiceProduction, read_property, read_property_ack, read_property_multiple, read_property_multiple_ack, write_property, write_property_multiple, write_property_multiple_error, who_is, i_am, subscribe_cov, cov_notification, service_error, production_of, is_small}
+use Rattle.bac_service.specs.ServiceValues.{SaidBy, Said, ServiceValue, typed, notification_kind, notification_choice}
+use Rattle.bac_service.specs.Services.{SpellsBy, SpellsSaid, SpellsService, IsPlaced}
+use Rattle.bac_service.specs.Productions.{AppendsLeast}
+use Rattle.bac_service.specs.LeastLaws.{least_alike}
 
--- the services that a kind and a choice with a production name
-abbrev pub IsNamed : Kind → ℕ → ServiceValue → Type 0
-IsNamed Confirmed choice x =
-    cond (nat_eq choice 1) ((n : Notification) × (x ≡ cov_notification true n))
-    (cond (nat_eq choice 5) ((r : SubscribeCov) × (x ≡ subscribe_cov r))
-    (cond (nat_eq choice 12) ((r : ReadProperty) × (x ≡ read_property r))
-    (cond (nat_eq choice 14) ((specs : List Specification) × (x ≡ read_property_multiple specs))
-    ((r : WriteProperty) × (x ≡ write_property r)))))
-IsNamed Unconfirmed choice x =
-    cond (nat_eq choice 0) ((r : IAm) × (x ≡ i_am r))
-    (cond (nat_eq choice 2) ((n : Notification) × (x ≡ cov_notification false n))
-    ((r : WhoIs) × (x ≡ who_is r)))
-IsNamed ComplexAck choice x =
-    cond (nat_eq choice 12) ((a : ReadPropertyAck) × (x ≡ read_property_ack a))
-    ((results : List AccessResult) × (x ≡ read_property_multiple_ack results))
-IsNamed Error choice x = (cause : ErrorCause) × (x ≡ service_error choice cause)
+-- ---- the rows
 
-moved : (x : ServiceValue) (k : Kind) (c : ℕ) → kind_of x ≡ k → choice_of x ≡ c → IsNamed (kind_of x) (choice_of x) x → IsNamed k c x
-moved x k c e f h = subst (λ (k : Kind). IsNamed k c x) e (subst (λ (c : ℕ). IsNamed (kind_of x) c x) f h)
+-- the choices of the table are those that have a row
+pub some_row : (choice : ℕ) (rows : List (ℕ × ServiceProduction)) → list_any (λ c. nat_eq c choice) (keys_of rows) ≡ is_some (lookup (λ c. nat_eq c choice) rows)
+some_row choice rows = sym (is_some-lookup (λ c. nat_eq c choice) rows)
 
--- what spells a service of theirs is one of these
-pub named : (k : Kind) (c : ℕ) (x : ServiceValue) (b : List ℕ) → has_production false k c ≡ true → SpellsService false k c x b → IsNamed k c x
-named k c (read_property r) b p h = moved (read_property r) k c h.kind_is h.choice_is (r, refl)
-named k c (read_property_ack a) b p h = moved (read_property_ack a) k c h.kind_is h.choice_is (a, refl)
-named k c (write_property r) b p h = moved (write_property r) k c h.kind_is h.choice_is (r, refl)
-named k c (read_property_multiple s) b p h = moved (read_property_multiple s) k c h.kind_is h.choice_is (s, refl)
-named k c (read_property_multiple_ack r) b p h = moved (read_property_multiple_ack r) k c h.kind_is h.choice_is (r, refl)
-named k c (who_is r) b p h = moved (who_is r) k c h.kind_is h.choice_is (r, refl)
-named k c (i_am r) b p h = moved (i_am r) k c h.kind_is h.choice_is (r, refl)
-named k c (subscribe_cov r) b p h = moved (subscribe_cov r) k c h.kind_is h.choice_is (r, refl)
-named k c (cov_notification true n) b p h = moved (cov_notification true n) k c h.kind_is h.choice_is (n, refl)
-named k c (cov_notification false n) b p h = moved (cov_notification false n) k c h.kind_is h.choice_is (n, refl)
-named k c (service_error d cause) b p h = moved (service_error d cause) k c h.kind_is h.choice_is (cause, refl)
-named k c (opaque l d octets) b p h =
-    let other : has_production false k c ≡ false = ap (λ (l : Kind). has_production false l c) (sym h.kind_is) ∙ ap (λ (d : ℕ). has_production false l d) (sym h.choice_is) ∙ h.has_choice in
-    absurd (let e : true ≡ false = sym p ∙ other in cc)
+pub no_row : (p : Option ServiceProduction) → IsNone p → None ≡ p
+no_row None e = refl
+no_row (Some p) e = cc
+
+-- the choices whose errors are a class and a code, by the test of each row
+cause_tests : (a b c d e f : Bool)
+    → ((a || (b || (c || (d || (e || false))))) ≡ true) ↔ (cond a (Some service_error) (cond b (Some service_error) (cond c (Some service_error) (cond d (Some service_error) (cond e (Some service_error) (cond f (Some write_property_multiple_error) None))))) ≡ Some service_error)
+cause_tests true b c d e f = (λ h. refl, λ h. refl)
+cause_tests false true c d e f = (λ h. refl, λ h. refl)
+cause_tests false false true d e f = (λ h. refl, λ h. refl)
+cause_tests false false false true e f = (λ h. refl, λ h. refl)
+cause_tests false false false false true f = (λ h. refl, λ h. refl)
+cause_tests false false false false false true = (λ h. cc, λ h. cc)
+cause_tests false false false false false false = (λ h. cc, λ h. cc)
+
+pub cause_choices : (choice : ℕ) → (list_any (λ c. nat_eq c choice) (1 ∷ 5 ∷ 12 ∷ 14 ∷ 15 ∷ []) ≡ true) ↔ (production_of true Error choice ≡ Some service_error)
+cause_choices choice = cause_tests (nat_eq 1 choice) (nat_eq 5 choice) (nat_eq 12 choice) (nat_eq 14 choice) (nat_eq 15 choice) (nat_eq 16 choice)
+
+-- ---- what a kind and a choice name
+
+-- the same lists spell the values, and the services of that kind and choice
+pub record IsServiceOf {V : Type 0} (spells : V → List ℕ → Type 0) (kind : Kind) (choice : ℕ) : Type 0 where
+  pub every : (v : V) (b : List ℕ) → spells v b → (x : ServiceValue) × SpellsService true 32 kind choice x b
+  pub only : (x : ServiceValue) (b : List ℕ) → SpellsService true 32 kind choice x b → (v : V) × spells v b
+
+-- a service of the production is spelled as what it says
+pub spelled_as : (k : Kind) (c : ℕ) (p : ServiceProduction) (v : SaidBy p) → c < 256 → production_of true k c ≡ Some p → (b : List ℕ) → SpellsBy 32 p v b ↔ SpellsService true 32 k c (typed k c p v) b
+spelled_as k c p v fits e b = (λ s. record { kind_is = refl; choice_is = refl; choice_fits = fits; production_is = sym e; spelled = s }, λ s. s.spelled)
+
+said_alike : (q r : Option ServiceProduction) (e : q ≡ r) (s : Said q) (b : List ℕ) → SpellsSaid 32 q s b → (t : Said r) × SpellsSaid 32 r t b
+said_alike q r e s b h = subst (λ (r : Option ServiceProduction). (t : Said r) × SpellsSaid 32 r t b) e (s, h)
+
+pub serves : (k : Kind) (c : ℕ) (p : ServiceProduction) → c < 256 → production_of true k c ≡ Some p → IsServiceOf (SpellsBy 32 p) k c
+serves k c p fits e = record {
+  every = λ v b s. (typed k c p v, (spelled_as k c p v fits e b).0 s);
+  only = λ x b h. said_alike x.production (Some p) (h.production_is ∙ e) x.said b h.spelled;
+}
+
+-- ---- two rows of one production, and five of another
+
+pub notification_fits : (confirmed : Bool) → notification_choice confirmed < 256
+notification_fits true = lit< tt
+notification_fits false = lit< tt
+
+pub notification_production : (confirmed : Bool) → production_of true (notification_kind confirmed) (notification_choice confirmed) ≡ Some cov_notification
+notification_production true = refl
+notification_production false = refl
+
+pub notification_large : (confirmed : Bool) → is_small (notification_kind confirmed) (notification_choice confirmed) ≡ false
+notification_large true = refl
+notification_large false = refl
+
+-- what wants no memory is not refused for want of it
+pub never : {P : Type 0} → IsTrue false → P
+never w = absurd (let e : true ≡ false = sym w in cc)
+
+-- ---- the least spelling
+
+pub least_service : (x : ServiceValue) {a b : List ℕ} → IsPlaced x → a ≡ [] → AppendsLeast (SpellsSaid 32 x.production x.said) a b → IsLeast (SpellsService true 32 x.kind x.choice x) b
+least_service x {a} {b} placed e L =
+    let alike : (c : List ℕ) → SpellsSaid 32 x.production x.said c ↔ SpellsService true 32 x.kind x.choice x c = λ c. (
+      λ s. record { kind_is = refl; choice_is = refl; choice_fits = placed.choice_fits; production_is = placed.production_is; spelled = s },
+      λ s. s.spelled,
+    ) in
+    subst (IsLeast (SpellsService true 32 x.kind x.choice x)) (sym (L.new_is ∙ ap (λ (l : List ℕ). l ++ L.more) e)) (least_alike alike L.is_least)
+
+-- what the type of a vector says of its octets
+pub octets_held : (octets : List ℕ) → ((k : ℕ) → k < length octets → get_or octets k 0 < 256) → IsOctets octets
+octets_held octets small = recursion_from_All (λ x. x < 256) octets (All-from_get_or (λ x. x < 256) octets 0 small)
+
+-- opaque octets are their own only spelling
+pub appends_opaque : (octets : List ℕ) {a b : List ℕ} → IsOctets octets → b ≡ a ++ octets → AppendsLeast (SpellsSaid 32 None octets) a b
+appends_opaque octets are e = record {
+  more = octets;
+  is_least = record { member = (refl, are); least = λ c s. NoGreater-same octets c (sym s.0) };
+  new_is = e;
+}
+
+-- ---- one value
+
+-- no list spells two values
+abbrev pub SpellsOnce : {V : Type 0} → (V → List ℕ → Type 0) → Type 0
+SpellsOnce {V} S = (v w : V) (b : List ℕ) → S v b → S w b → v ≡ w
+
+module _ (once_by : (p : ServiceProduction) → SpellsOnce (SpellsBy 32 p)) where
+  said_once : (p : Option ServiceProduction) → SpellsOnce (SpellsSaid 32 p)
+  said_once (Some p) v w b s t = once_by p v w b s t
+  said_once None v w b s t = sym s.0 ∙ t.0
+
+  joined : (k : Kind) (c : ℕ) (p q : Option ServiceProduction) (e : p ≡ q) (v : Said p) (w : Said q) (b : List ℕ) → SpellsSaid 32 p v b → SpellsSaid 32 q w b
+      → (let x : ServiceValue = record { kind = k; choice = c; production = p; said = v } in let y : ServiceValue = record { kind = k; choice = c; production = q; said = w } in x ≡ y)
+  joined k c p q e v w b s t =
+      subst (λ (q : Option ServiceProduction). (w : Said q) → SpellsSaid 32 q w b → (let x : ServiceValue = record { kind = k; choice = c; production = p; said = v } in let y : ServiceValue = record { kind = k; choice = c; production = q; said = w } in x ≡ y)) e
+      (λ w t. ap (λ (v : Said p). let x : ServiceValue = record { kind = k; choice = c; production = p; said = v } in x) (said_once p v w b s t)) w t
+
+  pub services_once : (k : Kind) (c : ℕ) (x y : ServiceValue) (b : List ℕ) → SpellsService true 32 k c x b → SpellsService true 32 k c y b → x ≡ y
+  services_once k c x y b h j =
+      ap (λ (k : Kind). let z : ServiceValue = record { kind = k; choice = x.choice; production = x.production; said = x.said } in z) (h.kind_is ∙ sym j.kind_is)
+      ∙ ap (λ (c : ℕ). let z : ServiceValue = record { kind = y.kind; choice = c; production = x.production; said = x.said } in z) (h.choice_is ∙ sym j.choice_is)
+      ∙ joined y.kind y.choice x.production y.production (h.production_is ∙ sym j.production_is) x.said y.said b h.spelled j.spelled

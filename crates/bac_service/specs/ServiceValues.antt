@@ -1,5 +1,5 @@
 -- Services, as values.
-use Rattle.std.specs.Prelude.{ℕ, Bool, true, false, List, map}
+use Rattle.std.specs.Prelude.{ℕ, Bool, true, false, Option, None, Some, List, map}
 use Rattle.bac_service.specs.declared.kind.Kind.{Kind}
 use Rattle.bac_service.specs.declared.kind.Kind.TheVariants as kind
 use Rattle.bac_service.specs.declared.service.Service.{Service}
@@ -11,37 +11,46 @@ use Rattle.bac_service.specs.declared.who_is.WhoIs.{WhoIs}
 use Rattle.bac_service.specs.declared.i_am.IAm.{IAm}
 use Rattle.bac_service.specs.declared.subscribe_cov.SubscribeCov.{SubscribeCov}
 use Rattle.bac_service.specs.declared.error_cause.ErrorCause.{ErrorCause}
+use Rattle.bac_service.specs.declared.write_property_multiple_error.WritePropertyMultipleError.{WritePropertyMultipleError}
 use Rattle.bac_service.specs.ReadAccessSpecification.{Specification, specification_of}
 use Rattle.bac_service.specs.ReadAccessResult.{AccessResult, access_result_of}
+use Rattle.bac_service.specs.WriteAccessSpecification.{WriteSpecification, write_specification_of}
 use Rattle.bac_service.specs.CovNotification.{Notification, notification_of}
+use Rattle.bac_service.specs.ServiceTable.{ServiceProduction, read_property, read_property_ack, read_property_multiple, read_property_multiple_ack, write_property, write_property_multiple, write_property_multiple_error, who_is, i_am, subscribe_cov, cov_notification, service_error}
 
-pub data ServiceValue : Type 0 where
-  read_property : ReadProperty → ServiceValue
-  read_property_ack : ReadPropertyAck → ServiceValue
-  write_property : WriteProperty → ServiceValue
-  read_property_multiple : List Specification → ServiceValue
-  read_property_multiple_ack : List AccessResult → ServiceValue
-  who_is : WhoIs → ServiceValue
-  i_am : IAm → ServiceValue
-  subscribe_cov : SubscribeCov → ServiceValue
-  -- whether it is confirmed
-  cov_notification : Bool → Notification → ServiceValue
-  -- the choice of the service that failed
-  service_error : ℕ → ErrorCause → ServiceValue
-  opaque : Kind → ℕ → List ℕ → ServiceValue
+-- what a service of a production says
+abbrev pub SaidBy : ServiceProduction → Type 0
+SaidBy read_property = ReadProperty
+SaidBy read_property_ack = ReadPropertyAck
+SaidBy read_property_multiple = List Specification
+SaidBy read_property_multiple_ack = List AccessResult
+SaidBy write_property = WriteProperty
+SaidBy write_property_multiple = List WriteSpecification
+SaidBy write_property_multiple_error = WritePropertyMultipleError
+SaidBy who_is = WhoIs
+SaidBy i_am = IAm
+SaidBy subscribe_cov = SubscribeCov
+SaidBy cov_notification = Notification
+SaidBy service_error = ErrorCause
 
-abbrev pub value_of : Service → ServiceValue
-value_of (held.ReadProperty request) = read_property request
-value_of (held.ReadPropertyAck ack) = read_property_ack ack
-value_of (held.WriteProperty request) = write_property request
-value_of (held.ReadPropertyMultiple request) = read_property_multiple (map specification_of request.specs.items)
-value_of (held.ReadPropertyMultipleAck ack) = read_property_multiple_ack (map access_result_of ack.results.items)
-value_of (held.WhoIs request) = who_is request
-value_of (held.IAm request) = i_am request
-value_of (held.SubscribeCov request) = subscribe_cov request
-value_of (held.CovNotification request) = cov_notification request.confirmed (notification_of request)
-value_of (held.ServiceError error) = service_error error.choice error.cause
-value_of (held.Opaque service) = opaque service.kind service.choice service.octets
+-- octets where there is no production
+abbrev pub Said : Option ServiceProduction → Type 0
+Said (Some production) = SaidBy production
+Said None = List ℕ
+
+pub record ServiceValue : Type 0 where
+  pub kind : Kind
+  pub choice : ℕ
+  pub production : Option ServiceProduction
+  pub said : Said production
+
+-- a service of a production
+abbrev pub typed : Kind → ℕ → (production : ServiceProduction) → SaidBy production → ServiceValue
+typed kind choice production said = record { kind = kind; choice = choice; production = Some production; said = said }
+
+-- a service without one
+abbrev pub opaque : Kind → ℕ → List ℕ → ServiceValue
+opaque kind choice octets = record { kind = kind; choice = choice; production = None; said = octets }
 
 -- a notification is confirmed or not
 abbrev pub notification_kind : Bool → Kind
@@ -52,28 +61,17 @@ abbrev pub notification_choice : Bool → ℕ
 notification_choice true = 1
 notification_choice false = 2
 
-abbrev pub kind_of : ServiceValue → Kind
-kind_of (read_property request) = kind.Confirmed
-kind_of (read_property_ack ack) = kind.ComplexAck
-kind_of (write_property request) = kind.Confirmed
-kind_of (read_property_multiple specs) = kind.Confirmed
-kind_of (read_property_multiple_ack results) = kind.ComplexAck
-kind_of (who_is request) = kind.Unconfirmed
-kind_of (i_am request) = kind.Unconfirmed
-kind_of (subscribe_cov request) = kind.Confirmed
-kind_of (cov_notification confirmed notification) = notification_kind confirmed
-kind_of (service_error choice cause) = kind.Error
-kind_of (opaque k choice octets) = k
-
-abbrev pub choice_of : ServiceValue → ℕ
-choice_of (read_property request) = 12
-choice_of (read_property_ack ack) = 12
-choice_of (write_property request) = 15
-choice_of (read_property_multiple specs) = 14
-choice_of (read_property_multiple_ack results) = 14
-choice_of (who_is request) = 8
-choice_of (i_am request) = 0
-choice_of (subscribe_cov request) = 5
-choice_of (cov_notification confirmed notification) = notification_choice confirmed
-choice_of (service_error choice cause) = choice
-choice_of (opaque k choice octets) = choice
+abbrev pub value_of : Service → ServiceValue
+value_of (held.ReadProperty request) = typed kind.Confirmed 12 read_property request
+value_of (held.ReadPropertyAck ack) = typed kind.ComplexAck 12 read_property_ack ack
+value_of (held.WriteProperty request) = typed kind.Confirmed 15 write_property request
+value_of (held.ReadPropertyMultiple request) = typed kind.Confirmed 14 read_property_multiple (map specification_of request.specs.items)
+value_of (held.ReadPropertyMultipleAck ack) = typed kind.ComplexAck 14 read_property_multiple_ack (map access_result_of ack.results.items)
+value_of (held.WritePropertyMultiple request) = typed kind.Confirmed 16 write_property_multiple (map write_specification_of request.specs.items)
+value_of (held.WhoIs request) = typed kind.Unconfirmed 8 who_is request
+value_of (held.IAm request) = typed kind.Unconfirmed 0 i_am request
+value_of (held.SubscribeCov request) = typed kind.Confirmed 5 subscribe_cov request
+value_of (held.CovNotification request) = typed (notification_kind request.confirmed) (notification_choice request.confirmed) cov_notification (notification_of request)
+value_of (held.ServiceError error) = typed kind.Error error.choice service_error error.cause
+value_of (held.WritePropertyMultipleError error) = typed kind.Error 16 write_property_multiple_error error
+value_of (held.Opaque service) = opaque service.kind service.choice service.octets

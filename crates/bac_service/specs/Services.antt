@@ -1,44 +1,52 @@
 -- The lists that spell a service of a kind and a choice (clause 21).
-use Rattle.std.specs.Prelude.{◌≡◌, ℕ, Bool, true, false, List}
+use Rattle.std.specs.Prelude.{◌≡◌, ℕ, ◌<◌, Bool, true, Option, None, Some, List}
+use Rattle.bac_tag.specs.Octets.{IsOctets}
 use Rattle.bac_service.specs.declared.kind.Kind.{Kind}
-use Rattle.bac_service.specs.declared.kind.Kind.TheVariants.{Error}
-use Rattle.bac_service.specs.Choices.{has_production}
 use Rattle.bac_service.specs.Productions.{Items}
-use Rattle.bac_service.specs.ServiceValues.{ServiceValue, read_property, read_property_ack, write_property, read_property_multiple, read_property_multiple_ack, who_is, i_am, subscribe_cov, cov_notification, service_error, opaque, kind_of, choice_of}
+use Rattle.bac_service.specs.ServiceTable.{ServiceProduction, read_property, read_property_ack, read_property_multiple, read_property_multiple_ack, write_property, write_property_multiple, write_property_multiple_error, who_is, i_am, subscribe_cov, cov_notification, service_error, production_of}
+use Rattle.bac_service.specs.ServiceValues.{SaidBy, Said, ServiceValue}
 use Rattle.bac_service.specs.ReadProperty.{SpellsReadProperty}
 use Rattle.bac_service.specs.ReadPropertyAck.{SpellsReadPropertyAck}
 use Rattle.bac_service.specs.WriteProperty.{SpellsWriteProperty}
 use Rattle.bac_service.specs.ReadAccessSpecification.{SpellsSpecification}
 use Rattle.bac_service.specs.ReadAccessResult.{SpellsAccessResult}
+use Rattle.bac_service.specs.WriteAccessSpecification.{SpellsWriteSpecification}
+use Rattle.bac_service.specs.WritePropertyMultipleError.{SpellsWriteError}
 use Rattle.bac_service.specs.WhoIs.{SpellsWhoIs}
 use Rattle.bac_service.specs.IAm.{SpellsIAm}
 use Rattle.bac_service.specs.SubscribeCov.{SpellsSubscribeCov}
 use Rattle.bac_service.specs.CovNotification.{SpellsNotification}
 use Rattle.bac_service.specs.ErrorCause.{SpellsErrorCause}
 
--- by its production; a service without one by its octets
-abbrev pub SpellsFields : ServiceValue → List ℕ → Type 0
-SpellsFields (read_property request) b = SpellsReadProperty request b
-SpellsFields (read_property_ack ack) b = SpellsReadPropertyAck ack b
-SpellsFields (write_property request) b = SpellsWriteProperty request b
-SpellsFields (read_property_multiple specs) b = Items SpellsSpecification specs b
-SpellsFields (read_property_multiple_ack results) b = Items SpellsAccessResult results b
-SpellsFields (who_is request) b = SpellsWhoIs request b
-SpellsFields (i_am request) b = SpellsIAm request b
-SpellsFields (subscribe_cov request) b = SpellsSubscribeCov request b
-SpellsFields (cov_notification confirmed notification) b = SpellsNotification notification b
-SpellsFields (service_error choice cause) b = SpellsErrorCause cause b
-SpellsFields (opaque kind choice octets) b = b ≡ octets
+-- the lists that spell what a production says; so many groups nest in an open value
+abbrev pub SpellsBy : ℕ → (production : ServiceProduction) → SaidBy production → List ℕ → Type 0
+SpellsBy groups read_property = SpellsReadProperty
+SpellsBy groups read_property_ack = SpellsReadPropertyAck groups
+SpellsBy groups read_property_multiple = Items SpellsSpecification
+SpellsBy groups read_property_multiple_ack = Items (SpellsAccessResult groups)
+SpellsBy groups write_property = SpellsWriteProperty groups
+SpellsBy groups write_property_multiple = Items (SpellsWriteSpecification groups)
+SpellsBy groups write_property_multiple_error = SpellsWriteError
+SpellsBy groups who_is = SpellsWhoIs
+SpellsBy groups i_am = SpellsIAm
+SpellsBy groups subscribe_cov = SpellsSubscribeCov
+SpellsBy groups cov_notification = SpellsNotification groups
+SpellsBy groups service_error = SpellsErrorCause
 
--- errors have a production where a service is typed, opaque services have none
-abbrev pub HasItsChoice : Bool → ServiceValue → Type 0
-HasItsChoice multiple (service_error choice cause) = has_production multiple Error choice ≡ true
-HasItsChoice multiple (opaque kind choice octets) = has_production multiple kind choice ≡ false
-HasItsChoice multiple _ = Unit {0}
+-- without a production: the octets themselves
+abbrev pub SpellsSaid : ℕ → (production : Option ServiceProduction) → Said production → List ℕ → Type 0
+SpellsSaid groups (Some production) said b = SpellsBy groups production said b
+SpellsSaid groups None octets b = (b ≡ octets) × IsOctets octets
 
--- whether WritePropertyMultiple is typed, a kind, a choice
-pub record SpellsService (multiple : Bool) (kind : Kind) (choice : ℕ) (service : ServiceValue) (b : List ℕ) : Type 0 where
-  pub kind_is : kind_of service ≡ kind
-  pub choice_is : choice_of service ≡ choice
-  pub has_choice : HasItsChoice multiple service
-  pub spelled : SpellsFields service b
+-- The settings are whether WritePropertyMultiple is typed, and how many groups nest.
+pub record SpellsService (multiple : Bool) (groups : ℕ) (kind : Kind) (choice : ℕ) (service : ServiceValue) (b : List ℕ) : Type 0 where
+  pub kind_is : service.kind ≡ kind
+  pub choice_is : service.choice ≡ choice
+  pub choice_fits : choice < 256
+  pub production_is : service.production ≡ production_of multiple kind choice
+  pub spelled : SpellsSaid groups service.production service.said b
+
+-- the service has the production that its kind and its choice name
+pub record IsPlaced (service : ServiceValue) : Type 0 where
+  pub choice_fits : service.choice < 256
+  pub production_is : service.production ≡ production_of true service.kind service.choice

@@ -1,6 +1,6 @@
 -- Opening and closing tags.
-use Rattle.std.specs.Prelude.{◌≡◌, ◌↔◌, ℕ, ◌≤◌, List, length, take, Option, Some, IsTrue, nat_le, refl}
-use Rattle.std.proofs.Common.{sym, ◌∙◌, subst}
+use Rattle.std.specs.Prelude.{◌≡◌, ◌↔◌, ℕ, ◌≤◌, List, length, take, Option, Some, None, IsTrue, nat_le, refl}
+use Rattle.std.proofs.Common.{sym, ◌∙◌, subst, arith}
 use Rattle.std.proofs.lemmas.Bool.{leb-true}
 use Rattle.bac_tag.specs.declared.refusals.Refusal.{Refusal}
 use Rattle.bac_tag.specs.declared.heads.TagHead.{TagHead}
@@ -12,9 +12,11 @@ use Rattle.bac_tag.specs.Spelling.{IsLeast, IsFurthest, IsRefusal, Takes}
 use Rattle.bac_tag.specs.HeadsLaws.{heads_end}
 use Rattle.bac_tag.specs.SpellingLaws.{refused_alike}
 use Rattle.bac_tag.specs.Heads.{Heads}
+use Rattle.bac_tag.specs.Short.{BeginsShort}
 use Rattle.bac_tag.specs.Expected.{ExpectedHeads}
 use Rattle.bac_tag.proofs.WritingLemmas.{some_least}
-use Rattle.bac_service.specs.Productions.{IsInhabited, IsReach, HasMark}
+use Rattle.bac_service.specs.Productions.{IsInhabited, IsLongest, IsReach, HasMark}
+use Rattle.bac_service.specs.LongestLaws.{leaf_longest}
 use Rattle.bac_service.specs.RefusalLaws.{leaf_reach}
 use Rattle.bac_service.specs.ProductionLaws.{Head}
 
@@ -61,3 +63,13 @@ pub tag_reach : (head : TagHead) (input : List ℕ) (n : ℕ) (r : Refusal) → 
 tag_reach head input n r t e short =
     let leaf = leaf_reach (Head head) (λ u w b c x y s k h. ((heads_end head head b c x y s k h).0, refl)) input tt n r.why t short in
     record { furthest = subst (IsFurthest (Head head) input) (sym e) leaf.furthest; short = (λ w. e ∙ leaf.short.0 w, λ w. leaf.short.1 (sym e ∙ w)) }
+
+-- what a short head gives
+pub short_taken : (head : TagHead) (input : List ℕ) → BeginsShort head input → Takes (Head head) input (tt, 1)
+short_taken head input b = record { within = omega (arith, b.some); spelled = b.least.member }
+
+pub short_mark : (head : TagHead) (input : List ℕ) → BeginsShort head input → HasMark (Heads head) (take 1 input) None
+short_mark head input b = record { least = take 1 input; is_least = b.least; is_mark = refl }
+
+pub tag_longest : (head : TagHead) (input : List ℕ) (n : ℕ) → Takes (Head head) input (tt, n) → IsLongest (Head head) input tt n
+tag_longest head input n t = leaf_longest (Head head) (λ u w b c x y s k h. ((heads_end head head b c x y s k h).0, refl)) input tt n t

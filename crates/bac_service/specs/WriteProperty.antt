@@ -5,14 +5,14 @@ use Rattle.bac_service.specs.declared.write_property.WriteProperty.{WritePropert
 use Rattle.bac_service.specs.Contents.{ObjectField, EnumeratedField, UnsignedField, PriorityField}
 use Rattle.bac_service.specs.Productions.{Both, Optional, IsRecordOf}
 
-abbrev pub SpellsWriteProperty : WriteProperty → List ℕ → Type 0
-SpellsWriteProperty request =
+abbrev pub SpellsWriteProperty : ℕ → WriteProperty → List ℕ → Type 0
+SpellsWriteProperty groups request =
     Joins (ObjectField 0 request.object) (Joins (EnumeratedField 1 request.property) (Joins (Optional (UnsignedField 2) request.index) (
-    Joins (SpellsOpen 16 3 request.value) (Optional (PriorityField 4) request.priority)
+    Joins (SpellsOpen groups 3 request.value) (Optional (PriorityField 4) request.priority)
     )))
 
-pub write_property_parts : IsRecordOf (Both (ObjectField 0) (Both (EnumeratedField 1) (Both (Optional (UnsignedField 2)) (Both (SpellsOpen 16 3) (Optional (PriorityField 4)))))) SpellsWriteProperty
-write_property_parts = record {
+pub write_property_parts : (groups : ℕ) → IsRecordOf (Both (ObjectField 0) (Both (EnumeratedField 1) (Both (Optional (UnsignedField 2)) (Both (SpellsOpen groups 3) (Optional (PriorityField 4)))))) (SpellsWriteProperty groups)
+write_property_parts groups = record {
   fields = λ r. (r.object, (r.property, (r.index, (r.value, r.priority))));
   of_fields = λ p. record { object = p.0; property = p.1.0; index = p.1.1.0; value = p.1.1.1.0; priority = p.1.1.1.1 };
   same = λ r. refl;

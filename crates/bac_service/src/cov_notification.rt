@@ -52,7 +52,7 @@ impl Record for CovNotification {
 
     ghost view = { notification_of };
 
-    ghost spells = { SpellsNotification };
+    ghost spells = { SpellsNotification 32 };
 
     /// Leaves `confirmed` false: the octets do not tell it. `decode_notification` puts it in, by the service choice.
     fn from_parts(parts: Parts) -> CovNotification {
@@ -75,5 +75,5 @@ impl Record for CovNotification {
         write_group::<Vec<PropertyValue>, 4>(&self.values, out)
     }
 
-    ghost of_parts = { notification_parts };
+    ghost of_parts = { notification_parts 32 };
 }

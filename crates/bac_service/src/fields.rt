@@ -1,7 +1,8 @@
 //! Fields of a production: contents under a head (clause 21).
 
-ghost use Rattle.std.specs.Prelude.{◌≡◌, ◌≢◌, ◌↔◌, ◌≤◌, ◌&&◌, ◌∷◌, ◌++◌, ◌^◌, [], false, not, nat_le, nat_eq, Some, None, Err, IsTrue, IfOk, IfErr, OnOk, length, take};
+ghost use Rattle.std.specs.Prelude.{◌≡◌, ◌≢◌, ◌↔◌, ◌≤◌, ◌&&◌, ◌∷◌, ◌++◌, ◌^◌, [], false, not, nat_le, nat_eq, Some, None, Err, IsTrue, IfSome, IfOk, IfErr, OnOk, length, take};
 ghost use Rattle.bac_tag.specs.Heads.{Heads};
+ghost use Rattle.bac_tag.specs.Short.{BeginsShort};
 ghost use Rattle.bac_tag.specs.Spelling.{IsRefusal, Takes};
 ghost use Rattle.bac_value.specs.Primitives.{OfSize};
 ghost use Rattle.bac_service.specs.Leads.{context, application};
@@ -15,12 +16,13 @@ ghost use Rattle.bac_service.specs.ReadFaults.{IfRefused, EndsOrGoesOn};
 use crate::productions::{Front, Production, ReadFault, complete_at};
 use bac_tag::{
     Expected, OutOfMemory, Refusal, TagHead, Why, joined_marks, mark_read_head, read_expected,
-    write_head,
+    short_len, write_head,
 };
 use bac_value::Primitive;
 use std::alloc::Global;
 
 /// Reads contents of so many octets at the front of the octets.
+#[inline(always)]
 fn read_contents<T: Primitive>(alloc: Global, octets: &[u8], size: usize) -> Result<T, ReadFault>
     requires size { (T.SHORTEST ≤ size) × (size ≤ T.LONGEST) }
     ensures found { IfOk result (λ value. Takes (OfSize T.contents size) octets.now (value, size)) }
@@ -54,6 +56,7 @@ fn read_contents<T: Primitive>(alloc: Global, octets: &[u8], size: usize) -> Res
 }
 
 /// The head of a field: of context class with this number, or of application class with that of its type.
+#[inline(always)]
 fn head_of<T: Primitive>(context: Option<u8>, len: u32) -> TagHead
     ensures { result ≡ heading context T.APP len }
 {
@@ -67,6 +70,7 @@ fn head_of<T: Primitive>(context: Option<u8>, len: u32) -> TagHead
 }
 
 /// Such heads, with the lengths that contents of the type have.
+#[inline(always)]
 fn expected_head<T: Primitive>(context: Option<u8>) -> Expected
     ensures { result ≡ expected_heading context T.APP T.SHORTEST T.LONGEST }
 {
@@ -86,6 +90,7 @@ fn expected_head<T: Primitive>(context: Option<u8>) -> Expected
 }
 
 /// The mark of a field, of which the head has these octets and the contents those.
+#[inline(always)]
 fn mark_of<T: Primitive>(
     head: &[u8],
     value: &T,
@@ -103,7 +108,57 @@ fn mark_of<T: Primitive>(
     joined_marks(mark, head.len(), value.mark(contents))
 }
 
+/// The length of the head of a field at the front of the octets, where that is the least one and has one octet.
+#[inline(always)]
+fn short_size<T: Primitive>(octets: &[u8], context: Option<u8>) -> Option<usize>
+    requires { IsHeading context T.APP }
+    ensures { IfSome result (λ size. BeginsShort (heading context T.APP size) octets.now) }
+{
+    match context {
+        Some(number) => short_len(octets, true, number),
+        None => short_len(octets, false, T::APP),
+    }
+}
+
+/// Reads the field of which the head at the front is the least one and has one octet, where the contents say nothing
+/// against it.
+#[inline(always)]
+fn read_short_field<T: Primitive>(
+    alloc: Global,
+    octets: &[u8],
+    context: Option<u8>,
+    size: usize,
+) -> Option<Front<T>>
+    requires heading { IsHeading context T.APP }
+    requires head { BeginsShort (heading context T.APP size) octets.now }
+    ensures found { IfSome result (λ front. Takes (IsField (heading context T.APP) T.contents) octets.now (front.value, front.taken)) }
+    ensures mark { IfSome result (λ front. HasMark (IsField (heading context T.APP) T.contents front.value) (take front.taken octets.now) front.mark) }
+    ensures place { IfSome result (λ front. front.reach.place ≡ front.taken) }
+    ensures short { IfSome result (λ front. (front.reach.why ≡ Why.Short) ↔ (front.taken ≡ length octets.now)) }
+    ensures trailing { IfSome result (λ front. EndsOrGoesOn front.taken front.reach) }
+{
+    let rest = &octets[1..];
+    if size > rest.len() {
+        return None;
+    }
+    let contents = &rest[..size];
+    let Ok(value) = T::read(alloc, contents) else {
+        return None;
+    };
+    let mark = match value.mark(contents) {
+        None => None,
+        Some(_) => mark_of(&octets[..1], &value, context, contents),
+    };
+    Some(Front {
+        value,
+        taken: 1 + size,
+        mark,
+        reach: complete_at(octets, 1 + size),
+    })
+}
+
 /// Reads the field with such a head at the front of the octets.
+#[inline(always)]
 fn read_field<T: Primitive>(
     alloc: Global,
     octets: &[u8],
@@ -119,6 +174,11 @@ fn read_field<T: Primitive>(
     ensures reasons { IfErr result (λ fault. IfRefused fault (λ refusal. IsPartReason refusal.why)) }
     ensures memory { result ≡ Err ReadFault.OutOfMemory → IsTrue T.wants_memory }
 {
+    if let Some(size) = short_size::<T>(octets, context) {
+        if let Some(front) = read_short_field(alloc, octets, context, size) {
+            return Ok(front);
+        }
+    }
     let (head, start) = match read_expected(octets, expected_head::<T>(context)) {
         Ok(found) => found,
         Err(refusal) => return Err(ReadFault::Refused(refusal)),
@@ -144,6 +204,7 @@ fn read_field<T: Primitive>(
 }
 
 /// Appends the least octets of a field. Where memory is refused some octets may be there.
+#[inline(always)]
 fn write_field<T: Primitive>(
     value: &T,
     context: Option<u8>,
@@ -182,6 +243,7 @@ impl<T: Primitive, const N: u8> Production for Field<T, N> {
 
     ghost wants_memory = { T.wants_memory };
 
+    #[inline(always)]
     fn read(alloc: Global, octets: &[u8]) -> Result<Front<Field<T, N>>, ReadFault> {
         let front = read_field::<T>(alloc, octets, Some(N))?;
         Ok(Front {
@@ -192,6 +254,7 @@ impl<T: Primitive, const N: u8> Production for Field<T, N> {
         })
     }
 
+    #[inline(always)]
     fn write(&self, out: &mut Vec<u8>) -> Result<(), OutOfMemory> {
         write_field(&self.0, Some(N), out)
     }
@@ -218,6 +281,7 @@ impl<T: Primitive> Production for ApplicationField<T> {
 
     ghost wants_memory = { T.wants_memory };
 
+    #[inline(always)]
     fn read(alloc: Global, octets: &[u8]) -> Result<Front<ApplicationField<T>>, ReadFault> {
         let front = read_field::<T>(alloc, octets, None)?;
         Ok(Front {
@@ -228,6 +292,7 @@ impl<T: Primitive> Production for ApplicationField<T> {
         })
     }
 
+    #[inline(always)]
     fn write(&self, out: &mut Vec<u8>) -> Result<(), OutOfMemory> {
         write_field(&self.0, None, out)
     }

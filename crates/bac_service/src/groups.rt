@@ -17,6 +17,7 @@ pub(crate) struct Group<P, const N: u8>(pub(crate) P);
 
 /// Appends the least octets of a part and the tags of this number around it. Where memory is refused some octets
 /// may be there.
+#[inline(always)]
 pub(crate) fn write_group<P: Production, const N: u8>(
     part: &P,
     out: &mut Vec<u8>,
@@ -46,6 +47,7 @@ impl<P: Production, const N: u8> Production for Group<P, N> {
 
     ghost wants_memory = { P.wants_memory };
 
+    #[inline(always)]
     fn read(alloc: Global, octets: &[u8]) -> Result<Front<Group<P, N>>, ReadFault> {
         let front = <(Opening<N>, (P, Closing<N>))>::read(alloc, octets)?;
         let (_, (part, _)) = front.value;
@@ -57,6 +59,7 @@ impl<P: Production, const N: u8> Production for Group<P, N> {
         })
     }
 
+    #[inline(always)]
     fn write(&self, out: &mut Vec<u8>) -> Result<(), OutOfMemory> {
         write_group::<P, N>(&self.0, out)
     }

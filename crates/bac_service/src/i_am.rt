@@ -4,8 +4,10 @@ ghost use Rattle.std.specs.Prelude.{◌≡◌};
 ghost use Rattle.bac_service.specs.IAm.{SpellsIAm, i_am_parts};
 
 use crate::fields::ApplicationField;
+use crate::named::Named;
 use crate::productions::Production;
-use crate::records::Record;
+use crate::records::{Fields, Record};
+use crate::service::Service;
 use crate::unsigned16::Unsigned16;
 use crate::unsigned32::Unsigned32;
 use bac_tag::OutOfMemory;
@@ -66,4 +68,26 @@ impl Record for IAm {
     }
 
     ghost of_parts = { i_am_parts };
+}
+
+impl Named for IAm {
+    ghost use Rattle.std.specs.Prelude.{refl};
+    ghost use Rattle.std.proofs.Common.{lit<};
+    ghost use Rattle.bac_service.specs.declared.kind.Kind.TheVariants.{Unconfirmed};
+    ghost use Rattle.bac_service.specs.ServiceTable.{i_am};
+    ghost use Rattle.bac_service.specs.ServiceLaws.{serves, never};
+
+    type Part = Fields<IAm>;
+
+    ghost kind = { Unconfirmed };
+
+    ghost choice = { 0 };
+
+    fn into_service(part: Fields<IAm>) -> Service {
+        Service::IAm(part.0)
+    }
+
+    ghost named = { serves Unconfirmed 0 i_am (lit< tt) refl };
+
+    ghost memory = { never };
 }

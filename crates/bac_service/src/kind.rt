@@ -1,7 +1,10 @@
 //! Kinds of service, and which of them have a production.
 
-ghost use Rattle.std.specs.Prelude.{◌≡◌, ◌∷◌, [], false};
-ghost use Rattle.bac_service.specs.Choices.{typed_choices, has_production};
+ghost use Rattle.std.specs.Prelude.{◌≡◌, ◌↔◌, true, Some, IsTrue};
+ghost use Rattle.std.specs.Map.{keys_of};
+ghost use Rattle.std.specs.Option.{is_some};
+ghost use Rattle.bac_service.specs.declared.kind.Kind.TheVariants.{Error};
+ghost use Rattle.bac_service.specs.ServiceTable.{service_error, rows, production_of};
 
 /// The APDUs that carry a service (clause 20.1).
 #[derive(Clone, Copy, Debug, PartialEq, Eq)]
@@ -18,10 +21,10 @@ pub enum Kind {
 
 /// The service choices with a production, of this kind.
 fn typed_choices(kind: Kind) -> &'static [u8]
-    ensures { result.now ≡ typed_choices false kind }
+    ensures { result.now ≡ keys_of (rows true kind) }
 {
     match kind {
-        Kind::Confirmed | Kind::Error => &[1, 5, 12, 14, 15],
+        Kind::Confirmed | Kind::Error => &[1, 5, 12, 14, 15, 16],
         Kind::Unconfirmed => &[0, 2, 8],
         Kind::ComplexAck => &[12, 14],
     }
@@ -29,7 +32,14 @@ fn typed_choices(kind: Kind) -> &'static [u8]
 
 /// Whether this kind and service choice have a production: any others are opaque.
 pub(crate) fn has_production(kind: Kind, choice: u8) -> bool
-    ensures { result ≡ has_production false kind choice }
+    ensures { result ≡ is_some (production_of true kind choice) }
 {
     typed_choices(kind).contains(&choice)
+}
+
+/// Whether the errors of this service choice are a class and a code, and no more.
+pub(crate) fn has_cause(choice: u8) -> bool
+    ensures { IsTrue result ↔ (production_of true Error choice ≡ Some service_error) }
+{
+    [1, 5, 12, 14, 15].contains(&choice)
 }

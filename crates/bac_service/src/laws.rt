@@ -1,6 +1,6 @@
 //! Laws of the definitions.
 
-ghost use Rattle.std.specs.Prelude.{◌≡◌, ◌↔◌, ◌⊎◌, ℕ, List, false, IsTrue};
+ghost use Rattle.std.specs.Prelude.{◌≡◌, ◌↔◌, ◌⊎◌, ℕ, List, true, IsTrue};
 ghost use Rattle.bac_tag.specs.Spelling.{IsLeast, IsViable, IsPartway, OneOf};
 ghost use Rattle.bac_service.specs.declared.kind.Kind.{Kind};
 ghost use Rattle.bac_service.specs.Productions.{Both};
@@ -18,7 +18,9 @@ use crate::read_property_ack::ReadPropertyAck;
 use crate::records::Fields;
 use crate::subscribe_cov::SubscribeCov;
 use crate::who_is::WhoIs;
+use crate::write_access_specification::WriteAccessSpecification;
 use crate::write_property::WriteProperty;
+use crate::write_property_multiple_error::WritePropertyMultipleError;
 
 /// No list spells two values of a part.
 fn parts_have_one_value<P: Production>()
@@ -28,7 +30,7 @@ fn parts_have_one_value<P: Production>()
 
 /// No list spells two services of one kind and one choice.
 pub fn services_have_one_value()
-    ensures { (kind : Kind) (choice : ℕ) (v w : ServiceValue) (b : List ℕ) → SpellsService false kind choice v b → SpellsService false kind choice w b → v ≡ w }
+    ensures { (kind : Kind) (choice : ℕ) (v w : ServiceValue) (b : List ℕ) → SpellsService true 32 kind choice v b → SpellsService true 32 kind choice w b → v ≡ w }
 {
     parts_have_one_value::<Fields<ReadProperty>>();
     parts_have_one_value::<Fields<ReadPropertyAck>>();
@@ -40,11 +42,13 @@ pub fn services_have_one_value()
     parts_have_one_value::<Fields<SubscribeCov>>();
     parts_have_one_value::<Fields<CovNotification>>();
     parts_have_one_value::<Fields<ErrorCause>>();
+    parts_have_one_value::<Vec<WriteAccessSpecification>>();
+    parts_have_one_value::<Fields<WritePropertyMultipleError>>();
 }
 
 /// Two services of one kind and one choice are the same exactly where their canonical octets are equal.
 pub fn canonical_octets_tell_the_service()
-    ensures { (kind : Kind) (choice : ℕ) (v w : ServiceValue) (c d : List ℕ) → IsLeast (SpellsService false kind choice v) c → IsLeast (SpellsService false kind choice w) d → (v ≡ w) ↔ (c ≡ d) }
+    ensures { (kind : Kind) (choice : ℕ) (v w : ServiceValue) (c d : List ℕ) → IsLeast (SpellsService true 32 kind choice v) c → IsLeast (SpellsService true 32 kind choice w) d → (v ≡ w) ↔ (c ≡ d) }
 {
     services_have_one_value();
 }

@@ -1,9 +1,13 @@
 //! Services without a production.
 
-ghost use Rattle.std.specs.Prelude.{◌≡◌, ◌↔◌, IsErrOf, IfOk, true, false, length};
-ghost use Rattle.bac_service.specs.Choices.{has_production};
+ghost use Rattle.std.specs.Prelude.{◌≡◌, ◌↔◌, IsErrOf, IsNone, IsSome, IfOk, OnOk, true};
+ghost use Rattle.bac_service.specs.Productions.{AppendsLeast};
+ghost use Rattle.bac_service.specs.ServiceTable.{production_of};
+ghost use Rattle.bac_service.specs.ServiceValues.{opaque};
+ghost use Rattle.bac_service.specs.Services.{SpellsSaid, IsPlaced};
 
 use crate::kind::{Kind, has_production};
+use bac_tag::OutOfMemory;
 use std::alloc::Global;
 use std::marker::Model;
 
@@ -25,9 +29,9 @@ pub struct Opaque {
 }
 
 impl Model for Opaque {
-    ghost use Rattle.std.specs.Prelude.{◌≡◌, false};
+    ghost use Rattle.std.specs.Prelude.{IsNone, true};
     ghost use Rattle.bac_service.specs.Opaques.{OpaqueValue, opaque_code};
-    ghost use Rattle.bac_service.specs.Choices.{has_production};
+    ghost use Rattle.bac_service.specs.ServiceTable.{production_of};
 
     ghost Value = { OpaqueValue };
 
@@ -35,7 +39,7 @@ impl Model for Opaque {
 
     ghost view = { λ service. record { kind = service.kind; choice = service.choice; octets = service.octets.items } };
 
-    ghost invariant = { λ service. has_production false service.kind service.choice ≡ false };
+    ghost invariant = { λ service. IsNone (production_of true service.kind service.choice) };
 }
 
 impl Opaque {
@@ -45,7 +49,7 @@ impl Opaque {
     /// `Typed` where the kind and the choice have a production, else `OutOfMemory`.
     pub fn new(alloc: Global, kind: Kind, choice: u8, octets: &[u8]) -> Result<Opaque, OpaqueFault>
         ensures value { IfOk result (λ service. service ≡ record { kind = kind; choice = choice; octets = octets.now }) }
-        ensures typed { IsErrOf result OpaqueFault.Typed ↔ (has_production false kind choice ≡ true) }
+        ensures typed { IsErrOf result OpaqueFault.Typed ↔ IsSome (production_of true kind choice) }
     {
         if has_production(kind, choice) {
             return Err(OpaqueFault::Typed);
@@ -77,8 +81,19 @@ impl Opaque {
     /// Its octets, in their order.
     pub fn octets(&self) -> &[u8]
         ensures octets { result.now ≡ self.now.octets }
-        ensures untyped { has_production false self.now.kind self.now.choice ≡ false }
+        ensures untyped { IsNone (production_of true self.now.kind self.now.choice) }
     {
         self.octets.as_slice()
+    }
+
+    /// Appends its octets. Where memory is refused nothing is appended.
+    pub(crate) fn write_octets(&self, out: &mut Vec<u8>) -> Result<(), OutOfMemory>
+        ensures placed { IsPlaced (opaque self.now.kind self.now.choice self.now.octets) }
+        ensures ok { OnOk result (AppendsLeast (SpellsSaid 32 None self.now.octets) out.old.items out.new.items) }
+    {
+        let _choice = self.choice();
+        let octets = self.octets();
+        out.extend_from_slice(octets)?;
+        Ok(())
     }
 }

@@ -20,7 +20,7 @@ impl<const N: u8> Production for OpenValue<N> {
 
     ghost view = { λ value. value.0 };
 
-    ghost spells = { SpellsOpen 16 N };
+    ghost spells = { SpellsOpen 32 N };
 
     ghost openers = { opening N ∷ [] };
 
@@ -54,7 +54,7 @@ impl<const N: u8> Production for OpenValue<N> {
         write_any(&self.0, N, out)
     }
 
-    ghost lawful = { λ sound. open_lawful 16 N };
+    ghost lawful = { λ sound. open_lawful 32 N };
 
-    ghost inhabited = { open_inhabited 16 N };
+    ghost inhabited = { open_inhabited 32 N };
 }

@@ -30,6 +30,7 @@ impl<P: Production> Production for Option<P> {
 
     ghost wants_memory = { P.wants_memory };
 
+    #[inline(always)]
     fn read(alloc: Global, octets: &[u8]) -> Result<Front<Option<P>>, ReadFault> {
         match P::read(alloc, octets) {
             Ok(front) => Ok(Front {
@@ -48,6 +49,7 @@ impl<P: Production> Production for Option<P> {
         }
     }
 
+    #[inline(always)]
     fn write(&self, out: &mut Vec<u8>) -> Result<(), OutOfMemory> {
         match self {
             Some(part) => part.write(out),
@@ -61,6 +63,7 @@ impl<P: Production> Production for Option<P> {
 }
 
 /// What a field holds that may be absent.
+#[inline(always)]
 pub(crate) fn bare<T: Primitive, const N: u8>(field: Option<Field<T, N>>) -> Option<T>
     ensures { result ≡ option_map (λ field. field.0) field }
 {
@@ -68,6 +71,7 @@ pub(crate) fn bare<T: Primitive, const N: u8>(field: Option<Field<T, N>>) -> Opt
 }
 
 /// The field of a value that may be absent.
+#[inline(always)]
 pub(crate) fn under<T: Primitive, const N: u8>(value: Option<T>) -> Option<Field<T, N>>
     ensures { option_map (λ field. field.0) result ≡ value }
 {
@@ -75,6 +79,7 @@ pub(crate) fn under<T: Primitive, const N: u8>(value: Option<T>) -> Option<Field
 }
 
 /// The bit of a Boolean that may be absent.
+#[inline(always)]
 pub(crate) fn bit_of(value: Option<Boolean>) -> Option<bool>
     ensures { result ≡ option_map (λ value. value.0) value }
 {
@@ -82,6 +87,7 @@ pub(crate) fn bit_of(value: Option<Boolean>) -> Option<bool>
 }
 
 /// The Boolean of a bit that may be absent.
+#[inline(always)]
 pub(crate) fn boolean_of(bit: Option<bool>) -> Option<Boolean>
     ensures { option_map (λ value. value.0) result ≡ bit }
 {

@@ -27,6 +27,7 @@ impl<A: Production, B: Production> Production for (A, B) {
 
     ghost wants_memory = { A.wants_memory || B.wants_memory };
 
+    #[inline(always)]
     fn read(alloc: Global, octets: &[u8]) -> Result<Front<(A, B)>, ReadFault> {
         let first = A::read(alloc, octets)?;
         let taken = first.taken;
@@ -44,6 +45,7 @@ impl<A: Production, B: Production> Production for (A, B) {
         }
     }
 
+    #[inline(always)]
     fn write(&self, out: &mut Vec<u8>) -> Result<(), OutOfMemory> {
         self.0.write(out)?;
         self.1.write(out)

@@ -70,7 +70,7 @@ impl Record for PropertyResult {
 
     ghost view = { λ result. result };
 
-    ghost spells = { SpellsPropertyResult };
+    ghost spells = { SpellsPropertyResult 32 };
 
     fn from_parts(parts: Parts) -> PropertyResult {
         let (property, (index, result)) = parts;
@@ -92,5 +92,5 @@ impl Record for PropertyResult {
         }
     }
 
-    ghost of_parts = { property_result_parts };
+    ghost of_parts = { property_result_parts 32 };
 }

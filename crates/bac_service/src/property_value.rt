@@ -46,7 +46,7 @@ impl Record for PropertyValue {
 
     ghost view = { λ value. value };
 
-    ghost spells = { SpellsPropertyValue };
+    ghost spells = { SpellsPropertyValue 32 };
 
     fn from_parts(parts: Parts) -> PropertyValue {
         let (property, (index, (value, priority))) = parts;
@@ -65,5 +65,5 @@ impl Record for PropertyValue {
         under::<Priority, 3>(self.priority).write(out)
     }
 
-    ghost of_parts = { property_value_parts };
+    ghost of_parts = { property_value_parts 32 };
 }

@@ -33,7 +33,7 @@ impl Record for ReadAccessResult {
 
     ghost view = { access_result_of };
 
-    ghost spells = { SpellsAccessResult };
+    ghost spells = { SpellsAccessResult 32 };
 
     fn from_parts(parts: Parts) -> ReadAccessResult {
         let (object, results) = parts;
@@ -54,5 +54,5 @@ impl Record for ReadAccessResult {
         }
     }
 
-    ghost of_parts = { access_result_parts };
+    ghost of_parts = { access_result_parts 32 };
 }

@@ -4,9 +4,11 @@ ghost use Rattle.std.specs.Prelude.{◌≡◌};
 ghost use Rattle.bac_service.specs.ReadProperty.{SpellsReadProperty, read_property_parts};
 
 use crate::fields::Field;
+use crate::named::Named;
 use crate::optionals::{bare, under};
 use crate::productions::Production;
-use crate::records::Record;
+use crate::records::{Fields, Record};
+use crate::service::Service;
 use crate::unsigned32::Unsigned32;
 use bac_tag::OutOfMemory;
 use bac_value::{Enumerated, ObjectId};
@@ -57,4 +59,26 @@ impl Record for ReadProperty {
     }
 
     ghost of_parts = { read_property_parts };
+}
+
+impl Named for ReadProperty {
+    ghost use Rattle.std.specs.Prelude.{refl};
+    ghost use Rattle.std.proofs.Common.{lit<};
+    ghost use Rattle.bac_service.specs.declared.kind.Kind.TheVariants.{Confirmed};
+    ghost use Rattle.bac_service.specs.ServiceTable.{read_property};
+    ghost use Rattle.bac_service.specs.ServiceLaws.{serves, never};
+
+    type Part = Fields<ReadProperty>;
+
+    ghost kind = { Confirmed };
+
+    ghost choice = { 12 };
+
+    fn into_service(part: Fields<ReadProperty>) -> Service {
+        Service::ReadProperty(part.0)
+    }
+
+    ghost named = { serves Confirmed 12 read_property (lit< tt) refl };
+
+    ghost memory = { never };
 }

@@ -3,10 +3,12 @@
 ghost use Rattle.bac_service.specs.ReadPropertyAck.{SpellsReadPropertyAck, read_property_ack_parts};
 
 use crate::fields::Field;
+use crate::named::Named;
 use crate::open_values::OpenValue;
 use crate::optionals::{bare, under};
 use crate::productions::Production;
-use crate::records::Record;
+use crate::records::{Fields, Record};
+use crate::service::Service;
 use crate::unsigned32::Unsigned32;
 use bac_data::{Any, write_any};
 use bac_tag::OutOfMemory;
@@ -46,7 +48,7 @@ impl Record for ReadPropertyAck {
 
     ghost view = { λ ack. ack };
 
-    ghost spells = { SpellsReadPropertyAck };
+    ghost spells = { SpellsReadPropertyAck 32 };
 
     fn from_parts(parts: Parts) -> ReadPropertyAck {
         let (object, (property, (index, value))) = parts;
@@ -65,5 +67,27 @@ impl Record for ReadPropertyAck {
         write_any(&self.value, 3, out)
     }
 
-    ghost of_parts = { read_property_ack_parts };
+    ghost of_parts = { read_property_ack_parts 32 };
+}
+
+impl Named for ReadPropertyAck {
+    ghost use Rattle.std.specs.Prelude.{refl};
+    ghost use Rattle.std.proofs.Common.{lit<};
+    ghost use Rattle.bac_service.specs.declared.kind.Kind.TheVariants.{ComplexAck};
+    ghost use Rattle.bac_service.specs.ServiceTable.{read_property_ack};
+    ghost use Rattle.bac_service.specs.ServiceLaws.{serves};
+
+    type Part = Fields<ReadPropertyAck>;
+
+    ghost kind = { ComplexAck };
+
+    ghost choice = { 12 };
+
+    fn into_service(part: Fields<ReadPropertyAck>) -> Service {
+        Service::ReadPropertyAck(part.0)
+    }
+
+    ghost named = { serves ComplexAck 12 read_property_ack (lit< tt) refl };
+
+    ghost memory = { λ wants. refl };
 }

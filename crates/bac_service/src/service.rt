@@ -1,7 +1,7 @@
 //! Services (clause 21).
 
 ghost use Rattle.std.specs.Prelude.{◌≡◌};
-ghost use Rattle.bac_service.specs.ServiceValues.{value_of, kind_of, choice_of};
+ghost use Rattle.bac_service.specs.ServiceValues.{value_of};
 
 use crate::cov_notification::CovNotification;
 use crate::i_am::IAm;
@@ -15,6 +15,8 @@ use crate::service_error::ServiceError;
 use crate::subscribe_cov::SubscribeCov;
 use crate::who_is::WhoIs;
 use crate::write_property::WriteProperty;
+use crate::write_property_multiple::WritePropertyMultiple;
+use crate::write_property_multiple_error::WritePropertyMultipleError;
 
 /// A service: a typed one, or any other, which means its octets.
 #[derive(Debug, Drop)]
@@ -29,6 +31,8 @@ pub enum Service {
     ReadPropertyMultiple(ReadPropertyMultiple),
     /// ReadPropertyMultiple-ACK: an answer with contents, choice 14.
     ReadPropertyMultipleAck(ReadPropertyMultipleAck),
+    /// WritePropertyMultiple: a confirmed request, choice 16.
+    WritePropertyMultiple(WritePropertyMultiple),
     /// Who-Is: an unconfirmed request, choice 8.
     WhoIs(WhoIs),
     /// I-Am: an unconfirmed request, choice 0.
@@ -40,6 +44,8 @@ pub enum Service {
     CovNotification(CovNotification),
     /// The answer to a confirmed request of choice 1, 5, 12, 14 or 15 that failed.
     ServiceError(ServiceError),
+    /// The answer to a WritePropertyMultiple that failed: an error, choice 16.
+    WritePropertyMultipleError(WritePropertyMultipleError),
     /// A service of any other kind and choice.
     Opaque(Opaque),
 }
@@ -47,25 +53,26 @@ pub enum Service {
 impl Service {
     /// The kind of APDU that carries it.
     pub fn kind(&self) -> Kind
-        ensures { result ≡ kind_of (value_of self.now) }
+        ensures { result ≡ (value_of self.now).kind }
     {
         match self {
             Service::ReadProperty(_)
             | Service::WriteProperty(_)
             | Service::ReadPropertyMultiple(_)
+            | Service::WritePropertyMultiple(_)
             | Service::SubscribeCov(_) => Kind::Confirmed,
             Service::WhoIs(_) | Service::IAm(_) => Kind::Unconfirmed,
             Service::ReadPropertyAck(_) | Service::ReadPropertyMultipleAck(_) => Kind::ComplexAck,
             Service::CovNotification(notification) if notification.confirmed => Kind::Confirmed,
             Service::CovNotification(_) => Kind::Unconfirmed,
-            Service::ServiceError(_) => Kind::Error,
+            Service::ServiceError(_) | Service::WritePropertyMultipleError(_) => Kind::Error,
             Service::Opaque(service) => service.kind(),
         }
     }
 
     /// Its service choice (clause 21).
     pub fn choice(&self) -> u8
-        ensures { result ≡ choice_of (value_of self.now) }
+        ensures { result ≡ (value_of self.now).choice }
     {
         match self {
             Service::IAm(_) => 0,
@@ -76,6 +83,7 @@ impl Service {
             Service::ReadProperty(_) | Service::ReadPropertyAck(_) => 12,
             Service::ReadPropertyMultiple(_) | Service::ReadPropertyMultipleAck(_) => 14,
             Service::WriteProperty(_) => 15,
+            Service::WritePropertyMultiple(_) | Service::WritePropertyMultipleError(_) => 16,
             Service::ServiceError(error) => error.choice(),
             Service::Opaque(service) => service.choice(),
         }

@@ -1,29 +1,35 @@
 //! Decoding a service.
 
-ghost use Rattle.std.specs.Prelude.{◌≡◌, ◌≢◌, false, IfOk, IfErr};
+ghost use Rattle.std.specs.Prelude.{◌≡◌, ◌≢◌, true, false, IsNone, IfOk, IfErr};
 ghost use Rattle.bac_service.specs.declared.kind.Kind.TheVariants.{Confirmed, Unconfirmed, ComplexAck, Error};
 ghost use Rattle.bac_service.specs.Productions.{HasMark};
 ghost use Rattle.bac_service.specs.Reasons.{IsServiceReason};
 ghost use Rattle.bac_service.specs.WholeInput.{IsWholeRefusal};
-ghost use Rattle.bac_service.specs.Choices.{has_production};
+ghost use Rattle.bac_service.specs.ServiceTable.{production_of, is_small};
 ghost use Rattle.bac_service.specs.ServiceValues.{value_of};
 ghost use Rattle.bac_service.specs.Services.{SpellsService};
-ghost use Rattle.bac_service.specs.Decoded.{IsDecoded, is_small};
+ghost use Rattle.bac_service.specs.Decoded.{IsDecoded};
 
-use crate::kind::{Kind, has_production};
+use crate::i_am::IAm;
+use crate::kind::Kind;
+use crate::named::{Marked, decode_error, decode_list, decode_named, decode_notification};
 use crate::opaque::Opaque;
+use crate::read_property::ReadProperty;
+use crate::read_property_ack::ReadPropertyAck;
+use crate::read_property_multiple::ReadPropertyMultiple;
+use crate::read_property_multiple_ack::ReadPropertyMultipleAck;
 use crate::service::Service;
-use crate::typed::{
-    Marked, decode_error, decode_i_am, decode_notification, decode_read_property,
-    decode_read_property_ack, decode_read_property_multiple, decode_read_property_multiple_ack,
-    decode_subscribe_cov, decode_who_is, decode_write_property,
-};
+use crate::subscribe_cov::SubscribeCov;
+use crate::who_is::WhoIs;
+use crate::write_property::WriteProperty;
+use crate::write_property_multiple::WritePropertyMultiple;
+use crate::write_property_multiple_error::WritePropertyMultipleError;
 use bac_tag::{Refusal, Why};
 use std::alloc::Global;
 
 /// Takes the octets of a service without a production as they are.
 fn decode_opaque(alloc: Global, kind: Kind, choice: u8, octets: &[u8]) -> Result<Marked, Refusal>
-    requires { has_production false kind choice ≡ false }
+    requires { IsNone (production_of true kind choice) }
     ensures { IsDecoded kind choice octets.now result }
 {
     match Opaque::new(alloc, kind, choice, octets) {
@@ -41,10 +47,11 @@ fn decode_confirmed(alloc: Global, choice: u8, octets: &[u8]) -> Result<Marked, 
 {
     match choice {
         1 => decode_notification(alloc, true, octets),
-        5 => decode_subscribe_cov(alloc, octets),
-        12 => decode_read_property(alloc, octets),
-        14 => decode_read_property_multiple(alloc, octets),
-        15 => decode_write_property(alloc, octets),
+        5 => decode_named::<SubscribeCov>(alloc, octets),
+        12 => decode_named::<ReadProperty>(alloc, octets),
+        14 => decode_list::<ReadPropertyMultiple>(alloc, octets),
+        15 => decode_named::<WriteProperty>(alloc, octets),
+        16 => decode_list::<WritePropertyMultiple>(alloc, octets),
         _ => decode_opaque(alloc, Kind::Confirmed, choice, octets),
     }
 }
@@ -54,9 +61,9 @@ fn decode_unconfirmed(alloc: Global, choice: u8, octets: &[u8]) -> Result<Marked
     ensures { IsDecoded Unconfirmed choice octets.now result }
 {
     match choice {
-        0 => decode_i_am(alloc, octets),
+        0 => decode_named::<IAm>(alloc, octets),
         2 => decode_notification(alloc, false, octets),
-        8 => decode_who_is(alloc, octets),
+        8 => decode_named::<WhoIs>(alloc, octets),
         _ => decode_opaque(alloc, Kind::Unconfirmed, choice, octets),
     }
 }
@@ -66,8 +73,8 @@ fn decode_complex_ack(alloc: Global, choice: u8, octets: &[u8]) -> Result<Marked
     ensures { IsDecoded ComplexAck choice octets.now result }
 {
     match choice {
-        12 => decode_read_property_ack(alloc, octets),
-        14 => decode_read_property_multiple_ack(alloc, octets),
+        12 => decode_named::<ReadPropertyAck>(alloc, octets),
+        14 => decode_list::<ReadPropertyMultipleAck>(alloc, octets),
         _ => decode_opaque(alloc, Kind::ComplexAck, choice, octets),
     }
 }
@@ -76,10 +83,10 @@ fn decode_complex_ack(alloc: Global, choice: u8, octets: &[u8]) -> Result<Marked
 fn decode_failure(alloc: Global, choice: u8, octets: &[u8]) -> Result<Marked, Refusal>
     ensures { IsDecoded Error choice octets.now result }
 {
-    if has_production(Kind::Error, choice) {
-        decode_error(alloc, choice, octets)
-    } else {
-        decode_opaque(alloc, Kind::Error, choice, octets)
+    match choice {
+        1 | 5 | 12 | 14 | 15 => decode_error(alloc, choice, octets),
+        16 => decode_named::<WritePropertyMultipleError>(alloc, octets),
+        _ => decode_opaque(alloc, Kind::Error, choice, octets),
     }
 }
 
@@ -100,7 +107,7 @@ fn decode_kind(alloc: Global, kind: Kind, choice: u8, octets: &[u8]) -> Result<M
 ///
 /// # Errors
 /// At the first octet with which no spelling of such a service goes on: `Trailing` where the octets in front of it
-/// spell one, else `Tag`, `Length`, `Content` or, in a seventeenth group of an open value, `Depth`; `Short` where
+/// spell one, else `Tag`, `Length`, `Content` or, in a thirty-third group of an open value, `Depth`; `Short` where
 /// all the octets begin a spelling. `OutOfMemory` at 0 where memory is refused. ReadProperty, SubscribeCOV, I-Am,
 /// Who-Is and the errors of typed services want no memory. An opaque service takes any octets.
 pub fn decode_service_marked(
@@ -109,9 +116,9 @@ pub fn decode_service_marked(
     choice: u8,
     octets: &[u8],
 ) -> Result<(Service, Option<usize>), Refusal>
-    ensures found { IfOk result (λ found. SpellsService false kind choice (value_of found.0) octets.now) }
-    ensures mark { IfOk result (λ found. HasMark (SpellsService false kind choice (value_of found.0)) octets.now found.1) }
-    ensures refused { IfErr result (λ refusal. refusal.why ≢ Why.OutOfMemory → IsWholeRefusal (SpellsService false kind choice) octets.now refusal) }
+    ensures found { IfOk result (λ found. SpellsService true 32 kind choice (value_of found.0) octets.now) }
+    ensures mark { IfOk result (λ found. HasMark (SpellsService true 32 kind choice (value_of found.0)) octets.now found.1) }
+    ensures refused { IfErr result (λ refusal. refusal.why ≢ Why.OutOfMemory → IsWholeRefusal (SpellsService true 32 kind choice) octets.now refusal) }
     ensures memory { IfErr result (λ refusal. refusal.why ≡ Why.OutOfMemory → (refusal.place ≡ 0) × (is_small kind choice ≡ false)) }
     ensures reasons { IfErr result (λ refusal. IsServiceReason refusal.why) }
 {
@@ -128,8 +135,8 @@ pub fn decode_service(
     choice: u8,
     octets: &[u8],
 ) -> Result<Service, Refusal>
-    ensures found { IfOk result (λ service. SpellsService false kind choice (value_of service) octets.now) }
-    ensures refused { IfErr result (λ refusal. refusal.why ≢ Why.OutOfMemory → IsWholeRefusal (SpellsService false kind choice) octets.now refusal) }
+    ensures found { IfOk result (λ service. SpellsService true 32 kind choice (value_of service) octets.now) }
+    ensures refused { IfErr result (λ refusal. refusal.why ≢ Why.OutOfMemory → IsWholeRefusal (SpellsService true 32 kind choice) octets.now refusal) }
     ensures memory { IfErr result (λ refusal. refusal.why ≡ Why.OutOfMemory → (refusal.place ≡ 0) × (is_small kind choice ≡ false)) }
     ensures reasons { IfErr result (λ refusal. IsServiceReason refusal.why) }
 {

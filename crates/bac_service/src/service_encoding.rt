@@ -1,10 +1,10 @@
 //! Encoding a service.
 
-ghost use Rattle.std.specs.Prelude.{◌≡◌, false, IfOk, OnOk};
+ghost use Rattle.std.specs.Prelude.{◌≡◌, true, IfOk, OnOk};
 ghost use Rattle.bac_tag.specs.Spelling.{IsLeast};
 ghost use Rattle.bac_service.specs.Productions.{AppendsLeast};
-ghost use Rattle.bac_service.specs.ServiceValues.{value_of, kind_of, choice_of};
-ghost use Rattle.bac_service.specs.Services.{SpellsFields, HasItsChoice, SpellsService};
+ghost use Rattle.bac_service.specs.ServiceValues.{value_of};
+ghost use Rattle.bac_service.specs.Services.{SpellsSaid, SpellsService, IsPlaced};
 
 use crate::productions::Production;
 use crate::records::Record;
@@ -14,8 +14,8 @@ use std::alloc::Global;
 
 /// Appends the least spelling of a service. Where memory is refused some octets may be there.
 fn append_service(service: &Service, out: &mut Vec<u8>) -> Result<(), OutOfMemory>
-    ensures has_choice { HasItsChoice false (value_of service.now) }
-    ensures ok { OnOk result (AppendsLeast (SpellsFields (value_of service.now)) out.old.items out.new.items) }
+    ensures placed { IsPlaced (value_of service.now) }
+    ensures ok { OnOk result (AppendsLeast (SpellsSaid 32 (value_of service.now).production (value_of service.now).said) out.old.items out.new.items) }
 {
     match service {
         Service::ReadProperty(request) => request.write_fields(out),
@@ -23,15 +23,14 @@ fn append_service(service: &Service, out: &mut Vec<u8>) -> Result<(), OutOfMemor
         Service::WriteProperty(request) => request.write_fields(out),
         Service::ReadPropertyMultiple(request) => request.specs.write(out),
         Service::ReadPropertyMultipleAck(ack) => ack.results.write(out),
+        Service::WritePropertyMultiple(request) => request.specs.write(out),
         Service::WhoIs(request) => request.write_fields(out),
         Service::IAm(request) => request.write_fields(out),
         Service::SubscribeCov(request) => request.write_fields(out),
         Service::CovNotification(notification) => notification.write_fields(out),
         Service::ServiceError(error) => error.write_cause(out),
-        Service::Opaque(service) => {
-            out.extend_from_slice(service.octets())?;
-            Ok(())
-        }
+        Service::WritePropertyMultipleError(error) => error.write_fields(out),
+        Service::Opaque(service) => service.write_octets(out),
     }
 }
 
@@ -40,7 +39,7 @@ fn append_service(service: &Service, out: &mut Vec<u8>) -> Result<(), OutOfMemor
 /// # Errors
 /// `OutOfMemory` where memory is refused.
 pub fn encode_service(alloc: Global, service: &Service) -> Result<Vec<u8>, OutOfMemory>
-    ensures { IfOk result (λ out. IsLeast (SpellsService false (kind_of (value_of service.now)) (choice_of (value_of service.now)) (value_of service.now)) out.items) }
+    ensures { IfOk result (λ out. IsLeast (SpellsService true 32 (value_of service.now).kind (value_of service.now).choice (value_of service.now)) out.items) }
 {
     let mut out = Vec::new(alloc);
     append_service(service, &mut out)?;

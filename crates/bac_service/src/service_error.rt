@@ -1,13 +1,13 @@
 //! Errors of typed services (Error, clause 21).
 
-ghost use Rattle.std.specs.Prelude.{◌≡◌, ◌↔◌, IsSome, IfSome, OnOk, true, false};
+ghost use Rattle.std.specs.Prelude.{◌≡◌, ◌↔◌, IsSome, IfSome, OnOk, true, Some};
 ghost use Rattle.bac_service.specs.Productions.{AppendsLeast};
 ghost use Rattle.bac_service.specs.ErrorCause.{SpellsErrorCause};
-ghost use Rattle.bac_service.specs.Choices.{has_production};
+ghost use Rattle.bac_service.specs.ServiceTable.{service_error, production_of};
 ghost use Rattle.bac_service.specs.declared.kind.Kind.TheVariants.{Error};
 
 use crate::error_cause::ErrorCause;
-use crate::kind::{Kind, has_production};
+use crate::kind::has_cause;
 use crate::records::Record;
 use bac_tag::OutOfMemory;
 use bac_value::Enumerated;
@@ -24,16 +24,16 @@ pub struct ServiceError {
 }
 
 impl Model for ServiceError {
-    ghost use Rattle.std.specs.Prelude.{◌≡◌, true, false};
+    ghost use Rattle.std.specs.Prelude.{◌≡◌, true, Some};
     ghost use Rattle.bac_service.specs.ErrorValues.{ErrorValue};
-    ghost use Rattle.bac_service.specs.Choices.{has_production};
+    ghost use Rattle.bac_service.specs.ServiceTable.{service_error, production_of};
     ghost use Rattle.bac_service.specs.declared.kind.Kind.TheVariants.{Error};
 
     ghost Value = { ErrorValue };
 
     ghost view = { λ error. record { choice = error.choice; cause = error.cause } };
 
-    ghost invariant = { λ error. has_production false Error error.choice ≡ true };
+    ghost invariant = { λ error. production_of true Error error.choice ≡ Some service_error };
 
     ghost inverse = { λ value. record { choice = value.choice; cause = value.cause } };
 }
@@ -41,10 +41,10 @@ impl Model for ServiceError {
 impl ServiceError {
     /// The error of the service with this choice, which is 1, 5, 12, 14 or 15, with a class and a code.
     pub fn new(choice: u8, class: u32, code: u32) -> Option<ServiceError>
-        ensures some { IsSome result ↔ (has_production false Error choice ≡ true) }
+        ensures some { IsSome result ↔ (production_of true Error choice ≡ Some service_error) }
         ensures value { IfSome result (λ error. error ≡ record { choice = choice; cause = record { class = record { 0 = class }; code = record { 0 = code } } }) }
     {
-        if !has_production(Kind::Error, choice) {
+        if !has_cause(choice) {
             return None;
         }
         let cause = ErrorCause {
@@ -56,7 +56,7 @@ impl ServiceError {
 
     /// The error of the service with this choice, which is typed.
     pub(crate) fn of(choice: u8, cause: ErrorCause) -> ServiceError
-        requires { has_production false Error choice ≡ true }
+        requires { production_of true Error choice ≡ Some service_error }
         ensures { result ≡ record { choice = choice; cause = cause } }
     {
         ServiceError { choice, cause }
@@ -65,7 +65,7 @@ impl ServiceError {
     /// The choice of the service that failed.
     pub fn choice(&self) -> u8
         ensures choice { result ≡ self.now.choice }
-        ensures typed { has_production false Error result ≡ true }
+        ensures typed { production_of true Error result ≡ Some service_error }
     {
         self.choice
     }
@@ -86,7 +86,7 @@ impl ServiceError {
 
     /// Appends the least spelling of its class and its code. Where memory is refused some octets may be there.
     pub(crate) fn write_cause(&self, out: &mut Vec<u8>) -> Result<(), OutOfMemory>
-        ensures typed { has_production false Error self.now.choice ≡ true }
+        ensures typed { production_of true Error self.now.choice ≡ Some service_error }
         ensures ok { OnOk result (AppendsLeast (SpellsErrorCause self.now.cause) out.old.items out.new.items) }
     {
         self.cause.write_fields(out)

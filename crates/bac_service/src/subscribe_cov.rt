@@ -4,9 +4,11 @@ ghost use Rattle.std.specs.Prelude.{◌≡◌};
 ghost use Rattle.bac_service.specs.SubscribeCov.{SpellsSubscribeCov, subscribe_cov_parts};
 
 use crate::fields::Field;
+use crate::named::Named;
 use crate::optionals::{bare, bit_of, boolean_of, under};
 use crate::productions::Production;
-use crate::records::Record;
+use crate::records::{Fields, Record};
+use crate::service::Service;
 use crate::unsigned32::Unsigned32;
 use bac_tag::OutOfMemory;
 use bac_value::{Boolean, ObjectId};
@@ -66,4 +68,26 @@ impl Record for SubscribeCov {
     }
 
     ghost of_parts = { subscribe_cov_parts };
+}
+
+impl Named for SubscribeCov {
+    ghost use Rattle.std.specs.Prelude.{refl};
+    ghost use Rattle.std.proofs.Common.{lit<};
+    ghost use Rattle.bac_service.specs.declared.kind.Kind.TheVariants.{Confirmed};
+    ghost use Rattle.bac_service.specs.ServiceTable.{subscribe_cov};
+    ghost use Rattle.bac_service.specs.ServiceLaws.{serves, never};
+
+    type Part = Fields<SubscribeCov>;
+
+    ghost kind = { Confirmed };
+
+    ghost choice = { 5 };
+
+    fn into_service(part: Fields<SubscribeCov>) -> Service {
+        Service::SubscribeCov(part.0)
+    }
+
+    ghost named = { serves Confirmed 5 subscribe_cov (lit< tt) refl };
+
+    ghost memory = { never };
 }

@@ -7,7 +7,10 @@ ghost use Rattle.bac_service.specs.ProductionLaws.{Head, head_lawful};
 ghost use Rattle.bac_service.specs.TagLaws.{opening_inhabited, closing_inhabited};
 
 use crate::productions::{Front, Production, ReadFault, complete_at};
-use bac_tag::{Expected, OutOfMemory, TagHead, mark_read_head, read_expected, write_head};
+use bac_tag::{
+    Expected, OutOfMemory, TagHead, is_short_closing, is_short_opening, mark_read_head,
+    read_expected, write_head,
+};
 use std::alloc::Global;
 
 /// An opening tag.
@@ -35,7 +38,16 @@ impl<const N: u8> Production for Opening<N> {
 
     ghost wants_memory = { false };
 
+    #[inline(always)]
     fn read(_alloc: Global, octets: &[u8]) -> Result<Front<Opening<N>>, ReadFault> {
+        if is_short_opening(octets, N) {
+            return Ok(Front {
+                value: Opening,
+                taken: 1,
+                mark: None,
+                reach: complete_at(octets, 1),
+            });
+        }
         match read_expected(octets, Expected::Open(Some(N))) {
             Ok((tag, taken)) => Ok(Front {
                 value: Opening,
@@ -47,6 +59,7 @@ impl<const N: u8> Production for Opening<N> {
         }
     }
 
+    #[inline(always)]
     fn write(&self, out: &mut Vec<u8>) -> Result<(), OutOfMemory> {
         out.extend_from_slice(write_head(TagHead::Open(N)).as_slice())?;
         Ok(())
@@ -74,7 +87,16 @@ impl<const N: u8> Production for Closing<N> {
 
     ghost wants_memory = { false };
 
+    #[inline(always)]
     fn read(_alloc: Global, octets: &[u8]) -> Result<Front<Closing<N>>, ReadFault> {
+        if is_short_closing(octets, N) {
+            return Ok(Front {
+                value: Closing,
+                taken: 1,
+                mark: None,
+                reach: complete_at(octets, 1),
+            });
+        }
         match read_expected(octets, Expected::Close(Some(N))) {
             Ok((tag, taken)) => Ok(Front {
                 value: Closing,
@@ -86,6 +108,7 @@ impl<const N: u8> Production for Closing<N> {
         }
     }
 
+    #[inline(always)]
     fn write(&self, out: &mut Vec<u8>) -> Result<(), OutOfMemory> {
         out.extend_from_slice(write_head(TagHead::Close(N)).as_slice())?;
         Ok(())

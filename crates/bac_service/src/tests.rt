@@ -14,6 +14,7 @@ mod small_values;
 mod subscribe_cov;
 mod who_is;
 mod write_property;
+mod write_property_multiple;
 
 use crate::{Kind, Service, decode_service_marked, encode_service};
 use bac_data::{Any, Event};

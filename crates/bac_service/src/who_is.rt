@@ -4,8 +4,10 @@ ghost use Rattle.std.specs.Prelude.{◌≡◌};
 ghost use Rattle.bac_service.specs.WhoIs.{SpellsWhoIs, who_is_parts};
 
 use crate::fields::Field;
+use crate::named::Named;
 use crate::productions::Production;
-use crate::records::Record;
+use crate::records::{Fields, Record};
+use crate::service::Service;
 use bac_tag::OutOfMemory;
 use bac_value::Instance;
 
@@ -49,4 +51,26 @@ impl Record for WhoIs {
     }
 
     ghost of_parts = { who_is_parts };
+}
+
+impl Named for WhoIs {
+    ghost use Rattle.std.specs.Prelude.{refl};
+    ghost use Rattle.std.proofs.Common.{lit<};
+    ghost use Rattle.bac_service.specs.declared.kind.Kind.TheVariants.{Unconfirmed};
+    ghost use Rattle.bac_service.specs.ServiceTable.{who_is};
+    ghost use Rattle.bac_service.specs.ServiceLaws.{serves, never};
+
+    type Part = Fields<WhoIs>;
+
+    ghost kind = { Unconfirmed };
+
+    ghost choice = { 8 };
+
+    fn into_service(part: Fields<WhoIs>) -> Service {
+        Service::WhoIs(part.0)
+    }
+
+    ghost named = { serves Unconfirmed 8 who_is (lit< tt) refl };
+
+    ghost memory = { never };
 }

@@ -3,10 +3,12 @@
 ghost use Rattle.bac_service.specs.WriteProperty.{SpellsWriteProperty, write_property_parts};
 
 use crate::fields::Field;
+use crate::named::Named;
 use crate::open_values::OpenValue;
 use crate::optionals::{bare, under};
 use crate::productions::Production;
-use crate::records::Record;
+use crate::records::{Fields, Record};
+use crate::service::Service;
 use crate::unsigned32::Unsigned32;
 use bac_data::{Any, write_any};
 use bac_tag::OutOfMemory;
@@ -51,7 +53,7 @@ impl Record for WriteProperty {
 
     ghost view = { λ request. request };
 
-    ghost spells = { SpellsWriteProperty };
+    ghost spells = { SpellsWriteProperty 32 };
 
     fn from_parts(parts: Parts) -> WriteProperty {
         let (object, (property, (index, (value, priority)))) = parts;
@@ -72,5 +74,27 @@ impl Record for WriteProperty {
         under::<Priority, 4>(self.priority).write(out)
     }
 
-    ghost of_parts = { write_property_parts };
+    ghost of_parts = { write_property_parts 32 };
+}
+
+impl Named for WriteProperty {
+    ghost use Rattle.std.specs.Prelude.{refl};
+    ghost use Rattle.std.proofs.Common.{lit<};
+    ghost use Rattle.bac_service.specs.declared.kind.Kind.TheVariants.{Confirmed};
+    ghost use Rattle.bac_service.specs.ServiceTable.{write_property};
+    ghost use Rattle.bac_service.specs.ServiceLaws.{serves};
+
+    type Part = Fields<WriteProperty>;
+
+    ghost kind = { Confirmed };
+
+    ghost choice = { 15 };
+
+    fn into_service(part: Fields<WriteProperty>) -> Service {
+        Service::WriteProperty(part.0)
+    }
+
+    ghost named = { serves Confirmed 15 write_property (lit< tt) refl };
+
+    ghost memory = { λ wants. refl };
 }

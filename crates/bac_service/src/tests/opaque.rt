@@ -16,10 +16,10 @@ fn opaque(alloc: Global, kind: Kind, choice: u8, octets: &[u8]) -> Result<Opaque
 
 /// Each kind, its choices with a production that wants octets, and those with one that wants none.
 const TYPED: [(Kind, &[u8], &[u8]); 4] = [
-    (Kind::Confirmed, &[1, 5, 12, 15], &[14]),
+    (Kind::Confirmed, &[1, 5, 12, 15], &[14, 16]),
     (Kind::Unconfirmed, &[0, 2], &[8]),
     (Kind::ComplexAck, &[12], &[14]),
-    (Kind::Error, &[1, 5, 12, 14, 15], &[]),
+    (Kind::Error, &[1, 5, 12, 14, 15, 16], &[]),
 ];
 
 // Of examples 32 and 50 of docs/EXAMPLES.md.
@@ -84,7 +84,7 @@ fn a_choice_with_a_production_is_never_opaque(rt: HostRuntime) -> Result<(), Fai
 #[test]
 fn other_services_are_read_as_opaque(rt: HostRuntime) -> Result<(), Fail> {
     let table: [(Kind, u8, &[u8]); 2] = [
-        (Kind::Confirmed, 16, &[0xAA]),
+        (Kind::Confirmed, 17, &[0xAA]),
         (Kind::Error, 6, &[0x91, 2]),
     ];
     for (kind, choice, octets) in table {
@@ -104,13 +104,13 @@ fn other_services_are_read_as_opaque(rt: HostRuntime) -> Result<(), Fail> {
 fn opaque_octets_are_kept(rt: HostRuntime) -> Result<(), Fail> {
     let rows = [kept(&[0xAA]), kept(&[]), kept(&[0x91, 2]), kept(&[9, 0])];
     let services = [
-        (Kind::Confirmed, 16),
+        (Kind::Confirmed, 17),
         (Kind::Confirmed, 0),
         (Kind::Unconfirmed, 9),
         (Kind::ComplexAck, 15),
         (Kind::ComplexAck, 16),
         (Kind::Error, 6),
-        (Kind::Error, 16),
+        (Kind::Error, 17),
     ];
     for service in services {
         judge(&rt, rt.alloc(), service, &[], &rows)?;

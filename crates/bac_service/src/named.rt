@@ -1,0 +1,107 @@
+//! Decoding the services that have a production.
+
+ghost use Rattle.std.specs.Prelude.{◌≡◌, ◌↔◌, ◌&&◌, not, map, ℕ, List, true, false, IsTrue, Some};
+ghost use Rattle.bac_service.specs.declared.kind.Kind.{Kind};
+ghost use Rattle.bac_service.specs.declared.kind.Kind.TheVariants.{Error};
+ghost use Rattle.bac_service.specs.Leads.{disjoint};
+ghost use Rattle.bac_service.specs.Productions.{Items};
+ghost use Rattle.bac_service.specs.ServiceTable.{service_error, production_of, is_small};
+ghost use Rattle.bac_service.specs.ServiceValues.{value_of, notification_kind, notification_choice};
+ghost use Rattle.bac_service.specs.Services.{SpellsService};
+ghost use Rattle.bac_service.specs.ServiceLaws.{IsServiceOf};
+ghost use Rattle.bac_service.specs.Decoded.{IsDecoded};
+
+use crate::cov_notification::CovNotification;
+use crate::decoding::decode;
+use crate::error_cause::ErrorCause;
+use crate::productions::Production;
+use crate::records::{Fields, Record};
+use crate::service::Service;
+use crate::service_error::ServiceError;
+use bac_tag::Refusal;
+use std::alloc::Global;
+
+/// A service, and the first octet that differs from the canonical ones.
+pub(crate) type Marked = (Service, Option<usize>);
+
+/// A service that one kind and one choice name.
+pub(crate) trait Named: Drop {
+    /// What it is spelled as.
+    type Part: Production;
+
+    ghost kind: { Kind };
+
+    ghost choice: { ℕ };
+
+    /// The service that was read.
+    fn into_service(part: Self::Part) -> Service
+        ensures { (b : List ℕ) → Self.Part.spells (Self.Part.view part) b ↔ SpellsService true 32 kind choice (value_of result) b };
+
+    ghost named: { IsServiceOf Self.Part.spells kind choice };
+
+    ghost memory: { IsTrue Self.Part.wants_memory → is_small kind choice ≡ false };
+}
+
+/// Decodes such a service.
+pub(crate) fn decode_named<S: Named>(alloc: Global, octets: &[u8]) -> Result<Marked, Refusal>
+    requires { IsTrue S.Part.is_sound }
+    ensures { IsDecoded S.kind S.choice octets.now result }
+{
+    let (part, mark) = decode::<S::Part>(alloc, octets)?;
+    Ok((S::into_service(part), mark))
+}
+
+/// A service that one kind and one choice name, and that is one list.
+pub(crate) trait NamedList: Drop {
+    /// What the list is of.
+    type Item: Record;
+
+    ghost kind: { Kind };
+
+    ghost choice: { ℕ };
+
+    /// The service that was read.
+    fn into_service(items: Vec<Self::Item>) -> Service
+        ensures { (b : List ℕ) → Items Self.Item.spells (map Self.Item.view items.items) b ↔ SpellsService true 32 kind choice (value_of result) b };
+
+    ghost named: { IsServiceOf (Items Self.Item.spells) kind choice };
+
+    ghost memory: { is_small kind choice ≡ false };
+}
+
+/// Decodes such a service.
+pub(crate) fn decode_list<S: NamedList>(alloc: Global, octets: &[u8]) -> Result<Marked, Refusal>
+    requires { IsTrue (S.Item.Parts.is_sound && (not S.Item.Parts.may_be_empty && disjoint S.Item.Parts.openers S.Item.Parts.continuers)) }
+    ensures { IsDecoded S.kind S.choice octets.now result }
+{
+    let (items, mark) = decode::<Vec<S::Item>>(alloc, octets)?;
+    Ok((S::into_service(items), mark))
+}
+
+/// Decodes a notification, which two kinds carry: confirmed or not.
+pub(crate) fn decode_notification(
+    alloc: Global,
+    confirmed: bool,
+    octets: &[u8],
+) -> Result<Marked, Refusal>
+    ensures { IsDecoded (notification_kind confirmed) (notification_choice confirmed) octets.now result }
+{
+    let (notification, mark) = decode::<Fields<CovNotification>>(alloc, octets)?;
+    let notification = CovNotification {
+        confirmed,
+        ..notification.0
+    };
+    Ok((Service::CovNotification(notification), mark))
+}
+
+/// Decodes the error of a service whose errors are a class and a code: five choices have one production.
+pub(crate) fn decode_error(alloc: Global, choice: u8, octets: &[u8]) -> Result<Marked, Refusal>
+    requires { production_of true Error choice ≡ Some service_error }
+    ensures { IsDecoded Error choice octets.now result }
+{
+    let (cause, mark) = decode::<Fields<ErrorCause>>(alloc, octets)?;
+    Ok((
+        Service::ServiceError(ServiceError::of(choice, cause.0)),
+        mark,
+    ))
+}
