@@ -33,13 +33,23 @@ fn decoded(alloc: Global, message: &Message<'_>, batch: &[u8]) -> Result<Service
 }
 
 /// The same, and the first octet that is not canonical in a message with such an octet.
-fn marked(alloc: Global, message: &Message<'_>, batch: &[u8]) -> Result<Option<usize>, BenchFault> {
-    let mut found = None;
+fn marked(
+    alloc: Global,
+    message: &Message<'_>,
+    batch: &[u8],
+) -> Result<(Service, Option<usize>), BenchFault> {
+    let (mut last, mut found) = decode_service_marked(
+        alloc,
+        message.kind,
+        message.choice,
+        message.octets,
+    )?;
     for octets in batch.chunks_exact(message.octets.len().max(1)) {
-        let (_, mark) = decode_service_marked(alloc, message.kind, message.choice, octets)?;
+        let (service, mark) = decode_service_marked(alloc, message.kind, message.choice, octets)?;
+        last = service;
         found = found.or(mark);
     }
-    Ok(found)
+    Ok((last, found))
 }
 
 /// Encodes a service so often, and gives the octets.
@@ -82,7 +92,7 @@ pub fn add(
     let (alloc, repetitions) = (rt.alloc(), mode.repetitions());
     let batch = batch_of(alloc, message.octets)?;
     let (service, decoding) = timed(rt, repetitions, || decoded(alloc, message, &batch))?;
-    let (found, marking) = timed(rt, repetitions, || marked(alloc, message, &batch))?;
+    let ((_, found), marking) = timed(rt, repetitions, || marked(alloc, message, &batch))?;
     expect_canonical(found)?;
     let (octets, encoding) = timed(rt, repetitions, || encoded(alloc, &service))?;
     expect_same(octets, message.octets)?;
