@@ -8,8 +8,6 @@ pub mod laws;
 mod nodes;
 mod open_value;
 mod reading;
-#[cfg(test)]
-mod tests;
 mod walking;
 mod writing;
 

@@ -34,8 +34,6 @@ mod service_encoding;
 mod service_error;
 mod subscribe_cov;
 mod tags;
-#[cfg(test)]
-mod tests;
 mod unsigned16;
 mod unsigned32;
 mod who_is;

@@ -22,6 +22,3 @@ pub use reading::{read_expected, read_head, read_one_of};
 pub use refusals::{OutOfMemory, Refusal, Why};
 pub use short::{is_short_closing, is_short_opening, short_len};
 pub use writing::{head_len, write_head};
-
-#[cfg(test)]
-mod tests;

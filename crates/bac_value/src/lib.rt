@@ -21,8 +21,6 @@ mod priority;
 mod ranged_numbers;
 mod real;
 mod signed_integer;
-#[cfg(test)]
-mod tests;
 mod time_value;
 mod unsigned_integer;
 mod value_faults;

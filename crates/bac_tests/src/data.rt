@@ -1,0 +1,16 @@
+//! Of open values.
+
+mod building;
+mod marking;
+mod reading;
+mod writing;
+
+use bac_data::laws;
+
+// The laws are functions that do nothing: their contracts are what they say.
+#[test]
+fn laws_can_be_called() {
+    laws::events_determine_the_value();
+    laws::open_values_end_themselves();
+    laws::canonical_octets_tell_the_value();
+}

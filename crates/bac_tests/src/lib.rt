@@ -1,0 +1,12 @@
+//! Tests of the library: what no clause says, values from outside, and that the calls succeed. They stand in a crate
+//! of their own, over public calls alone, since a crate with tests is proved twice.
+#![tactic(auto)]
+
+#[cfg(test)]
+mod data;
+#[cfg(test)]
+mod service;
+#[cfg(test)]
+mod tag;
+#[cfg(test)]
+mod value;

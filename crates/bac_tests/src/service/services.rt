@@ -1,0 +1,109 @@
+//! Services that are made and not read, and those that are read without their marks.
+
+use super::{encoded, object};
+use bac_service::{
+    CovNotification, Kind, PropertyReference, ReadAccessSpecification, ReadProperty,
+    ReadPropertyMultiple, Service, Unsigned32, WhoIs, decode_service, laws,
+};
+use bac_tag::{Refusal, Why};
+use bac_value::{Enumerated, Instance};
+use std::alloc::{AllocError, Global};
+use std::process::Abort;
+use std::test::Fail;
+
+/// The service has this kind and this choice, and is written so.
+fn is_written(
+    rt: &impl Abort,
+    alloc: Global,
+    service: &Service,
+    kind: Kind,
+    choice: u8,
+    octets: &[u8],
+) -> Result<(), Fail> {
+    assert_eq!(rt; (service.kind(), service.choice()), (kind, choice));
+    assert_eq!(rt; encoded(alloc, service)?.as_slice(), octets);
+    Ok(())
+}
+
+/// A list of one, at the latest when memory is asked for again.
+fn list<T: Drop>(alloc: Global, only: T) -> Result<Vec<T>, AllocError> {
+    let mut items = match Vec::with_capacity(alloc, 1) {
+        Ok(items) => items,
+        Err(_) => Vec::with_capacity(alloc, 1)?,
+    };
+    items.push(only)?;
+    Ok(items)
+}
+
+// Of examples 1 and 53 of docs/EXAMPLES.md.
+#[test]
+fn small_services_are_written(rt: HostRuntime) -> Result<(), Fail> {
+    let (object, property) = (object(0, 5)?, Enumerated(85));
+    let index = None;
+    let read = Service::ReadProperty(ReadProperty {
+        object,
+        property,
+        index,
+    });
+    let octets = [0x0C, 0, 0, 0, 5, 0x19, 0x55];
+    is_written(&rt, rt.alloc(), &read, Kind::Confirmed, 12, &octets)?;
+    let limits = None;
+    let who = Service::WhoIs(WhoIs { limits });
+    is_written(&rt, rt.alloc(), &who, Kind::Unconfirmed, 8, &[])
+}
+
+// Of example 18 of docs/EXAMPLES.md.
+#[test]
+fn lists_of_references_are_written(rt: HostRuntime) -> Result<(), Fail> {
+    let (object, property) = (object(0, 33)?, Enumerated(85));
+    let index = None;
+    let properties = list(rt.alloc(), PropertyReference { property, index })?;
+    let specs = list(rt.alloc(), ReadAccessSpecification { object, properties })?;
+    let service = Service::ReadPropertyMultiple(ReadPropertyMultiple { specs });
+    let octets = [0x0C, 0, 0, 0, 0x21, 0x1E, 9, 0x55, 0x1F];
+    is_written(&rt, rt.alloc(), &service, Kind::Confirmed, 14, &octets)
+}
+
+// Of examples 20 and 53 of docs/EXAMPLES.md, without values.
+#[test]
+fn notifications_of_both_kinds_are_written_alike(rt: HostRuntime) -> Result<(), Fail> {
+    let octets = [
+        9, 0x12, 0x1C, 2, 0, 0, 4, 0x2C, 0, 0, 0, 0x0A, 0x39, 0, 0x4E, 0x4F,
+    ];
+    for (confirmed, kind, choice) in [(true, Kind::Confirmed, 1), (false, Kind::Unconfirmed, 2)] {
+        let service = Service::CovNotification(CovNotification {
+            confirmed,
+            process: Unsigned32(18),
+            device: object(8, 4)?,
+            object: object(0, 10)?,
+            remaining: Unsigned32(0),
+            values: Vec::new(rt.alloc()),
+        });
+        is_written(&rt, rt.alloc(), &service, kind, choice, &octets)?;
+    }
+    Ok(())
+}
+
+// Of examples 5 and 49 of docs/EXAMPLES.md.
+#[test]
+fn a_service_is_read_without_its_mark(rt: HostRuntime) -> Result<(), Fail> {
+    let octets = [0x0A, 0, 0x64, 0x19, 0xC8];
+    match decode_service(rt.alloc(), Kind::Unconfirmed, 8, &octets)? {
+        Service::WhoIs(request) => {
+            let limits = Instance::new(100).zip(Instance::new(200));
+            assert_eq!(rt; request, WhoIs { limits });
+        }
+        found => panic!(rt; "{found:?}"),
+    }
+    let refusal = decode_service(rt.alloc(), Kind::Unconfirmed, 8, &[9, 0]).err();
+    let (place, why) = (2, Why::Short);
+    assert_eq!(rt; refusal, Some(Refusal { place, why }));
+    Ok(())
+}
+
+// The laws are functions that do nothing: their contracts are what they say.
+#[test]
+fn laws_can_be_called() {
+    laws::services_have_one_value();
+    laws::canonical_octets_tell_the_service();
+}

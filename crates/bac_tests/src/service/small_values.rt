@@ -1,0 +1,183 @@
+//! Values that are compared and printed whole.
+
+use super::object;
+use bac_service::{
+    ErrorCause, IAm, Kind, OpaqueFault, PropertyReference, ReadProperty, ServiceError,
+    SubscribeCov, Unsigned16, Unsigned32, WhoIs,
+};
+use bac_value::{Enumerated, Instance};
+use std::alloc::Global;
+use std::fmt::Debug;
+use std::process::Abort;
+use std::test::Fail;
+
+/// By the bounds alone: the value is itself and not the other, and is printed so.
+fn is_shown<T: Copy + Debug + PartialEq>(
+    rt: &impl Abort,
+    alloc: Global,
+    value: T,
+    other: T,
+    text: &str,
+) -> Result<(), Fail> {
+    assert!(rt; value == value, "{text}");
+    assert!(rt; value != other, "{text}");
+    let shown = match format!(in alloc; "{value:?}") {
+        Ok(shown) => shown,
+        Err(_) => format!(in alloc; "{value:?}")?,
+    };
+    assert_eq!(rt; shown.as_str(), text);
+    Ok(())
+}
+
+#[test]
+fn kinds_and_faults_have_their_names(rt: HostRuntime) -> Result<(), Fail> {
+    let alloc = rt.alloc();
+    is_shown(&rt, alloc, Kind::Confirmed, Kind::Error, "Confirmed")?;
+    is_shown(
+        &rt,
+        alloc,
+        Kind::Unconfirmed,
+        Kind::Confirmed,
+        "Unconfirmed",
+    )?;
+    is_shown(
+        &rt,
+        alloc,
+        Kind::ComplexAck,
+        Kind::Unconfirmed,
+        "ComplexAck",
+    )?;
+    is_shown(&rt, alloc, Kind::Error, Kind::ComplexAck, "Error")?;
+    is_shown(
+        &rt,
+        alloc,
+        OpaqueFault::Typed,
+        OpaqueFault::OutOfMemory,
+        "Typed",
+    )?;
+    is_shown(
+        &rt,
+        alloc,
+        OpaqueFault::OutOfMemory,
+        OpaqueFault::Typed,
+        "OutOfMemory",
+    )
+}
+
+#[test]
+fn numbers_have_their_types(rt: HostRuntime) -> Result<(), Fail> {
+    let alloc = rt.alloc();
+    is_shown(
+        &rt,
+        alloc,
+        Unsigned16(65_535),
+        Unsigned16(0),
+        "Unsigned16(65535)",
+    )?;
+    is_shown(
+        &rt,
+        alloc,
+        Unsigned32(u32::MAX),
+        Unsigned32(65_535),
+        "Unsigned32(4294967295)",
+    )
+}
+
+#[test]
+fn references_and_errors_have_their_parts(rt: HostRuntime) -> Result<(), Fail> {
+    let alloc = rt.alloc();
+    let property = Enumerated(85);
+    let whole = PropertyReference {
+        property,
+        index: None,
+    };
+    let element = PropertyReference {
+        property,
+        index: Some(Unsigned32(0)),
+    };
+    let text = "PropertyReference { property: Enumerated(85), index: None }";
+    is_shown(&rt, alloc, whole, element, text)?;
+    let (class, code) = (Enumerated(2), Enumerated(32));
+    let cause = ErrorCause { class, code };
+    let turned = ErrorCause {
+        class: code,
+        code: class,
+    };
+    let text = "ErrorCause { class: Enumerated(2), code: Enumerated(32) }";
+    is_shown(&rt, alloc, cause, turned, text)?;
+    let error = ServiceError::new(12, 2, 32).ok_or("a typed service")?;
+    let other = ServiceError::new(14, 2, 32).ok_or("a typed service")?;
+    let text =
+        "ServiceError { choice: 12, cause: ErrorCause { class: Enumerated(2), code: Enumerated(32) } }";
+    is_shown(&rt, alloc, error, other, text)
+}
+
+#[test]
+fn questions_have_their_fields(rt: HostRuntime) -> Result<(), Fail> {
+    let alloc = rt.alloc();
+    let (object, property) = (object(0, 5)?, Enumerated(85));
+    let whole = ReadProperty {
+        object,
+        property,
+        index: None,
+    };
+    let element = ReadProperty {
+        object,
+        property,
+        index: Some(Unsigned32(1)),
+    };
+    let text =
+        "ReadProperty { object: ObjectId { kind: 0, instance: 5 }, property: Enumerated(85), index: None }";
+    is_shown(&rt, alloc, whole, element, text)?;
+    let limited = WhoIs {
+        limits: Instance::new(1).zip(Instance::new(0)),
+    };
+    is_shown(
+        &rt,
+        alloc,
+        WhoIs { limits: None },
+        limited,
+        "WhoIs { limits: None }",
+    )
+}
+
+#[test]
+fn a_subscription_has_its_fields(rt: HostRuntime) -> Result<(), Fail> {
+    let (process, object) = (Unsigned32(18), object(0, 5)?);
+    let end = SubscribeCov {
+        process,
+        object,
+        confirmed: None,
+        lifetime: None,
+    };
+    let endless = SubscribeCov {
+        process,
+        object,
+        confirmed: Some(true),
+        lifetime: Some(Unsigned32(0)),
+    };
+    let text =
+        "SubscribeCov { process: Unsigned32(18), object: ObjectId { kind: 0, instance: 5 }, confirmed: None, lifetime: None }";
+    is_shown(&rt, rt.alloc(), end, endless, text)
+}
+
+#[test]
+fn a_device_has_its_fields(rt: HostRuntime) -> Result<(), Fail> {
+    let object = object(8, 1)?;
+    let (apdu, segmentation) = (Unsigned32(480), Enumerated(3));
+    let first = IAm {
+        object,
+        apdu,
+        segmentation,
+        vendor: Unsigned16(99),
+    };
+    let second = IAm {
+        object,
+        apdu,
+        segmentation,
+        vendor: Unsigned16(98),
+    };
+    let text =
+        "IAm { object: ObjectId { kind: 8, instance: 1 }, apdu: Unsigned32(480), segmentation: Enumerated(3), vendor: Unsigned16(99) }";
+    is_shown(&rt, rt.alloc(), first, second, text)
+}

@@ -1,0 +1,3 @@
+//! Of tag heads, and of the words by which octets are refused.
+
+mod heads;

@@ -1,0 +1,133 @@
+//! A value of any primitive type, the same borrowed, and numbers that a constructor keeps in their range.
+
+ghost use Rattle.std.specs.Prelude.{◌≤◌};
+
+use bac_tag::{OutOfMemory, Refusal, Why};
+use bac_value::{
+    Bits, Instance, Null, ObjectId, Octets, Prim, PrimRef, Primitive, Priority, RealBits, Text,
+    Unsigned,
+};
+use std::alloc::Global;
+use std::process::Abort;
+use std::test::Fail;
+
+/// The contents under an application number come to these, with this mark.
+fn rewrites(
+    rt: &impl Abort,
+    alloc: Global,
+    number: u8,
+    octets: &[u8],
+    written: &[u8],
+    mark: Option<usize>,
+) -> Result<(), Fail>
+    requires { number ≤ 12 }
+{
+    let prim = Prim::read(alloc, number, octets)?;
+    assert_eq!(rt; prim.number(), number);
+    assert_eq!(rt; prim.mark(octets), mark, "of tag {number}");
+    assert_eq!(rt; prim.written_len(), written.len(), "of tag {number}");
+    let mut out = Vec::new(alloc);
+    prim.write(&mut out)?;
+    assert_eq!(rt; out.as_slice(), written, "of tag {number}");
+    assert_eq!(rt; prim.as_prim_ref().number(), number);
+    assert!(rt; is_borrowed_again(alloc, &prim)?, "of tag {number}");
+    Ok(())
+}
+
+/// What is written of the value is the value, borrowed.
+fn is_borrowed_again(alloc: Global, prim: &Prim) -> Result<bool, OutOfMemory> {
+    let mut out = Vec::new(alloc);
+    prim.write(&mut out)?;
+    Ok(PrimRef::of_contents(prim.number(), &out) == prim.as_prim_ref())
+}
+
+#[test]
+fn each_type_is_read_by_its_application_number(rt: HostRuntime) -> Result<(), Fail> {
+    let real = [0x42, 0x90, 0x99, 0x9A];
+    let double = [0x3F, 0xF0, 0, 0, 0, 0, 0, 0];
+    rewrites(&rt, rt.alloc(), 0, &[], &[], None)?;
+    rewrites(&rt, rt.alloc(), 1, &[1], &[1], None)?;
+    rewrites(&rt, rt.alloc(), 2, &[0, 0x55], &[0x55], Some(0))?;
+    rewrites(&rt, rt.alloc(), 3, &[0xFF, 0xFF], &[0xFF], Some(1))?;
+    rewrites(&rt, rt.alloc(), 4, &real, &real, None)?;
+    rewrites(&rt, rt.alloc(), 5, &double, &double, None)?;
+    rewrites(&rt, rt.alloc(), 6, &[0xAB], &[0xAB], None)?;
+    rewrites(&rt, rt.alloc(), 7, &[5, 0xE9], &[5, 0xE9], None)?;
+    rewrites(&rt, rt.alloc(), 8, &[4, 0xFF], &[4, 0xF0], Some(1))?;
+    rewrites(&rt, rt.alloc(), 9, &[0, 2], &[2], Some(0))?;
+    rewrites(&rt, rt.alloc(), 10, &[91, 1, 24, 4], &[91, 1, 24, 4], None)?;
+    rewrites(
+        &rt,
+        rt.alloc(),
+        11,
+        &[17, 35, 45, 17],
+        &[17, 35, 45, 17],
+        None,
+    )?;
+    rewrites(&rt, rt.alloc(), 12, &[2, 0, 0, 4], &[2, 0, 0, 4], None)
+}
+
+#[test]
+fn a_refusal_is_that_of_the_type(rt: HostRuntime) {
+    let table: [(u8, &[u8], usize, Why); 5] = [
+        (0, &[0], 0, Why::Length),
+        (1, &[2], 0, Why::Content),
+        (8, &[3], 0, Why::Content),
+        (9, &[0, 1, 0, 0, 0, 0], 1, Why::Content),
+        (12, &[0, 0, 5], 0, Why::Length),
+    ];
+    for (number, octets, place, why) in table {
+        let refusal = Prim::read(rt.alloc(), number, octets).err();
+        assert_eq!(rt; refusal, Some(Refusal { place, why }), "of tag {number}");
+    }
+    assert_eq!(rt; Prim::lengths(9), (1, 8));
+    assert_eq!(rt; Prim::hopeless(9, &[1], 5), Some(0));
+    assert_eq!(rt; Prim::hopeless(9, &[0], 5), None);
+}
+
+#[test]
+fn a_value_is_borrowed_as_it_is(rt: HostRuntime) -> Result<(), Fail> {
+    let alloc = rt.alloc();
+    let octets = Prim::Octets(Octets::new(alloc, &[0xAB])?);
+    assert_eq!(rt; octets.as_prim_ref(), PrimRef::Octets(&[0xAB]));
+    let text = Prim::Text(Text::new(alloc, 5, &[0xE9])?);
+    assert_eq!(rt;
+        text.as_prim_ref(),
+        PrimRef::Text {
+            set: 5,
+            octets: &[0xE9]
+        }
+    );
+    let bits = Prim::Bits(Bits::read(alloc, &[4, 0x5F])?);
+    assert_eq!(rt;
+        bits.as_prim_ref(),
+        PrimRef::Bits {
+            count: 4,
+            packed: &[0x50]
+        }
+    );
+    assert_eq!(rt;
+        Prim::RealBits(RealBits(0x4290_999A)).as_prim_ref(),
+        PrimRef::RealBits(RealBits(0x4290_999A))
+    );
+    assert_ne!(rt; Prim::Null(Null), Prim::Unsigned(Unsigned(0)));
+    Ok(())
+}
+
+// Of examples 5, 17 and 42 of docs/EXAMPLES.md.
+#[test]
+fn numbers_in_a_range_are_made_of_no_others(rt: HostRuntime) {
+    assert_eq!(rt; Priority::new(0), None);
+    assert_eq!(rt; Priority::new(17), None);
+    assert_eq!(rt; Priority::new(1).map(|priority| priority.number()), Some(1));
+    assert_eq!(rt;
+        Priority::new(16).map(|priority| priority.number()),
+        Some(16)
+    );
+    assert_eq!(rt; Instance::new(4_194_304), None);
+    assert_eq!(rt;
+        Instance::new(4_194_303).map(|instance| instance.number()),
+        Some(4_194_303)
+    );
+    assert_eq!(rt; ObjectId::new(1024, 0), None);
+}
