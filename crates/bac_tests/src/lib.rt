@@ -7,6 +7,8 @@ mod data;
 #[cfg(test)]
 mod service;
 #[cfg(test)]
+mod sizes;
+#[cfg(test)]
 mod tag;
 #[cfg(test)]
 mod value;

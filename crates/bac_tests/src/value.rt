@@ -5,6 +5,7 @@ mod limits;
 mod memory;
 mod numbers;
 mod prim;
+mod sizes;
 mod strings;
 
 use bac_tag::{Refusal, Why};

@@ -1,0 +1,38 @@
+//! Octets of many lengths, for tests that a call takes them whole.
+
+use std::alloc::{AllocError, Global};
+
+/// How many items a long list has.
+pub const ITEMS: usize = 10_000;
+
+/// So many octets in no order that repeats, the same ones each time.
+pub fn mixed(alloc: Global, count: usize) -> Result<Vec<u8>, AllocError> {
+    let mut octets = Vec::with_capacity(alloc, count)?;
+    let mut state: u32 = 1;
+    for _ in 0..count {
+        state = state.wrapping_mul(1_664_525).wrapping_add(1_013_904_223);
+        let [first, ..] = state.to_be_bytes();
+        octets.push(first)?;
+    }
+    Ok(octets)
+}
+
+/// The pieces, one behind the other.
+pub fn joined(alloc: Global, pieces: &[&[u8]]) -> Result<Vec<u8>, AllocError> {
+    let mut octets = Vec::new(alloc);
+    for piece in pieces {
+        octets.extend_from_slice(piece)?;
+    }
+    Ok(octets)
+}
+
+/// For each number from 1,000 on the octets in front, the two of the number, and those behind: of a list of 10,000 items.
+pub fn numbered(alloc: Global, front: &[u8], behind: &[u8]) -> Result<Vec<u8>, AllocError> {
+    let mut octets = Vec::new(alloc);
+    for number in 1_000..11_000u16 {
+        octets.extend_from_slice(front)?;
+        octets.extend_from_slice(&number.to_be_bytes())?;
+        octets.extend_from_slice(behind)?;
+    }
+    Ok(octets)
+}
