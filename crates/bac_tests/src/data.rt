@@ -3,6 +3,7 @@
 mod building;
 mod marking;
 mod reading;
+mod sizes;
 mod writing;
 
 use bac_data::laws;

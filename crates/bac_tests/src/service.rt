@@ -10,6 +10,7 @@ mod read_property_multiple;
 mod read_property_multiple_ack;
 mod service_error;
 mod services;
+mod sizes;
 mod small_values;
 mod subscribe_cov;
 mod who_is;

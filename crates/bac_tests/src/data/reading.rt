@@ -134,6 +134,71 @@ fn sixteen_groups_nest(rt: HostRuntime) -> Result<(), Fail> {
     Ok(())
 }
 
+/// How many groups nest at most.
+const DEEPEST: usize = 16;
+
+/// The octets inside so many groups of a value.
+fn inside(alloc: Global, groups: usize, octets: &[u8]) -> Result<Vec<u8>, OutOfMemory> {
+    let mut all = vec![in alloc; 0x3E]?;
+    for _ in 0..groups {
+        all.push(0x0E)?;
+    }
+    all.extend_from_slice(octets)?;
+    Ok(all)
+}
+
+// Of examples 14, 43, 44 and 68 of docs/EXAMPLES.md: where no group more may begin, other octets are refused as they are
+// anywhere else.
+#[test]
+fn in_the_deepest_group_the_reason_is_that_of_the_octet(rt: HostRuntime) -> Result<(), Fail> {
+    let alloc = rt.alloc();
+    let table: [(&[u8], usize, Why); 14] = [
+        (&[0x0E], 0, Why::Depth),
+        (&[0x1E, 0x1F], 0, Why::Depth),
+        (&[0xFE], 0, Why::Depth),
+        (&[0xFE, 0], 0, Why::Depth),
+        (&[0xF9], 1, Why::Short),
+        (&[0xF9, 0xFF], 1, Why::Tag),
+        (&[0x2F], 0, Why::Tag),
+        (&[0xFF, 2], 1, Why::Tag),
+        (&[0xD1], 0, Why::Tag),
+        (&[0x12], 0, Why::Length),
+        (&[0x26], 0, Why::Length),
+        (&[0x0D, 0xFF, 0, 0x10, 0, 1], 5, Why::Length),
+        (&[0x0D, 0xFF, 0xFF, 0xFF, 0xFF, 0xFF], 2, Why::Length),
+        (&[0x81, 3], 1, Why::Content),
+    ];
+    for (octets, place, why) in table {
+        let octets = inside(alloc, DEEPEST, octets)?;
+        refuses(&rt, alloc, &octets, 1 + DEEPEST + place, why);
+    }
+    Ok(())
+}
+
+// Clause 20.2.1.3.2: an opening tag has context class and LVT 6.
+#[test]
+fn depth_is_told_of_opening_tags_alone(rt: HostRuntime) -> Result<(), Fail> {
+    let alloc = rt.alloc();
+    for first in 0..=255u8 {
+        let octets = inside(alloc, DEEPEST, &[first])?;
+        match read(&rt, alloc, &octets) {
+            Ok(_) => assert!(rt; false, "{first}"),
+            Err(refusal) if first & 0x0F == 0x0E => {
+                let place = 1 + DEEPEST;
+                let why = Why::Depth;
+                assert_eq!(rt; refusal, Refusal { place, why }, "{first}");
+            }
+            Err(refusal) => assert_ne!(rt; refusal.why, Why::Depth, "{first}"),
+        }
+        let octets = inside(alloc, DEEPEST - 1, &[first])?;
+        match read(&rt, alloc, &octets) {
+            Ok(_) => assert!(rt; false, "{first}"),
+            Err(refusal) => assert_ne!(rt; refusal.why, Why::Depth, "{first}"),
+        }
+    }
+    Ok(())
+}
+
 // Example 43 of docs/EXAMPLES.md: a front is read.
 #[test]
 fn what_stands_behind_the_value_is_left(rt: HostRuntime) -> Result<(), Fail> {

@@ -1,0 +1,314 @@
+//! Services of many octets and of long lists are decoded and encoded whole: no clause says that memory is there.
+
+use super::object;
+use crate::sizes::{ITEMS, joined, mixed, numbered};
+use bac_data::{Any, Event};
+use bac_service::{
+    ErrorCause, Kind, Opaque, PropertyValue, ReadAccessResult, ReadResult, Service, decode_service,
+    decode_service_marked, encode_service,
+};
+use bac_value::{Enumerated, ObjectId, PrimRef, Priority, Unsigned};
+use std::alloc::Global;
+use std::process::Abort;
+use std::test::Fail;
+
+/// Numbers of octets of contents, and the octets of a head that tell them (clause 20.2.1.3.1).
+const SIZES: [(usize, &[u8]); 3] = [
+    (1_497, &[0xFE, 5, 0xD9]),
+    (65_535, &[0xFE, 0xFF, 0xFF]),
+    (1_048_576, &[0xFF, 0, 0x10, 0, 0]),
+];
+
+/// The numbers of the items of a long list.
+const NUMBERS: std::ops::Range<u16> = 1_000..11_000;
+
+/// The service of canonical octets. Each way of decoding gives one that is encoded as they are.
+fn kept(
+    rt: &impl Abort,
+    alloc: Global,
+    service: (Kind, u8),
+    octets: &[u8],
+) -> Result<Service, Fail> {
+    let (kind, choice) = service;
+    let (marked, mark) = decode_service_marked(alloc, kind, choice, octets)?;
+    assert_eq!(rt; mark, None);
+    assert!(rt; encode_service(alloc, &marked)?.as_slice() == octets);
+    let found = decode_service(alloc, kind, choice, octets)?;
+    assert_eq!(rt; (found.kind(), found.choice()), service);
+    assert!(rt; encode_service(alloc, &found)?.as_slice() == octets);
+    Ok(found)
+}
+
+/// The value is one application primitive.
+fn is_primitive(rt: &impl Abort, value: &Any, wanted: PrimRef<'_>) {
+    assert_eq!(rt; value.count(), 1);
+    for event in value.events() {
+        assert!(rt; event == Event::App(wanted));
+    }
+}
+
+/// The value is a number.
+fn is_number(rt: &impl Abort, value: &Any, number: u16) {
+    let wanted = PrimRef::Unsigned(Unsigned(u64::from(number)));
+    is_primitive(rt, value, wanted);
+}
+
+// Of examples 32 and 49 of docs/EXAMPLES.md.
+#[test]
+fn opaque_octets_of_every_size_are_kept(rt: HostRuntime) -> Result<(), Fail> {
+    let alloc = rt.alloc();
+    let service = (Kind::Confirmed, 17);
+    for (size, _) in SIZES {
+        let octets = mixed(alloc, size)?;
+        let made = Opaque::new(alloc, Kind::Confirmed, 17, &octets)?;
+        assert_eq!(rt; (made.kind(), made.choice()), service);
+        assert!(rt; made.octets() == octets.as_slice(), "{size} octets");
+        assert!(rt;
+            encode_service(alloc, &Service::Opaque(made))? == octets,
+            "{size} octets"
+        );
+        match kept(&rt, alloc, service, &octets)? {
+            Service::Opaque(found) => {
+                assert_eq!(rt; (found.kind(), found.choice()), service);
+                assert!(rt; found.octets() == octets.as_slice(), "{size} octets");
+            }
+            _ => panic!(rt; "{size} octets are not opaque"),
+        }
+    }
+    Ok(())
+}
+
+// The value of example 4 of docs/EXAMPLES.md is an octet string.
+#[test]
+fn values_of_every_size_are_kept_in_an_answer(rt: HostRuntime) -> Result<(), Fail> {
+    let alloc = rt.alloc();
+    let property = [0x0C, 0, 0, 0, 5, 0x19, 0x55];
+    for (size, length) in SIZES {
+        let contents = mixed(alloc, size)?;
+        let octets = joined(
+            alloc,
+            &[&property, &[0x3E, 0x65], length, &contents, &[0x3F]],
+        )?;
+        match kept(&rt, alloc, (Kind::ComplexAck, 12), &octets)? {
+            Service::ReadPropertyAck(ack) => {
+                assert_eq!(rt; (ack.object, ack.property), (object(0, 5)?, Enumerated(85)));
+                assert_eq!(rt; ack.index, None);
+                is_primitive(&rt, &ack.value, PrimRef::Octets(&contents));
+            }
+            _ => panic!(rt; "no answer of {size} octets"),
+        }
+    }
+    Ok(())
+}
+
+#[test]
+fn values_of_every_size_are_kept_in_a_request(rt: HostRuntime) -> Result<(), Fail> {
+    let alloc = rt.alloc();
+    let property = [0x0C, 0, 0, 0, 5, 0x19, 0x55];
+    for (size, length) in SIZES {
+        let contents = mixed(alloc, size)?;
+        let behind = [0x3F, 0x49, 8];
+        let octets = joined(
+            alloc,
+            &[&property, &[0x3E, 0x65], length, &contents, &behind],
+        )?;
+        match kept(&rt, alloc, (Kind::Confirmed, 15), &octets)? {
+            Service::WriteProperty(request) => {
+                assert_eq!(rt;
+                    (request.object, request.property),
+                    (object(0, 5)?, Enumerated(85))
+                );
+                assert_eq!(rt; (request.index, request.priority), (None, Priority::new(8)));
+                is_primitive(&rt, &request.value, PrimRef::Octets(&contents));
+            }
+            _ => panic!(rt; "no request of {size} octets"),
+        }
+    }
+    Ok(())
+}
+
+/// The object 0:N and its property 85, for each number N.
+#[test]
+fn ten_thousand_objects_are_asked_for(rt: HostRuntime) -> Result<(), Fail> {
+    let alloc = rt.alloc();
+    let octets = numbered(alloc, &[0x0C, 0, 0], &[0x1E, 9, 0x55, 0x1F])?;
+    match kept(&rt, alloc, (Kind::Confirmed, 14), &octets)? {
+        Service::ReadPropertyMultiple(request) => {
+            assert_eq!(rt; request.specs.len(), ITEMS);
+            for (spec, number) in request.specs.iter().zip(NUMBERS) {
+                assert_eq!(rt; spec.object, object(0, u32::from(number))?);
+                let [reference] = spec.properties.as_slice() else {
+                    panic!(rt; "{spec:?}")
+                };
+                assert_eq!(rt;
+                    (reference.property, reference.index),
+                    (Enumerated(85), None)
+                );
+            }
+        }
+        _ => panic!(rt; "no request"),
+    }
+    Ok(())
+}
+
+/// The property N of one object, for each number N.
+#[test]
+fn ten_thousand_properties_are_asked_for(rt: HostRuntime) -> Result<(), Fail> {
+    let alloc = rt.alloc();
+    let references = numbered(alloc, &[0x0A], &[])?;
+    let octets = joined(alloc, &[&[0x0C, 0, 0, 0, 5, 0x1E], &references, &[0x1F]])?;
+    match kept(&rt, alloc, (Kind::Confirmed, 14), &octets)? {
+        Service::ReadPropertyMultiple(request) => {
+            let [spec] = request.specs.as_slice() else {
+                panic!(rt; "no list of one")
+            };
+            assert_eq!(rt; spec.object, object(0, 5)?);
+            assert_eq!(rt; spec.properties.len(), ITEMS);
+            for (reference, number) in spec.properties.iter().zip(NUMBERS) {
+                let wanted = (Enumerated(u32::from(number)), None);
+                assert_eq!(rt; (reference.property, reference.index), wanted);
+            }
+        }
+        _ => panic!(rt; "no request"),
+    }
+    Ok(())
+}
+
+/// The object has one result: of its property 85 this error.
+fn tells_error(rt: &impl Abort, told: &ReadAccessResult, wanted: ObjectId) {
+    assert_eq!(rt; told.object, wanted);
+    let Some(results) = &told.results else {
+        panic!(rt; "{told:?}")
+    };
+    let [result] = results.as_slice() else {
+        panic!(rt; "{told:?}")
+    };
+    assert_eq!(rt; (result.property, result.index), (Enumerated(85), None));
+    let (class, code) = (Enumerated(2), Enumerated(32));
+    match &result.result {
+        ReadResult::Error(cause) => assert_eq!(rt; *cause, ErrorCause { class, code }),
+        ReadResult::Value(_) => panic!(rt; "{told:?}"),
+    }
+}
+
+/// The object 0:N and the error of its property 85, for each number N.
+#[test]
+fn ten_thousand_objects_are_answered(rt: HostRuntime) -> Result<(), Fail> {
+    let alloc = rt.alloc();
+    let behind = [0x1E, 0x29, 0x55, 0x5E, 0x91, 2, 0x91, 0x20, 0x5F, 0x1F];
+    let octets = numbered(alloc, &[0x0C, 0, 0], &behind)?;
+    match kept(&rt, alloc, (Kind::ComplexAck, 14), &octets)? {
+        Service::ReadPropertyMultipleAck(ack) => {
+            assert_eq!(rt; ack.results.len(), ITEMS);
+            for (told, number) in ack.results.iter().zip(NUMBERS) {
+                tells_error(&rt, told, object(0, u32::from(number))?);
+            }
+        }
+        _ => panic!(rt; "no answer"),
+    }
+    Ok(())
+}
+
+/// The value N of the property 85 of one object, for each number N.
+#[test]
+fn ten_thousand_results_are_told(rt: HostRuntime) -> Result<(), Fail> {
+    let alloc = rt.alloc();
+    let results = numbered(alloc, &[0x29, 0x55, 0x4E, 0x22], &[0x4F])?;
+    let octets = joined(alloc, &[&[0x0C, 0, 0, 0, 5, 0x1E], &results, &[0x1F]])?;
+    match kept(&rt, alloc, (Kind::ComplexAck, 14), &octets)? {
+        Service::ReadPropertyMultipleAck(ack) => {
+            let [told] = ack.results.as_slice() else {
+                panic!(rt; "no list of one")
+            };
+            assert_eq!(rt; told.object, object(0, 5)?);
+            let Some(results) = &told.results else {
+                panic!(rt; "no results")
+            };
+            assert_eq!(rt; results.len(), ITEMS);
+            for (result, number) in results.iter().zip(NUMBERS) {
+                assert_eq!(rt; (result.property, result.index), (Enumerated(85), None));
+                match &result.result {
+                    ReadResult::Value(value) => is_number(&rt, value, number),
+                    ReadResult::Error(cause) => panic!(rt; "{cause:?}"),
+                }
+            }
+        }
+        _ => panic!(rt; "no answer"),
+    }
+    Ok(())
+}
+
+/// The values are those of the property 85, one for each number, without priorities.
+fn are_numbered(rt: &impl Abort, values: &[PropertyValue]) {
+    assert_eq!(rt; values.len(), ITEMS);
+    for (value, number) in values.iter().zip(NUMBERS) {
+        assert_eq!(rt; (value.property, value.index), (Enumerated(85), None));
+        assert_eq!(rt; value.priority, None);
+        is_number(rt, &value.value, number);
+    }
+}
+
+// Of example 20 of docs/EXAMPLES.md, with more values.
+#[test]
+fn ten_thousand_values_are_told(rt: HostRuntime) -> Result<(), Fail> {
+    let alloc = rt.alloc();
+    let front = [
+        9, 0x12, 0x1C, 2, 0, 0, 4, 0x2C, 0, 0, 0, 0x0A, 0x39, 0, 0x4E,
+    ];
+    let values = numbered(alloc, &[9, 0x55, 0x2E, 0x22], &[0x2F])?;
+    let octets = joined(alloc, &[&front, &values, &[0x4F]])?;
+    for service in [(Kind::Confirmed, 1), (Kind::Unconfirmed, 2)] {
+        match kept(&rt, alloc, service, &octets)? {
+            Service::CovNotification(notification) => {
+                assert_eq!(rt; notification.object, object(0, 10)?);
+                are_numbered(&rt, notification.values.as_slice());
+            }
+            _ => panic!(rt; "no notification"),
+        }
+    }
+    Ok(())
+}
+
+// Of example 74 of docs/EXAMPLES.md, with more values.
+#[test]
+fn ten_thousand_values_are_written(rt: HostRuntime) -> Result<(), Fail> {
+    let alloc = rt.alloc();
+    let service = (Kind::Confirmed, 16);
+    let values = numbered(alloc, &[9, 0x55, 0x2E, 0x22], &[0x2F])?;
+    let octets = joined(alloc, &[&[0x0C, 0, 0x40, 0, 1, 0x1E], &values, &[0x1F]])?;
+    match kept(&rt, alloc, service, &octets)? {
+        Service::WritePropertyMultiple(request) => {
+            let [spec] = request.specs.as_slice() else {
+                panic!(rt; "no list of one")
+            };
+            assert_eq!(rt; spec.object, object(1, 1)?);
+            are_numbered(&rt, spec.values.as_slice());
+        }
+        _ => panic!(rt; "no request"),
+    }
+    Ok(())
+}
+
+/// The value 7 of the property 85 of the object 0:N, for each number N.
+#[test]
+fn values_of_ten_thousand_objects_are_written(rt: HostRuntime) -> Result<(), Fail> {
+    let alloc = rt.alloc();
+    let behind = [0x1E, 9, 0x55, 0x2E, 0x21, 7, 0x2F, 0x1F];
+    let octets = numbered(alloc, &[0x0C, 0, 0], &behind)?;
+    match kept(&rt, alloc, (Kind::Confirmed, 16), &octets)? {
+        Service::WritePropertyMultiple(request) => {
+            assert_eq!(rt; request.specs.len(), ITEMS);
+            for (spec, number) in request.specs.iter().zip(NUMBERS) {
+                assert_eq!(rt; spec.object, object(0, u32::from(number))?);
+                let [value] = spec.values.as_slice() else {
+                    panic!(rt; "{spec:?}")
+                };
+                assert_eq!(rt; (value.property, value.index), (Enumerated(85), None));
+                assert_eq!(rt; value.priority, None);
+                is_number(&rt, &value.value, 7);
+            }
+        }
+        _ => panic!(rt; "no request"),
+    }
+    Ok(())
+}
