@@ -5,9 +5,10 @@
 #   make bench   measures the program on a million records, and values and services of the library
 #   make memory  runs the library's tests and the program with each allocation refused in turn (by hand: it takes
 #                three quarters of an hour)
+#   make wrong-bodies  tries the wrong bodies that the gate leaves out (by hand: it takes an hour and more)
 #   make clean   removes what the others made
 
-.PHONY: build test check bench memory clean need-rt
+.PHONY: build test check bench memory wrong-bodies clean need-rt
 
 build: need-rt
 	@echo "bactool: proving and building it into bin/bactool (minutes the first time, seconds after that)"
@@ -30,6 +31,9 @@ bench: build
 
 memory: need-rt
 	@scripts/refuse-memory
+
+wrong-bodies: need-rt
+	@scripts/wrong-bodies
 
 clean:
 	@rm -rf bin crates/*/out
