@@ -19,5 +19,6 @@ pub mod HeaderLemmas
 pub mod FieldLemmas
 pub mod FrameLemmas
 pub mod Named
+pub mod Answering
 pub mod JudgingLemmas
 pub mod RecordLemmas

@@ -4,7 +4,7 @@ use Rattle.clap.specs.Words.{kind_of}
 use Rattle.clap.specs.declared.error.Error.{Error}
 use Rattle.clap.specs.declared.error.ErrorKind.TheVariants.{OutOfMemory}
 use Rattle.std.specs.Prelude.{find}
-use Rattle.clap.specs.Words.{Row, Shape, Text, built, is_simple, one_of, subcommand_of, takes}
+use Rattle.clap.specs.Words.{App, Row, Shape, Text, built, fault_of, is_simple, is_simple_and_free, one_of, subcommand_of, takes}
 use Rattle.clap.specs.Simple.{entered, names_of, argument_words, label_of}
 use Rattle.clap.specs.Walk.{rows_after, stop_after, answers_to}
 use Rattle.clap.proofs.OnLiterals.{clap_on_literals}
@@ -18,6 +18,14 @@ use Rattle.bac_tool.specs.declared.modes.Mode.TheVariants.{Tolerant, Strict}
 pub is_simple_program : is_simple bactool ≡ true
 unfolding clap_on_literals
 is_simple_program = refl
+
+is_free_program : is_simple_and_free bactool ≡ true
+unfolding clap_on_literals
+is_free_program = refl
+
+-- A parse that succeeds is one of words without a fault.
+pub faultless : (command : App) (words : List Text) → command ≡ bactool → (is_simple_and_free command ≡ true → fault_of command words ≡ []) → fault_of bactool words ≡ []
+faultless command words is kinds = ap (λ (a : App). fault_of a words) (sym is) ∙ kinds (ap is_simple_and_free is ∙ is_free_program)
 
 -- a name and rows that are read apart come from one subcommand
 pub read_apart : {X : Type 0} (s : Option X) (name : X → Text) (rows : X → List Row) (n : Text) (r : List Row)

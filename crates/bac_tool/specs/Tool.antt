@@ -1,10 +1,15 @@
 -- What the program does with its words, its input and its output.
-use Rattle.std.specs.Prelude.{◌≡◌, ◌⊎◌, ℕ, Bool, true, List, Option, Result, Ok, Err, nat_eq, if◌then◌else◌}
-use Rattle.clap.specs.Words.{Row, Text}
+use Rattle.std.specs.Prelude.{◌≡◌, ◌⊎◌, ℕ, Bool, true, List, Option, Result, Ok, Err, MatchResult, codes, nat_eq, if◌then◌else◌}
+use Rattle.std.specs.Io.KnownBytes.{Appends}
+use Rattle.clap.specs.Words.{IsAmong, Kinds, Row, Text}
+use Rattle.clap.specs.declared.error.ErrorKind.{ErrorKind}
+use Rattle.clap.specs.declared.error.ErrorKind.TheVariants.{DisplayHelp, OutOfMemory}
 use Rattle.bac_tool.specs.CommandLine.{NamesJob}
 use Rattle.bac_tool.specs.Judging.{IsCanonical, IsRefused, Refuses}
 use Rattle.bac_tool.specs.Lines.{ShowsAs, ChecksAs, NormalisesTo}
-use Rattle.bac_tool.specs.Runs.{RanThrough, Stopped}
+use Rattle.bac_tool.specs.Devices.{HasRisen}
+use Rattle.bac_tool.specs.Runs.{RanThrough, RunCounts, Stopped}
+use Rattle.bac_tool.specs.Transfers.{TakesFront}
 use Rattle.bac_tool.specs.declared.command_line.Job.{Job}
 use Rattle.bac_tool.specs.declared.command_line.Job.TheVariants.{Show, Check, Normalise}
 use Rattle.bac_tool.specs.declared.faults.RunFault.{RunFault}
@@ -26,17 +31,61 @@ status_of (Ok summary) = if nat_eq summary.refused 0 then 0 else 1
 status_of (Err (Frame at refusal)) = 1
 status_of (Err (Stream at fault)) = 2
 
+-- what is known of an input: the octets that it will give, and how often it has failed
+pub record Source : Type 0 where
+  pub left : Option (List ℕ)
+  pub failures : ℕ
+
+-- what is known of an output: the octets that it has taken, and how often it has failed
+pub record Sink : Type 0 where
+  pub taken : Option (List ℕ)
+  pub failures : ℕ
+
 -- The job that the words name was run, and the status is that of its answer.
-pub record HasRun (named : Option (Text × List Row)) (left left' taken taken' : Option (List ℕ)) (status : ℕ) : Type 0 where
+pub record HasRun (named : Option (Text × List Row)) (input input' : Source) (output output' : Sink) (status : ℕ) : Type 0 where
   pub job : Job
   pub answer : Result Summary RunFault
   pub names : NamesJob named job
-  pub runs : RunsAs job left left' taken taken' answer
+  pub runs : RunsAs job input.left input'.left output.taken output'.taken answer
+  pub counted : MatchResult answer (λ _. (input'.failures ≡ input.failures) × (output'.failures ≡ output.failures))
+      (RunCounts input.failures input'.failures output.failures output'.failures)
   pub status_is : status ≡ status_of answer
 
--- No job was run: nothing was read, and the words were answered by a text. For words that the command line takes
--- this is want of memory alone: nothing was written, and the status is 2.
-pub record HasNotRun (takes : Bool) (left left' taken taken' : Option (List ℕ)) (status : ℕ) : Type 0 where
-  pub unread : left' ≡ left
-  pub status_is : (status ≡ 0) ⊎ (status ≡ 2)
-  pub memory : takes ≡ true → (status ≡ 2) × (taken' ≡ taken)
+-- the line that tells want of memory
+abbrev pub out_of_memory : List ℕ
+out_of_memory = codes "bactool: out of memory\n"
+
+-- A part of the octets, which is not all of them, was taken, and the output failed.
+abbrev pub TakesPart : Sink → Sink → List ℕ → Type 0
+TakesPart old new octets = (count : ℕ) × TakesFront old.taken new.taken octets count × HasRisen old.failures new.failures
+
+-- The octets were taken, all of them or, where the output failed, a part.
+abbrev pub Receives : Sink → Sink → List ℕ → Type 0
+Receives old new octets = (Appends old.taken new.taken octets × (new.failures ≡ old.failures)) ⊎ TakesPart old new octets
+
+-- Nothing was written to the output, and the errors took this text. That is failure.
+pub record Tells (output output' errors errors' : Sink) (text : List ℕ) (status : ℕ) : Type 0 where
+  pub unwritten : output' ≡ output
+  pub told : Receives errors errors' text
+  pub status_is : status ≡ 2
+
+-- A text went to the output: the status is 0 where the output took it whole.
+abbrev pub Writes : Sink → Sink → ℕ → Type 0
+Writes output output' status = (text : List ℕ) ×
+    ((Appends output.taken output'.taken text × (output'.failures ≡ output.failures) × (status ≡ 0)) ⊎ (TakesPart output output' text × (status ≡ 2)))
+
+-- How words that name no job are answered: want of memory by its line on the errors, help by a text on the output, and a
+-- mistake by a text on the errors. Memory may be wanted for either text too.
+abbrev pub Answers : ErrorKind → Sink → Sink → Sink → Sink → ℕ → Type 0
+Answers OutOfMemory output output' errors errors' status = Tells output output' errors errors' out_of_memory status
+Answers DisplayHelp output output' errors errors' status = Tells output output' errors errors' out_of_memory status ⊎ Writes output output' status
+Answers _ output output' errors errors' status = (text : List ℕ) × Tells output output' errors errors' text status
+
+-- No job was run, and nothing was read: memory was wanted, or the words have a fault, of which they are told. Words that the
+-- command line takes have none.
+pub record HasNotRun (takes : Bool) (faults : Kinds) (input input' : Source) (output output' errors errors' : Sink) (status : ℕ) : Type 0 where
+  pub kind : ErrorKind
+  pub is_fault : (kind ≡ OutOfMemory) ⊎ IsAmong kind faults
+  pub memory : takes ≡ true → kind ≡ OutOfMemory
+  pub unread : input' ≡ input
+  pub answered : Answers kind output output' errors errors' status

@@ -1,9 +1,10 @@
 //! The program over any reader and writers.
 
-ghost use Rattle.std.specs.Prelude.{◌≡◌, ◌⊎◌, map};
-ghost use Rattle.clap.specs.Words.{kind_of, subcommand_of, takes};
+ghost use Rattle.std.specs.Prelude.{◌≡◌, ◌⊎◌, MatchResult, map};
+ghost use Rattle.clap.specs.Words.{fault_of, kind_of, subcommand_of, takes};
 ghost use Rattle.bac_tool.specs.CommandLine.{bactool};
-ghost use Rattle.bac_tool.specs.Tool.{RunsAs, status_of as status_of_answer, HasRun, HasNotRun};
+ghost use Rattle.bac_tool.specs.Runs.{RunCounts};
+ghost use Rattle.bac_tool.specs.Tool.{Answers, HasNotRun, HasRun, Receives, RunsAs, status_of as status_of_answer};
 
 use crate::transfers::write_whole;
 use crate::{
@@ -24,8 +25,8 @@ const REFUSED: u8 = 1;
 /// The words, a device, the framing or memory.
 const FAILED: u8 = 2;
 
-/// What is said where memory is refused.
-const OUT_OF_MEMORY: &str = "out of memory";
+/// The line that tells want of memory. It is ready, since there may be no memory to make it.
+const OUT_OF_MEMORY: &[u8] = b"bactool: out of memory\n";
 
 /// The longest line on standard error, with room to spare.
 const LINE: usize = 128;
@@ -38,30 +39,41 @@ pub(crate) fn tell<E: Output, T: Display>(what: &T, errors: &mut E) {
     }
 }
 
-/// Writes the text that answers words which name no job: help on the output, a mistake on the errors.
-fn tell_words<W: Output, E: Output>(
+/// Writes a text, or as much of it as the errors take.
+fn tell_text<E: Output>(text: &[u8], errors: &mut E)
+    ensures { Receives (record { taken = E.taken errors.old; failures = E.failures errors.old }) (record { taken = E.taken errors.new; failures = E.failures errors.new }) text.now }
+{
+    let _ = write_whole(errors, text);
+}
+
+/// Answers words that name no job, and gives the status: help goes to the output, a mistake to the errors.
+fn answer_words<W: Output, E: Output>(
     alloc: Global,
     error: &Error,
     output: &mut W,
     errors: &mut E,
 ) -> u8
-    ensures status { (result ≡ 0) ⊎ (result ≡ 2) }
-    ensures memory { kind_of error.now ≡ ErrorKind.OutOfMemory → (result ≡ 2) × (W.taken output.new ≡ W.taken output.old) }
+    ensures { Answers (kind_of error.now)
+        (record { taken = W.taken output.old; failures = W.failures output.old }) (record { taken = W.taken output.new; failures = W.failures output.new })
+        (record { taken = E.taken errors.old; failures = E.failures errors.old }) (record { taken = E.taken errors.new; failures = E.failures errors.new }) result }
 {
     let text = match format!(in alloc; "{error}") {
         Ok(text) if error.kind() != ErrorKind::OutOfMemory => text,
         _ => {
-            tell(&OUT_OF_MEMORY, errors);
+            tell_text(OUT_OF_MEMORY, errors);
             return FAILED;
         }
     };
-    if error.use_stderr() {
-        let _ = write_whole(errors, text.as_bytes());
+    if error.kind() != ErrorKind::DisplayHelp {
+        tell_text(text.as_bytes(), errors);
         return FAILED;
     }
     match write_whole(output, text.as_bytes()) {
         Ok(()) => WELL,
-        Err(_) => FAILED,
+        Err(count) => {
+            tell(&StreamFault::WriteFault(count as u128), errors);
+            FAILED
+        }
     }
 }
 
@@ -85,7 +97,10 @@ fn run_job<R: Input, W: Output>(
     input: &mut R,
     output: &mut W,
 ) -> Result<Summary, RunFault>
-    ensures { RunsAs job (R.left input.old) (R.left input.new) (W.taken output.old) (W.taken output.new) result }
+    ensures ran { RunsAs job (R.left input.old) (R.left input.new) (W.taken output.old) (W.taken output.new) result }
+    ensures counted { MatchResult result
+        (λ _. (R.failures input.new ≡ R.failures input.old) × (W.failures output.new ≡ W.failures output.old))
+        (RunCounts (R.failures input.old) (R.failures input.new) (W.failures output.old) (W.failures output.new)) }
 {
     match job {
         Job::Show(mode) => run_show(alloc, mode, input, output),
@@ -116,13 +131,16 @@ pub fn run_tool<R: Input, W: Output, E: Output>(
     errors: &mut E,
 ) -> u8
     ensures { HasRun (subcommand_of bactool (map (λ word. word.now) words.entry.now))
-        (R.left input.old) (R.left input.new) (W.taken output.old) (W.taken output.new) result
-        ⊎ HasNotRun (takes bactool (map (λ word. word.now) words.entry.now))
-        (R.left input.old) (R.left input.new) (W.taken output.old) (W.taken output.new) result }
+        (record { left = R.left input.old; failures = R.failures input.old }) (record { left = R.left input.new; failures = R.failures input.new })
+        (record { taken = W.taken output.old; failures = W.failures output.old }) (record { taken = W.taken output.new; failures = W.failures output.new }) result
+        ⊎ HasNotRun (takes bactool (map (λ word. word.now) words.entry.now)) (fault_of bactool (map (λ word. word.now) words.entry.now))
+        (record { left = R.left input.old; failures = R.failures input.old }) (record { left = R.left input.new; failures = R.failures input.new })
+        (record { taken = W.taken output.old; failures = W.failures output.old }) (record { taken = W.taken output.new; failures = W.failures output.new })
+        (record { taken = E.taken errors.old; failures = E.failures errors.old }) (record { taken = E.taken errors.new; failures = E.failures errors.new }) result }
 {
     let job = match job(alloc, words) {
         Ok(job) => job,
-        Err(error) => return tell_words(alloc, &error, output, errors),
+        Err(error) => return answer_words(alloc, &error, output, errors),
     };
     let answer = run_job(alloc, job, input, output);
     if let Err(fault) = &answer {

@@ -250,37 +250,122 @@ fn zeros_without_end_are_left(rt: HostRuntime) -> Result<(), Fail> {
     Ok(())
 }
 
+// F2 is tolerated and not canonical, so what is written of it tells the command and the mode.
+#[test]
+fn words_that_are_taken_are_run(rt: HostRuntime) -> Result<(), Fail> {
+    let file = file_of(rt.alloc(), &[F2])?;
+    let record = file_of(rt.alloc(), &[F1])?;
+    let shown =
+        b"1 prio=0 reply=1 conf id=1 sa=0 segs=0 resp=5 ReadProperty object=0:5 property=85\n".as_slice();
+    let refused = b"1 refused NotCanonical at 1\n".as_slice();
+    let checked = b"1 tolerated at 1\n".as_slice();
+    let said = "bactool: record 1: refused NotCanonical at 1\n";
+    for (words, ends) in [
+        (["bactool", "show"].as_slice(), (0, shown, "")),
+        (&["bactool", "show", "--strict"], (1, refused, "")),
+        (&["bactool", "show", "--"], (0, shown, "")),
+        (&["bactool", "show", "--strict", "--"], (1, refused, "")),
+        (&["bactool", "check"], (0, checked, "")),
+        (&["bactool", "check", "--strict"], (1, refused, "")),
+        (&["bactool", "check", "--"], (0, checked, "")),
+        (&["bactool", "normalise"], (0, record.as_slice(), "")),
+        (&["bactool", "normalise", "--strict"], (1, b"", said)),
+        (&["bactool", "normalise", "--"], (0, record.as_slice(), "")),
+        (&["another name", "check"], (0, checked, "")),
+    ] {
+        runs(&rt, rt.alloc(), words, &file, ends);
+    }
+    Ok(())
+}
+
 // Which texts answer other words is not fixed; where they go and the statuses are.
 #[test]
 fn other_words_are_answered(rt: HostRuntime) -> Result<(), Fail> {
     for words in [
-        ["bactool"].as_slice(),
+        [].as_slice(),
+        &["bactool"],
+        &["bactool", ""],
         &["bactool", "pack"],
+        &["bactool", "help"],
+        &["bactool", "--strict"],
+        &["bactool", "--strict", "show"],
+        &["bactool", "--version"],
+        &["bactool", "--", "show"],
         &["bactool", "show", "--lenient"],
+        &["bactool", "show", "-s"],
+        &["bactool", "show", "--strict=true"],
+        &["bactool", "show", "--strict", "--strict"],
+        &["bactool", "show", "check"],
+        &["bactool", "show", "--", "--strict"],
     ] {
+        let mut input = Counted::new([0, 0].as_slice());
         let mut taken = Counted::new(Vec::new(rt.alloc()));
-        let (status, said) = told(
-            rt.alloc(),
-            words,
-            &mut Counted::new([].as_slice()),
-            &mut taken,
-        );
+        let (status, said) = told(rt.alloc(), words, &mut input, &mut taken);
         assert_eq!(rt;
-            (status, said.is_empty(), taken.device.len()),
-            (2, false, 0)
+            (status, taken.device.len(), input.device.len()),
+            (2, 0, 2),
+            "{words:?}"
+        );
+        assert!(rt;
+            !said.is_empty() && !said.starts_with(b"bactool: out of memory"),
+            "{words:?}"
+        );
+
+        let room = said.len() / 2;
+        let mut errors = Drain {
+            taken: Vec::new(rt.alloc()),
+            room,
+            failures: 0,
+        };
+        let status = run_tool(rt.alloc(), words, &mut input, &mut taken, &mut errors);
+        assert_eq!(rt;
+            (status, errors.taken.as_slice()),
+            (2, &said[..room]),
+            "{words:?}"
         );
     }
-    let mut taken = Counted::new(Vec::new(rt.alloc()));
-    let words = ["bactool", "--help"];
-    let (status, said) = told(
-        rt.alloc(),
-        &words,
-        &mut Counted::new([].as_slice()),
-        &mut taken,
-    );
-    assert_eq!(rt;
-        (status, said.len(), taken.device.is_empty()),
-        (0, 0, false)
-    );
+    Ok(())
+}
+
+// A text that the output does not take whole is told as a write fault is.
+#[test]
+fn help_is_written(rt: HostRuntime) -> Result<(), Fail> {
+    for words in [
+        ["bactool", "--help"].as_slice(),
+        &["bactool", "-h"],
+        &["bactool", "show", "--help"],
+        &["bactool", "normalise", "-h"],
+        &["bactool", "check", "--strict", "--help"],
+    ] {
+        let mut input = Counted::new([0, 0].as_slice());
+        let mut taken = Counted::new(Vec::new(rt.alloc()));
+        let (status, said) = told(rt.alloc(), words, &mut input, &mut taken);
+        let text = taken.device;
+        assert_eq!(rt;
+            (status, said.len(), input.device.len()),
+            (0, 0, 2),
+            "{words:?}"
+        );
+        assert!(rt;
+            text.starts_with(b"Shows") || text.starts_with(b"Write"),
+            "{words:?}"
+        );
+
+        for room in [0, 1, text.len() - 1] {
+            let mut drain = Drain {
+                taken: Vec::new(rt.alloc()),
+                room,
+                failures: 0,
+            };
+            let (status, said) = told(rt.alloc(), words, &mut input, &mut drain);
+            let want = format!(in rt.alloc(); "bactool: write fault after {room} octets\n")?;
+            assert_eq!(rt; said.as_slice(), want.as_bytes(), "{words:?}");
+            assert_eq!(rt;
+                (status, drain.taken.as_slice()),
+                (2, &text[..room]),
+                "{words:?}"
+            );
+        }
+    }
     Ok(())
 }

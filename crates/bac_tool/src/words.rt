@@ -1,8 +1,8 @@
 //! What the words of the command line ask for.
 
-ghost use Rattle.std.specs.Prelude.{◌≡◌, IfOk, IfErr, MatchResult, map, true, false, codes};
+ghost use Rattle.std.specs.Prelude.{◌≡◌, IfOk, IfErr, MatchResult, [], map, true, false, codes};
 ghost use Rattle.std.specs.List.{AllByRecursion};
-ghost use Rattle.clap.specs.Words.{app_of, rule_of, subcommand_of, takes, kind_of, one_text, found_of};
+ghost use Rattle.clap.specs.Words.{app_of, rule_of, subcommand_of, takes, fault_of, HasKind, kind_of, one_text, found_of};
 ghost use Rattle.clap.specs.declared.builder.command.Command.{out-Command as fields_of};
 ghost use Rattle.bac_tool.specs.CommandLine.{bactool, strict, moded, bare, NamesJob, HasMode, word_lists};
 
@@ -84,6 +84,8 @@ fn mode_of(matches: &ArgMatches) -> Mode
 fn named_job<'a>(alloc: Global, words: &'a [&'a str]) -> Result<Job, Error>
     ensures named { IfOk result (NamesJob (subcommand_of bactool (map (λ word. word.now) words.entry.now))) }
     ensures taken { IfErr result (λ error. takes bactool (map (λ word. word.now) words.entry.now) ≡ true → kind_of error ≡ ErrorKind.OutOfMemory) }
+    ensures faultless { IfOk result (λ _. fault_of bactool (map (λ word. word.now) words.entry.now) ≡ []) }
+    ensures kinds { IfErr result (HasKind (fault_of bactool (map (λ word. word.now) words.entry.now))) }
 {
     let matches = command(alloc)?.try_get_matches_from(words)?;
     let Some((name, matches)) = matches.subcommand() else {
@@ -103,10 +105,12 @@ fn named_job<'a>(alloc: Global, words: &'a [&'a str]) -> Result<Job, Error>
 ///
 /// # Errors
 /// What the command line's own rules refuse, with a text for the user (also where help is asked for), and want
-/// of memory.
+/// of memory. Where the words break none of these rules it is want of memory alone.
 pub fn job<'a>(alloc: Global, words: &'a [&'a str]) -> Result<Job, Error>
     ensures named { IfOk result (NamesJob (subcommand_of bactool (map (λ word. word.now) words.entry.now))) }
     ensures taken { IfErr result (λ error. takes bactool (map (λ word. word.now) words.entry.now) ≡ true → kind_of error ≡ ErrorKind.OutOfMemory) }
+    ensures faultless { IfOk result (λ _. fault_of bactool (map (λ word. word.now) words.entry.now) ≡ []) }
+    ensures kinds { IfErr result (HasKind (fault_of bactool (map (λ word. word.now) words.entry.now))) }
     ensures accepted { AllByRecursion (λ entry. map (λ word. word.now) words.entry.now ≡ entry.0
         → MatchResult result (λ job. job ≡ entry.1) (λ error. kind_of error ≡ ErrorKind.OutOfMemory)) word_lists }
 {

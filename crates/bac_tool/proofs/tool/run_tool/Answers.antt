@@ -4,7 +4,9 @@ use Rattle.bac_tool.proofs.tool.run_tool.Goals as goal
 pub returns-in-Err : goal.returns-in-Err
 returns-in-Err g c =
     inr (record {
+      kind = _;
+      is_fault = c.in-Err.ensures.kinds;
+      memory = c.in-Err.ensures.taken;
       unread = refl;
-      status_is = c.tell_words.ensures.status;
-      memory = λ taken. c.tell_words.ensures.memory (c.in-Err.ensures.taken taken);
+      answered = c.answer_words.ensures;
     })

@@ -5,13 +5,22 @@ use Rattle.std.proofs.Common.{ℕ, List, Option, inl, inr, Bor}
 use Rattle.clap.proofs.WalkLemmas.{one_text-rows}
 use Rattle.bac_tool.specs.CommandLine.{HasMode}
 use Rattle.bac_tool.specs.declared.command_line.Job.TheVariants as job
-use Rattle.bac_tool.proofs.Named.{is_simple_program, names_job, read_apart, program_names}
+use Rattle.bac_tool.proofs.Named.{faultless, is_simple_program, names_job, read_apart, program_names}
 use Rattle.bac_tool.proofs.words.named_job.Goals as goal
 
 pub returns-in_err-matches-clause-taken : goal.returns-in_err-matches-clause-taken
 returns-in_err-matches-clause-taken c =
     let p = err_from_is_err_and c.from_residual-in_err-matches.result c.from_residual-in_err-matches.ensures.1 in
     rw (p.1, p.2) (λ all. c.in_err-matches.ensures.passes (ap (λ a. takes a (map (λ s. s.now) c.args.words.now)) c.in_ok-command.ensures ∙ all))
+
+pub returns-then-eq-clause-faultless : goal.returns-then-eq-clause-faultless
+returns-then-eq-clause-faultless c = faultless _ _ c.in_ok-command.ensures c.in_ok-matches.ensures.kinds
+
+pub returns-then-eq-2-clause-faultless : goal.returns-then-eq-2-clause-faultless
+returns-then-eq-2-clause-faultless c = faultless _ _ c.in_ok-command.ensures c.in_ok-matches.ensures.kinds
+
+pub returns-clause-faultless : goal.returns-clause-faultless
+returns-clause-faultless c = faultless _ _ c.in_ok-command.ensures c.in_ok-matches.ensures.kinds
 
 -- where the subcommand stands in the words
 pub returns-then-eq-clause-named : goal.returns-then-eq-clause-named
