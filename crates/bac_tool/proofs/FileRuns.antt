@@ -1,5 +1,6 @@
 -- What a run read is the front of the file.
 use Rattle.std.proofs.Common.{◌≡◌, inl, inr, ℕ, ◌+◌, ◌-◌, ◌≤◌, ◌<◌, List, [], ◌∷◌, ◌++◌, length, refl, sym, ap, subst, ◌∙◌, append_assoc, append-nil, arith, length-append, Option, Some, None, Result, Ok, Err, IfOk, IfErr}
+use Rattle.std.specs.Prelude.{⊤}
 use Rattle.std.specs.List.{AllByRecursion}
 use Rattle.std.specs.Io.KnownBytes.{Consumes, Appends, IsAtEnd}
 use Rattle.bac_tag.specs.declared.refusals.Refusal.{Refusal}
@@ -117,8 +118,11 @@ module _ (line : ℕ → List ℕ → List ℕ → Type 0) (stops : List ℕ →
       let few : length run.list ≤ MOST = elim run.cause [ inl clean ↦ clean.0 | inr truncated ↦ truncated.0 ] in
       stopped_short (Stream at ReadFault) at run few run.number run.outputs
   stopped_over (Stream at OutOfMemory) run =
-      let room : length run.list < MOST = run.cause in
-      stopped_short (Stream at OutOfMemory) at run (omega arith) run.number run.outputs
+      elim run.cause [
+        | inl nothing ↦ (inl (run.number ∙ ap (λ n. n + 1) nothing.0), stopped_short (Stream at OutOfMemory) at run (omega (arith, nothing.0)) run.number run.outputs)
+        | inr next ↦ (let found = next_in_file (Stream at OutOfMemory) (λ octets. ⊤) run next in
+            (inr (omega (arith, run.number, ap (length {A = List ℕ}) found.2, length-append run.list (found.0 ∷ found.1))), stopped_short (Stream at OutOfMemory) at run (omega (arith, next.0)) run.number run.outputs))
+      ]
   stopped_over (Stream at (WriteFault count)) run =
       let written = run.outputs in
       let next = next_in_file (Stream at (WriteFault count)) _ run written.6 in (

@@ -1,5 +1,5 @@
 -- What a run has done when it reads again.
-use Rattle.std.proofs.Common.{◌≡◌, ℕ, ◌+◌, ◌≤◌, ◌<◌, List, [], ◌∷◌, ◌++◌, length, take, drop, refl, sym, ap, subst, ◌∙◌, append_assoc, append-nil, arith, Option, length-append, length-take, take-append-drop}
+use Rattle.std.proofs.Common.{◌≡◌, inr, ℕ, ◌+◌, ◌≤◌, ◌<◌, List, [], ◌∷◌, ◌++◌, length, take, drop, refl, sym, ap, subst, ◌∙◌, append_assoc, append-nil, arith, Option, length-append, length-take, take-append-drop}
 use Rattle.std.specs.List.{AllByRecursion}
 use Rattle.std.specs.Io.KnownBytes.{Consumes, Appends, IsAtEnd}
 use Rattle.std.proofs.KnownBytes.{Consumes-nil, Appends-nil, Consumes-trans, Appends-trans}
@@ -134,7 +134,7 @@ stops_found line is_canonical is_refused stops_run left left' taken taken' held 
 stops_found line is_canonical is_refused stops_run left left' taken taken' held summary sent (Stream at TooManyFrames) run found =
     stops line is_canonical is_refused stops_run left left' taken taken' held summary sent (Stream at TooManyFrames) run found.0 found.1 (λ list output outputs. outputs)
 stops_found line is_canonical is_refused stops_run left left' taken taken' held summary sent (Stream at OutOfMemory) run found =
-    stops line is_canonical is_refused stops_run left left' taken taken' held summary sent (Stream at OutOfMemory) run found.0 found.1 (λ list output outputs. outputs)
+    stops line is_canonical is_refused stops_run left left' taken taken' held summary sent (Stream at OutOfMemory) run found.0 (inr found.1) (λ list output outputs. outputs)
 stops_found line is_canonical is_refused stops_run left left' taken taken' held summary sent (Frame at refusal) run found =
     stops line is_canonical is_refused stops_run left left' taken taken' held summary sent (Frame at refusal) run found.0 found.1 (λ list output outputs. outputs)
 stops_found line is_canonical is_refused stops_run left left' taken taken' held summary sent (Stream at Truncated) run found = absurd found

@@ -1,5 +1,5 @@
 -- What lies whole in the octets that a run holds, and what it made of it.
-use Rattle.std.specs.Prelude.{◌≡◌, ◌⊎◌, ℕ, ◌+◌, ◌<◌, ◌≤◌, List, [], ◌∷◌, ◌++◌, length, take, get_or, false, Option, Some, None}
+use Rattle.std.specs.Prelude.{◌≡◌, ◌⊎◌, ℕ, ◌+◌, ◌<◌, ◌≤◌, List, [], ◌∷◌, ◌++◌, length, take, get_or, false, ⊤, Option, Some, None}
 use Rattle.std.specs.List.{AllByRecursion}
 use Rattle.bac_tag.specs.declared.refusals.Refusal.{Refusal}
 use Rattle.bac_tool.specs.Records.{record_of, joined, IsRecord, BeginsRecord, MOST, LONGEST, TooMany, TooLong, tells_too_long}
@@ -59,7 +59,7 @@ pub record Deals (line : ℕ → List ℕ → List ℕ → Type 0) (is_canonical
 abbrev pub IsFound : (List ℕ → Refusal → Type 0) → ℕ → List ℕ → RunFault → Type 0
 IsFound stops count rest (Stream at RecordTooLong) = (at ≡ count + 1) × HasEnd count rest TooLong
 IsFound stops count rest (Stream at TooManyFrames) = (at ≡ count + 1) × HasEnd count rest TooMany
-IsFound stops count rest (Stream at OutOfMemory) = (at ≡ count + 1) × (count < MOST)
+IsFound stops count rest (Stream at OutOfMemory) = (at ≡ count + 1) × NextRecord count rest (λ octets. ⊤)
 IsFound stops count rest (Frame at refusal) = (at ≡ count + 1) × NextRecord count rest (λ octets. stops octets refusal)
 IsFound stops count rest (Stream at Truncated) = ⊥
 IsFound stops count rest (Stream at ReadFault) = ⊥

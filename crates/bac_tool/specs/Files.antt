@@ -1,5 +1,5 @@
 -- What a run over a file of known octets answers and writes.
-use Rattle.std.specs.Prelude.{◌≡◌, ◌≢◌, ℕ, ◌+◌, List, [], ◌∷◌, ◌++◌, length, Option, Result, Ok, Err}
+use Rattle.std.specs.Prelude.{◌≡◌, ◌≢◌, ◌⊎◌, ℕ, ◌+◌, ◌≤◌, List, [], ◌∷◌, ◌++◌, length, Option, Result, Ok, Err}
 use Rattle.std.specs.Io.KnownBytes.{Appends}
 use Rattle.bac_tag.specs.declared.refusals.Refusal.{Refusal}
 use Rattle.bac_tool.specs.Records.{Clean, TooMany, TooLong, end_of}
@@ -31,7 +31,9 @@ RunsOver line stops is_canonical is_refused list rest taken taken' (Err (Stream 
 RunsOver line stops is_canonical is_refused list rest taken taken' (Err (Stream at TooManyFrames)) =
     (end_of (length list) rest ≡ TooMany) × (at ≡ length list + 1) × Writes line list taken taken'
 RunsOver line stops is_canonical is_refused list rest taken taken' (Err (Stream at ReadFault)) = StopsAfter line list taken taken' at
-RunsOver line stops is_canonical is_refused list rest taken taken' (Err (Stream at OutOfMemory)) = StopsAfter line list taken taken' at
+-- The record is one of the file's, or the first.
+RunsOver line stops is_canonical is_refused list rest taken taken' (Err (Stream at OutOfMemory)) =
+    ((at ≡ 1) ⊎ (at ≤ length list)) × StopsAfter line list taken taken' at
 -- The first so many octets of the outputs up to and with this record's were written, and not all.
 RunsOver line stops is_canonical is_refused list rest taken taken' (Err (Stream at (WriteFault count))) =
     (front more : List (List ℕ)) × (octets output part unsent : List ℕ) × (list ≡ front ++ octets ∷ more) × (at ≡ length front + 1)

@@ -55,7 +55,8 @@ IsCause stops count rest left' (Stream at RecordTooLong) = HasEnd count rest Too
 IsCause stops count rest left' (Stream at TooManyFrames) = HasEnd count rest TooMany
 IsCause stops count rest left' (Stream at ReadFault) = Waits count rest
 IsCause stops count rest left' (Stream at (WriteFault written)) = NextRecord count rest (λ octets. ⊤)
-IsCause stops count rest left' (Stream at OutOfMemory) = count < MOST
+-- for the memory that a run begins with, or for what it makes of a record
+IsCause stops count rest left' (Stream at OutOfMemory) = ((count ≡ 0) × (rest ≡ [])) ⊎ NextRecord count rest (λ octets. ⊤)
 IsCause stops count rest left' (Frame at refusal) = NextRecord count rest (λ octets. stops octets refusal)
 
 -- What the writer took: the outputs of the records dealt with, and after a write fault a part of the next one's, which is not all of it.

@@ -1,4 +1,4 @@
-use Rattle.std.proofs.Common.{◌≡◌, ◌≤◌, ◌+◌, ◌^◌, ◌<◌, List, ℕ, [], ◌++◌, length, drop, refl, arith, sym, ap, subst, ◌∙◌, append-nil}
+use Rattle.std.proofs.Common.{◌≡◌, inl, ◌≤◌, ◌+◌, ◌^◌, ◌<◌, List, ℕ, [], ◌++◌, length, drop, refl, arith, sym, ap, subst, ◌∙◌, append-nil}
 use Rattle.std.proofs.lemmas.Result.{err_from_is_err_and}
 use Rattle.std.proofs.lemmas.List.{nil_from_length}
 use Rattle.bac_tool.specs.Runs.{HasEnd}
@@ -12,7 +12,7 @@ use Rattle.bac_tool.proofs.runs.run_pieces.Goals as goal
 pub returns-in_default-clause-stopped : goal.returns-in_default-clause-stopped
 returns-in_default-clause-stopped g c =
     let job = c.args.job.now in
-    stops _ _ _ _ _ _ _ _ _ _ _ _ (begun (g.J.Job.line job) (g.J.Job.is_canonical job) (g.J.Job.is_refused job) _ _) refl (omega arith) (λ list output outputs. outputs)
+    stops _ _ _ _ _ _ _ _ _ _ _ _ (begun (g.J.Job.line job) (g.J.Job.is_canonical job) (g.J.Job.is_refused job) _ _) refl (inl (refl, refl)) (λ list output outputs. outputs)
 
 pub returns-in-Ok-eq0-clause-stopped : goal.returns-in-Ok-eq0-clause-stopped
 returns-in-Ok-eq0-clause-stopped g c =
