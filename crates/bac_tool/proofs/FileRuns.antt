@@ -15,7 +15,7 @@ use Rattle.bac_tool.specs.declared.faults.StreamFault.TheVariants.{Truncated, Re
 use Rattle.bac_tool.proofs.Unique.{unique}
 use Rattle.bac_tool.proofs.Exist.{exist}
 use Rattle.bac_tool.proofs.Appended.{joined-append, joined-more, AllByRecursion-append}
-use Rattle.bac_tool.proofs.FileEnds.{long_with_more, most_with_more}
+use Rattle.bac_tool.proofs.FileEnds.{most_with_more}
 
 -- what was read and what is left
 pub split : (file given : List ℕ) (left' : Option (List ℕ)) → Consumes (Some file) left' given → (more : List ℕ) × (file ≡ given ++ more) × (IsAtEnd left' → more ≡ [])
@@ -108,9 +108,7 @@ module _ (line : ℕ → List ℕ → List ℕ → Type 0) (stops : List ℕ →
   pub stopped_over : (fault : RunFault) → Stopped line stops (Some file) left' taken taken' fault → RunsOver line stops is_canonical is_refused list rest taken taken' (Err fault)
   stopped_over (Stream at Truncated) run =
       stopped_at_end (Stream at Truncated) at run.rest _ run (all_read file run.list run.rest left' run.read run.cause.1) run.cause.0 run.number run.outputs
-  stopped_over (Stream at RecordTooLong) run =
-      let given = some_read file run.list run.rest left' run.read in
-      stopped_at_end (Stream at RecordTooLong) at (run.rest ++ given.0) _ run given.1 (long_with_more _ run.rest given.0 run.cause) run.number run.outputs
+  stopped_over (Stream at RecordTooLong) run = absurd run.cause
   stopped_over (Stream at TooManyFrames) run =
       let given = some_read file run.list run.rest left' run.read in
       stopped_at_end (Stream at TooManyFrames) at (run.rest ++ given.0) _ run given.1 (most_with_more _ run.rest given.0 run.cause) run.number run.outputs

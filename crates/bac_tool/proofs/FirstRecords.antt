@@ -1,14 +1,12 @@
 -- The first record of a file.
-use Rattle.std.proofs.Common.{◌≡◌, ℕ, ◌+◌, ◌*◌, ◌<◌, List, [], ◌∷◌, ◌++◌, length, refl, sym, ap, subst, ◌∙◌, append-nil, arith, Bool, true, false, nat_lt, if◌then◌else◌, Option, Some, None, Result, Ok, Err, IfOk, IfErr, MatchResult}
-use Rattle.std.proofs.lemmas.Bool.Decides.{nat_tests}
+use Rattle.std.proofs.Common.{◌≡◌, ℕ, ◌<◌, List, [], ◌∷◌, ◌++◌, length, refl, sym, ap, subst, ◌∙◌, append-nil, arith, Option, Some, None, Result, Ok, Err, IfOk, IfErr, MatchResult}
 use Rattle.std.specs.Option.{option_map}
-use Rattle.bac_tool.specs.Records.{Records, MOST, LONGEST, End, Clean, TooMany, TooLong, BeginsRecord, record_of, joined, end_of, tells_too_long}
+use Rattle.bac_tool.specs.Records.{Records, MOST, Clean, record_of, joined, end_of}
 use Rattle.bac_tool.specs.Records as records
 use Rattle.bac_tool.specs.Transfers.{GivesRecord, StopsReading, IsFirst, IsFirstFault}
 use Rattle.bac_tool.specs.declared.faults.StreamFault.{StreamFault}
 use Rattle.bac_tool.specs.declared.faults.StreamFault.TheVariants.{Truncated, RecordTooLong, ReadFault, WriteFault, TooManyFrames, OutOfMemory}
 use Rattle.bac_tool.proofs.Partial.{nothing_begins_none}
-use Rattle.bac_tool.proofs.Exist.{heads_of}
 use Rattle.bac_tool.proofs.FileRuns.{split, next_of_file, ends_file}
 
 -- what each side of a result tells
@@ -16,12 +14,9 @@ both : {T E : Type 0} (result : Result T E) (P P' : T → Type 0) (Q Q' : E → 
 both (Ok v) P P' Q Q' p q f g = f v p
 both (Err e) P P' Q Q' p q f g = g e q
 
-cut_end : (octets : List ℕ) → 0 < length octets → tells_too_long octets ≡ false → end_of 0 octets ≡ records.Truncated
-cut_end [] some tells = absurd (omega arith)
-cut_end (octet ∷ octets) some tells = ap (λ (long : Bool). if long then TooLong else records.Truncated) tells
-
-tells_long : (n : ℕ) → LONGEST < n → nat_lt LONGEST n ≡ true
-tells_long n long = grind (arith, nat_tests)
+cut_end : (octets : List ℕ) → 0 < length octets → end_of 0 octets ≡ records.Truncated
+cut_end [] some = absurd (omega arith)
+cut_end (octet ∷ octets) some = refl
 
 first_of : (list : List (List ℕ)) (rest file : List ℕ) (new : Option (List ℕ)) (found : Option (List ℕ)) → Records list rest file → GivesRecord (Some file) new found → IsFirst list rest found
 first_of list rest file new (Some octets) known gives =
@@ -37,14 +32,9 @@ fault_of : (list : List (List ℕ)) (rest file : List ℕ) (new : Option (List �
 fault_of list rest file new Truncated known stops =
     let parts = split file stops.0 new stops.1 in
     let whole : file ≡ stops.0 = parts.1 ∙ ap (λ l. stops.0 ++ l) (parts.2 stops.2) ∙ append-nil stops.0 in
-    let found = ends_file list [] rest stops.0 file records.Truncated known tt whole (omega arith, (λ less. stops.4), cut_end stops.0 stops.3 stops.5) in
+    let found = ends_file list [] rest stops.0 file records.Truncated known tt whole (omega arith, (λ less. stops.4), cut_end stops.0 stops.3) in
     (found.0, ap (λ (l : List (List ℕ)). end_of (length l) rest) (sym found.0) ∙ found.1)
-fault_of list rest file new RecordTooLong known stops =
-    let parts = split file (stops.0 ∷ stops.1 ∷ []) new stops.2 in
-    let after = stops.0 ∷ stops.1 ∷ parts.0 in
-    let found = ends_file list [] rest after file TooLong known tt parts.1
-    (omega arith, (λ less begins. let heads = heads_of stops.0 stops.1 parts.0 begins in omega arith), ap (λ (long : Bool). if long then TooLong else records.Truncated) (tells_long (256 * stops.0 + stops.1) stops.3)) in
-    (found.0, ap (λ (l : List (List ℕ)). end_of (length l) rest) (sym found.0) ∙ found.1)
+fault_of list rest file new RecordTooLong known stops = absurd stops
 fault_of list rest file new ReadFault known stops = tt
 fault_of list rest file new OutOfMemory known stops = tt
 fault_of list rest file new (WriteFault count) known stops = stops

@@ -1,7 +1,6 @@
 -- Less than a whole record begins none.
-use Rattle.std.proofs.Common.{◌≡◌, ℕ, ◌/◌, ◌%◌, ◌<◌, ◌≤◌, List, [], ◌∷◌, ◌++◌, length, arith, ap, length-append, false}
-use Rattle.std.proofs.lemmas.Grind.{common_steps}
-use Rattle.bac_tool.specs.Records.{BeginsRecord, tells_too_long, LONGEST}
+use Rattle.std.proofs.Common.{◌≡◌, ℕ, ◌/◌, ◌%◌, ◌<◌, List, [], ◌∷◌, ◌++◌, length, arith, ap, length-append}
+use Rattle.bac_tool.specs.Records.{BeginsRecord}
 
 pub part_begins_none : (count : ℕ) (front : List ℕ) → length front < count → BeginsRecord (count / 256 ∷ count % 256 ∷ front) → ⊥
 part_begins_none count front short found =
@@ -10,9 +9,6 @@ part_begins_none count front short found =
     let low : count % 256 ≡ length found.0 % 256 = cc in
     let rest : front ≡ found.0 ++ found.1 = cc in
     omega (arith, length-append found.0 found.1, ap length rest)
-
-pub part_tells : (count : ℕ) (front : List ℕ) → count ≤ LONGEST → tells_too_long (count / 256 ∷ count % 256 ∷ front) ≡ false
-part_tells count front small = grind (arith, common_steps)
 
 pub nothing_begins_none : BeginsRecord [] → ⊥
 nothing_begins_none found = let e = found.3 in cc

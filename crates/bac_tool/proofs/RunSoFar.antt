@@ -129,14 +129,13 @@ stops line is_canonical is_refused stops_run left left' taken taken' held summar
 pub stops_found : (line : ℕ → List ℕ → List ℕ → Type 0) (is_canonical is_refused : List ℕ → Type 0) (stops_run : List ℕ → Refusal → Type 0) (left left' taken taken' : Option (List ℕ)) (held : List ℕ)
     (summary : Summary) (sent : ℕ) (fault : RunFault)
     → RunSoFar line is_canonical is_refused left left' taken taken' held summary sent → IsFound stops_run summary.records held fault → Stopped line stops_run left left' taken taken' fault
-stops_found line is_canonical is_refused stops_run left left' taken taken' held summary sent (Stream at RecordTooLong) run found =
-    stops line is_canonical is_refused stops_run left left' taken taken' held summary sent (Stream at RecordTooLong) run found.0 found.1 (λ list output outputs. outputs)
 stops_found line is_canonical is_refused stops_run left left' taken taken' held summary sent (Stream at TooManyFrames) run found =
     stops line is_canonical is_refused stops_run left left' taken taken' held summary sent (Stream at TooManyFrames) run found.0 found.1 (λ list output outputs. outputs)
 stops_found line is_canonical is_refused stops_run left left' taken taken' held summary sent (Stream at OutOfMemory) run found =
     stops line is_canonical is_refused stops_run left left' taken taken' held summary sent (Stream at OutOfMemory) run found.0 (inr found.1) (λ list output outputs. outputs)
 stops_found line is_canonical is_refused stops_run left left' taken taken' held summary sent (Frame at refusal) run found =
     stops line is_canonical is_refused stops_run left left' taken taken' held summary sent (Frame at refusal) run found.0 found.1 (λ list output outputs. outputs)
+stops_found line is_canonical is_refused stops_run left left' taken taken' held summary sent (Stream at RecordTooLong) run found = absurd found
 stops_found line is_canonical is_refused stops_run left left' taken taken' held summary sent (Stream at Truncated) run found = absurd found
 stops_found line is_canonical is_refused stops_run left left' taken taken' held summary sent (Stream at ReadFault) run found = absurd found
 stops_found line is_canonical is_refused stops_run left left' taken taken' held summary sent (Stream at (WriteFault count)) run found = absurd found

@@ -1,8 +1,8 @@
 -- What lies whole in the octets that a run holds, and what it made of it.
-use Rattle.std.specs.Prelude.{◌≡◌, ◌⊎◌, ℕ, ◌+◌, ◌<◌, ◌≤◌, List, [], ◌∷◌, ◌++◌, length, take, get_or, false, ⊤, Option, Some, None}
+use Rattle.std.specs.Prelude.{◌≡◌, ◌⊎◌, ℕ, ◌+◌, ◌<◌, ◌≤◌, List, [], ◌∷◌, ◌++◌, length, take, get_or, ⊤, Option, Some, None}
 use Rattle.std.specs.List.{AllByRecursion}
 use Rattle.bac_tag.specs.declared.refusals.Refusal.{Refusal}
-use Rattle.bac_tool.specs.Records.{record_of, joined, IsRecord, BeginsRecord, MOST, LONGEST, TooMany, TooLong, tells_too_long}
+use Rattle.bac_tool.specs.Records.{record_of, joined, IsRecord, BeginsRecord, MOST, LONGEST, TooMany}
 use Rattle.bac_tool.specs.Outputs.{OutputsWithEnds}
 use Rattle.bac_tool.specs.Runs.{Sums, HasEnd, NextRecord, Waits}
 use Rattle.bac_tool.specs.declared.batches.Batch.{Batch}
@@ -12,7 +12,7 @@ use Rattle.bac_tool.specs.declared.faults.RunFault.TheVariants.{Stream, Frame}
 
 -- The octets are less than a record.
 abbrev pub IsPartial : List ℕ → Type 0
-IsPartial octets = (BeginsRecord octets → ⊥) × (tells_too_long octets ≡ false) × (length octets < LONGEST + 2)
+IsPartial octets = (BeginsRecord octets → ⊥) × (length octets < LONGEST + 2)
 
 -- a record at the front
 abbrev pub IsFront : List ℕ → List ℕ → Type 0
@@ -57,10 +57,10 @@ pub record Deals (line : ℕ → List ℕ → List ℕ → Type 0) (is_canonical
 
 -- The fault is one that the octets behind so many records show.
 abbrev pub IsFound : (List ℕ → Refusal → Type 0) → ℕ → List ℕ → RunFault → Type 0
-IsFound stops count rest (Stream at RecordTooLong) = (at ≡ count + 1) × HasEnd count rest TooLong
 IsFound stops count rest (Stream at TooManyFrames) = (at ≡ count + 1) × HasEnd count rest TooMany
 IsFound stops count rest (Stream at OutOfMemory) = (at ≡ count + 1) × NextRecord count rest (λ octets. ⊤)
 IsFound stops count rest (Frame at refusal) = (at ≡ count + 1) × NextRecord count rest (λ octets. stops octets refusal)
+IsFound stops count rest (Stream at RecordTooLong) = ⊥
 IsFound stops count rest (Stream at Truncated) = ⊥
 IsFound stops count rest (Stream at ReadFault) = ⊥
 IsFound stops count rest (Stream at (WriteFault written)) = ⊥

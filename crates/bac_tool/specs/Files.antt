@@ -2,7 +2,7 @@
 use Rattle.std.specs.Prelude.{◌≡◌, ◌≢◌, ◌⊎◌, ℕ, ◌+◌, ◌≤◌, List, [], ◌∷◌, ◌++◌, length, Option, Result, Ok, Err}
 use Rattle.std.specs.Io.KnownBytes.{Appends}
 use Rattle.bac_tag.specs.declared.refusals.Refusal.{Refusal}
-use Rattle.bac_tool.specs.Records.{Clean, TooMany, TooLong, end_of}
+use Rattle.bac_tool.specs.Records.{Clean, TooMany, end_of}
 use Rattle.bac_tool.specs.Records as records
 use Rattle.bac_tool.specs.Outputs.{Outputs}
 use Rattle.bac_tool.specs.Runs.{Sums}
@@ -26,8 +26,7 @@ RunsOver line stops is_canonical is_refused list rest taken taken' (Ok summary) 
     (end_of (length list) rest ≡ Clean) × Sums is_canonical is_refused list summary × Writes line list taken taken'
 RunsOver line stops is_canonical is_refused list rest taken taken' (Err (Stream at Truncated)) =
     (end_of (length list) rest ≡ records.Truncated) × (at ≡ length list + 1) × Writes line list taken taken'
-RunsOver line stops is_canonical is_refused list rest taken taken' (Err (Stream at RecordTooLong)) =
-    (end_of (length list) rest ≡ TooLong) × (at ≡ length list + 1) × Writes line list taken taken'
+RunsOver line stops is_canonical is_refused list rest taken taken' (Err (Stream at RecordTooLong)) = ⊥
 RunsOver line stops is_canonical is_refused list rest taken taken' (Err (Stream at TooManyFrames)) =
     (end_of (length list) rest ≡ TooMany) × (at ≡ length list + 1) × Writes line list taken taken'
 RunsOver line stops is_canonical is_refused list rest taken taken' (Err (Stream at ReadFault)) = StopsAfter line list taken taken' at

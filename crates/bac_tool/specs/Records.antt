@@ -1,10 +1,10 @@
 -- Files of records: two octets of length, and then so many octets. The format is this project's own.
-use Rattle.std.specs.Prelude.{◌≡◌, ℕ, ◌+◌, ◌*◌, ◌/◌, ◌%◌, ◌<◌, ◌≤◌, ◌++◌, List, [], ◌∷◌, length, flat_map, Bool, false, nat_lt, nat_eq, if◌then◌else◌}
+use Rattle.std.specs.Prelude.{◌≡◌, ℕ, ◌/◌, ◌%◌, ◌<◌, ◌≤◌, ◌++◌, List, [], ◌∷◌, length, flat_map, nat_eq, if◌then◌else◌}
 use Rattle.std.specs.List.{AllByRecursion}
 
--- the longest record, without its length octets: the longest NPDU (clause 6.1)
+-- the longest record, without its length octets: as many octets as these can tell
 abbrev pub LONGEST : ℕ
-LONGEST = 1497
+LONGEST = 65535
 
 -- the most records of a file
 abbrev pub MOST : ℕ
@@ -41,16 +41,9 @@ Records list rest file = RecordsUpTo MOST list rest file
 pub data End : Type 0 where
   Clean : End
   TooMany : End
-  TooLong : End
   Truncated : End
-
--- A rest of at least two octets tells the length of what would be a record.
-abbrev pub tells_too_long : List ℕ → Bool
-tells_too_long (high ∷ low ∷ octets) = nat_lt LONGEST (256 * high + low)
-tells_too_long _ = false
 
 -- the end of a file of so many records and this rest
 abbrev pub end_of : ℕ → List ℕ → End
 end_of count [] = Clean
-end_of count (octet ∷ octets) =
-    if nat_eq count MOST then TooMany else (if tells_too_long (octet ∷ octets) then TooLong else Truncated)
+end_of count (octet ∷ octets) = if nat_eq count MOST then TooMany else Truncated

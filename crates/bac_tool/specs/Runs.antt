@@ -4,7 +4,7 @@ use Rattle.std.specs.List.{AllByRecursion}
 use Rattle.std.specs.Io.KnownBytes.{Consumes, Appends, IsAtEnd}
 use Rattle.bac_tag.specs.declared.refusals.Refusal.{Refusal}
 use Rattle.bac_tool.specs.Devices.{HasRisen}
-use Rattle.bac_tool.specs.Records.{record_of, joined, IsRecord, BeginsRecord, MOST, End, Clean, TooMany, TooLong, end_of}
+use Rattle.bac_tool.specs.Records.{record_of, joined, IsRecord, BeginsRecord, MOST, End, Clean, TooMany, end_of}
 use Rattle.bac_tool.specs.Records as records
 use Rattle.bac_tool.specs.Outputs.{Outputs, Tally}
 use Rattle.bac_tool.specs.declared.faults.StreamFault.TheVariants.{Truncated, RecordTooLong, ReadFault, WriteFault, TooManyFrames, OutOfMemory}
@@ -51,7 +51,7 @@ NextRecord count rest P = (count < MOST) × (octets more : List ℕ) × IsRecord
 -- When each fault comes: so many records were dealt with, and this rest was read behind them.
 abbrev pub IsCause : (List ℕ → Refusal → Type 0) → ℕ → List ℕ → Option (List ℕ) → RunFault → Type 0
 IsCause stops count rest left' (Stream at Truncated) = HasEnd count rest records.Truncated × IsAtEnd left'
-IsCause stops count rest left' (Stream at RecordTooLong) = HasEnd count rest TooLong
+IsCause stops count rest left' (Stream at RecordTooLong) = ⊥
 IsCause stops count rest left' (Stream at TooManyFrames) = HasEnd count rest TooMany
 IsCause stops count rest left' (Stream at ReadFault) = Waits count rest
 IsCause stops count rest left' (Stream at (WriteFault written)) = NextRecord count rest (λ octets. ⊤)

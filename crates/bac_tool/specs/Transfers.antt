@@ -1,8 +1,8 @@
 -- What reading and writing one record does.
-use Rattle.std.specs.Prelude.{◌≡◌, ℕ, ◌+◌, ◌*◌, ◌/◌, ◌%◌, ◌<◌, ◌≤◌, List, [], ◌∷◌, length, take, false, ⊤, Option, None, Some}
+use Rattle.std.specs.Prelude.{◌≡◌, ℕ, ◌+◌, ◌*◌, ◌/◌, ◌%◌, ◌<◌, ◌≤◌, List, [], ◌∷◌, length, take, ⊤, Option, None, Some}
 use Rattle.std.specs.Io.KnownBytes.{Consumes, Appends, IsAtEnd, Keeps}
 use Rattle.bac_tool.specs.Devices.{HasRisen}
-use Rattle.bac_tool.specs.Records.{record_of, IsRecord, BeginsRecord, LONGEST, TooLong, end_of, tells_too_long}
+use Rattle.bac_tool.specs.Records.{record_of, IsRecord, BeginsRecord, LONGEST, end_of}
 use Rattle.bac_tool.specs.Records as records
 use Rattle.bac_tool.specs.declared.faults.StreamFault.{StreamFault}
 use Rattle.bac_tool.specs.declared.faults.StreamFault.TheVariants.{Truncated, RecordTooLong, ReadFault, WriteFault, TooManyFrames, OutOfMemory}
@@ -17,13 +17,12 @@ GivesRecord old new None = IsAtEnd new × Consumes old new []
 -- what was read of a record before a fault
 abbrev pub StopsReading : Option (List ℕ) → Option (List ℕ) → StreamFault → Type 0
 -- The reader ended inside a record.
-StopsReading old new Truncated = (front : List ℕ) × Consumes old new front × IsAtEnd new × (0 < length front) × (BeginsRecord front → ⊥) × (tells_too_long front ≡ false)
--- The length octets told too much, and nothing past them was read.
-StopsReading old new RecordTooLong = (high low : ℕ) × Consumes old new (high ∷ low ∷ []) × (LONGEST < 256 * high + low)
+StopsReading old new Truncated = (front : List ℕ) × Consumes old new front × IsAtEnd new × (0 < length front) × (BeginsRecord front → ⊥)
 -- less than a record was read
-StopsReading old new ReadFault = (front : List ℕ) × Consumes old new front × (BeginsRecord front → ⊥) × (tells_too_long front ≡ false)
+StopsReading old new ReadFault = (front : List ℕ) × Consumes old new front × (BeginsRecord front → ⊥)
 -- the length octets alone were read
 StopsReading old new OutOfMemory = (high low : ℕ) × Consumes old new (high ∷ low ∷ []) × (256 * high + low ≤ LONGEST)
+StopsReading old new RecordTooLong = ⊥
 StopsReading old new (WriteFault count) = ⊥
 StopsReading old new TooManyFrames = ⊥
 
@@ -35,9 +34,9 @@ IsFirst list rest None = (list ≡ []) × (rest ≡ [])
 -- why a file of these records and this rest gives no record: its end, where no device failed and memory was there
 abbrev pub IsFirstFault : List (List ℕ) → List ℕ → StreamFault → Type 0
 IsFirstFault list rest Truncated = (list ≡ []) × (end_of 0 rest ≡ records.Truncated)
-IsFirstFault list rest RecordTooLong = (list ≡ []) × (end_of 0 rest ≡ TooLong)
 IsFirstFault list rest ReadFault = ⊤
 IsFirstFault list rest OutOfMemory = ⊤
+IsFirstFault list rest RecordTooLong = ⊥
 IsFirstFault list rest (WriteFault count) = ⊥
 IsFirstFault list rest TooManyFrames = ⊥
 
@@ -50,7 +49,7 @@ ReadFaultCounts old new _ = new ≡ old
 abbrev pub TakesFront : Option (List ℕ) → Option (List ℕ) → List ℕ → ℕ → Type 0
 TakesFront old new octets count = (count < length octets) × Appends old new (take count octets)
 
--- the length octets of a record that is not too long
+-- the length octets of a record
 abbrev pub GivesLength : Option (List ℕ) → Option (List ℕ) → Option ℕ → Type 0
 GivesLength old new (Some count) = (count ≤ LONGEST) × Consumes old new (count / 256 ∷ count % 256 ∷ [])
 GivesLength old new None = IsAtEnd new × Consumes old new []

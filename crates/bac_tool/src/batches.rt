@@ -88,10 +88,8 @@ impl Batch {
             let fault = StreamFault::TooManyFrames;
             return Err(RunFault::Stream { at, fault });
         }
-        let first = match front_record(octets) {
-            Ok(Some(first)) => first,
-            Ok(None) => return Ok(None),
-            Err(fault) => return Err(RunFault::Stream { at, fault }),
+        let Some(first) = front_record(octets) else {
+            return Ok(None);
         };
         self.add(job, at, first)?;
         Ok(Some(2 + first.len()))

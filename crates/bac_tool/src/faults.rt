@@ -9,7 +9,7 @@ pub enum StreamFault {
     /// The reader ended inside a record.
     #[error("truncated")]
     Truncated,
-    /// A record's length octets tell more than 1,497 octets.
+    /// A record's length octets tell more than 65,535 octets. As two octets tell no more, no call answers it.
     #[error("too long")]
     RecordTooLong,
     /// A read failed.

@@ -11,8 +11,8 @@ use crate::transfers::{read_full, write_whole};
 use crate::{Input, Output, StreamFault};
 use std::alloc::Global;
 
-/// The longest record, without its length octets: the longest NPDU (clause 6.1).
-pub(crate) const LONGEST: usize = 1497;
+/// The longest record, without its length octets: as many octets as these can tell.
+pub(crate) const LONGEST: usize = 65_535;
 
 /// The length octets of the next record, as a number, or `None` where the reader is at its end.
 fn read_length<R: Input>(reader: &mut R) -> Result<Option<usize>, StreamFault>
@@ -31,11 +31,7 @@ fn read_length<R: Input>(reader: &mut R) -> Result<Option<usize>, StreamFault>
         return Err(StreamFault::Truncated);
     }
     let [high, low] = head;
-    let length = 256 * usize::from(high) + usize::from(low);
-    if length > LONGEST {
-        return Err(StreamFault::RecordTooLong);
-    }
-    Ok(Some(length))
+    Ok(Some(256 * usize::from(high) + usize::from(low)))
 }
 
 /// So many octets. An `Err` is a fault within them.
@@ -74,8 +70,8 @@ fn next_record<R: Input>(alloc: Global, reader: &mut R) -> Result<Option<Vec<u8>
 
 /// The octets of the next record, or `None` where the reader is at its end.
 ///
-/// No octet behind the record is read, and behind length octets that tell too much, or for which memory is
-/// refused, none at all. `TooManyFrames` and `WriteFault` never come.
+/// No octet behind the record is read, and behind length octets for which memory is refused none at all.
+/// `RecordTooLong`, `TooManyFrames` and `WriteFault` never come.
 pub fn read_record<R: Input>(alloc: Global, reader: &mut R) -> Result<Option<Vec<u8>>, StreamFault>
     ensures found { IfOk result (λ found. GivesRecord (R.left reader.old) (R.left reader.new) (option_map (λ octets. octets.items) found)) }
     ensures stops { IfErr result (StopsReading (R.left reader.old) (R.left reader.new)) }
@@ -88,7 +84,7 @@ pub fn read_record<R: Input>(alloc: Global, reader: &mut R) -> Result<Option<Vec
     next_record(alloc, reader)
 }
 
-/// Writes the octets as a record. The one fault is `WriteFault`, with the number of the record's octets that
+/// Writes the octets, 65,535 at most, as a record. The one fault is `WriteFault`, with the number of the record's octets that
 /// were taken, length octets included.
 pub fn write_record<W: Output>(writer: &mut W, octets: &[u8]) -> Result<(), StreamFault>
     requires { IsRecord octets.now }

@@ -71,8 +71,8 @@ fn run_pieces<J: Job, R: Input, W: Output>(
 ///
 /// `at` of a fault is one more than the number of records that were dealt with whole. After a fault their
 /// outputs were written and no more; after `WriteFault(k)` the first `k` octets of the outputs up to and with
-/// that of the record at fault. It takes memory for 64 KiB of input and for the outputs of the records that
-/// lie in them.
+/// that of the record at fault. It takes memory for 65,537 octets of input and for the outputs of the records
+/// that lie in them.
 pub(crate) fn run<J: Job, R: Input, W: Output>(
     alloc: Global,
     job: &J,

@@ -6,6 +6,7 @@ use crate::{
     Counted, Input, Output, RunFault, StreamFault, Summary, laws, read_record, write_record,
 };
 use bac_tag::{Refusal, Why};
+use std::alloc::Global;
 use std::io::ErrorKind;
 use std::test::Fail;
 
@@ -58,7 +59,12 @@ fn each_end_is_told(rt: HostRuntime) -> Result<(), Fail> {
         ([0, 0, 9].as_slice(), stream(2, StreamFault::Truncated), 0),
         (
             [0, 1, 9, 0x05, 0xDA].as_slice(),
-            stream(2, StreamFault::RecordTooLong),
+            stream(2, StreamFault::Truncated),
+            1,
+        ),
+        (
+            [0, 1, 9, 0xFF, 0xFF, 1].as_slice(),
+            stream(2, StreamFault::Truncated),
             1,
         ),
         ([0, 1, 9, 0, 1, 255, 0, 1, 9].as_slice(), stopped, 1),
@@ -146,6 +152,82 @@ fn records_come_back(rt: HostRuntime) -> Result<(), Fail> {
         assert_eq!(rt; got.as_deref(), Some(want));
     }
     assert!(rt; read_record(rt.alloc(), &mut reader)?.is_none());
+    Ok(())
+}
+
+/// Numbers of octets at which a record could be taken for a longer or a shorter one.
+const SIZES: [usize; 12] = [
+    0, 1, 255, 256, 1_000, 1_001, 1_497, 1_498, 32_768, 65_279, 65_534, 65_535,
+];
+
+/// A record of so many octets.
+fn long_record(alloc: Global, size: usize) -> Result<Vec<u8>, Fail> {
+    let mut record = vec![in alloc; 0xAA; size + 2]?;
+    record[0] = (size / 256) as u8;
+    record[1] = (size % 256) as u8;
+    Ok(record)
+}
+
+// Example 78 for records: the longest has 65,535 octets.
+#[test]
+fn records_of_each_size_come_back(rt: HostRuntime) -> Result<(), Fail> {
+    for size in SIZES {
+        let record = long_record(rt.alloc(), size)?;
+        let mut writer = Counted::new(Vec::new(rt.alloc()));
+        write_record(&mut writer, &record[2..])?;
+        assert!(rt; writer.device.as_slice() == record.as_slice(), "{size}");
+
+        let mut reader = Counted::new(record.as_slice());
+        let got = read_record(rt.alloc(), &mut reader)?;
+        assert!(rt; got.as_deref() == Some(&record[2..]), "{size}");
+        assert_eq!(rt; reader.device.len(), 0, "{size}");
+
+        let mut cut = Counted::new(&record[..size + 1]);
+        let fault = read_record(rt.alloc(), &mut cut).err();
+        assert_eq!(rt; fault, Some(StreamFault::Truncated), "{size}");
+    }
+    Ok(())
+}
+
+// The record stands between two others, so that it begins and ends within what a run holds.
+#[test]
+fn a_run_takes_records_of_each_size(rt: HostRuntime) -> Result<(), Fail> {
+    for size in SIZES {
+        let record = long_record(rt.alloc(), size)?;
+        let mut file = Vec::new(rt.alloc());
+        file.extend_from_slice(&[0, 3, 1, 2, 3])?;
+        file.extend_from_slice(&record)?;
+        file.extend_from_slice(&[0, 2, 8, 9])?;
+        let mut want = Vec::new(rt.alloc());
+        want.extend_from_slice(&[1, 2, 3])?;
+        want.extend_from_slice(&record[2..])?;
+        want.extend_from_slice(&[8, 9])?;
+        for piece in [997, 65_536, usize::MAX] {
+            let mut writer = Counted::new(Vec::new(rt.alloc()));
+            let got = run(
+                rt.alloc(),
+                &CopyOctets,
+                &mut feed(&file, piece),
+                &mut writer,
+            );
+            let records = got.map(|summary| summary.records);
+            assert_eq!(rt; records, Ok(3), "{size} in pieces of {piece}");
+            assert!(rt;
+                writer.device.as_slice() == want.as_slice(),
+                "{size} in pieces of {piece}"
+            );
+        }
+        let mut writer = Counted::new(Vec::new(rt.alloc()));
+        let cut = file.len() - 5;
+        let got = run(
+            rt.alloc(),
+            &CopyOctets,
+            &mut feed(&file[..cut], 65_536),
+            &mut writer,
+        );
+        assert_eq!(rt; got, stream(2, StreamFault::Truncated), "{size} cut");
+        assert_eq!(rt; writer.device.len(), 3, "{size} cut");
+    }
     Ok(())
 }
 

@@ -171,9 +171,40 @@ fn check_counts_and_stops(rt: HostRuntime) -> Result<(), Fail> {
         rt.alloc(),
         &CHECK,
         &[0x05, 0xDA],
-        (2, b"", "bactool: record 1: too long\n"),
+        (2, b"", "bactool: record 1: truncated\n"),
     );
     runs(&rt, rt.alloc(), &CHECK, &[], (0, b"", ""));
+    Ok(())
+}
+
+// Example 78, as far as the runs read it: an Unconfirmed-Request is no thin frame, of any length.
+#[test]
+fn records_of_each_size_are_dealt_with(rt: HostRuntime) -> Result<(), Fail> {
+    let first = file_of(rt.alloc(), &[F1])?;
+    let checked = b"1 ok\n2 refused PduType at 2\n3 ok\n".as_slice();
+    let shown =
+        b"1 prio=0 reply=1 conf id=1 sa=0 segs=0 resp=5 ReadProperty object=0:5 property=85\n\
+        2 refused PduType at 2\n\
+        3 prio=0 reply=1 conf id=1 sa=0 segs=0 resp=5 ReadProperty object=0:5 property=85\n"
+            .as_slice();
+    let said = "bactool: record 2: refused PduType at 2\n";
+    for size in [4, 255, 256, 1_000, 1_001, 1_497, 1_498, 65_534, 65_535] {
+        let mut file = Vec::new(rt.alloc());
+        file.extend_from_slice(&first)?;
+        file.push((size / 256) as u8)?;
+        file.push((size % 256) as u8)?;
+        file.extend_from_slice(&[0x01, 0x00, 0x10, 0x09])?;
+        file.extend_from_slice(&vec![in rt.alloc(); 0xAA; size - 4]?)?;
+        file.extend_from_slice(&first)?;
+        for (words, ends) in [
+            (["bactool", "show"].as_slice(), (1, shown, "")),
+            (&CHECK, (1, checked, "")),
+            (&["bactool", "check", "--strict"], (1, checked, "")),
+            (&["bactool", "normalise"], (1, first.as_slice(), said)),
+        ] {
+            runs(&rt, rt.alloc(), words, &file, ends);
+        }
+    }
     Ok(())
 }
 

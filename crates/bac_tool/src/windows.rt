@@ -5,12 +5,13 @@ ghost use Rattle.std.specs.Io.KnownBytes.{Consumes, IsAtEnd, Keeps};
 ghost use Rattle.bac_tool.specs.Devices.{HasRisen};
 ghost use Rattle.bac_tool.specs.declared.windows.TheConstants.{PIECE};
 
+use crate::records::LONGEST;
 use crate::{Device, Input};
 use std::alloc::{AllocError, Global};
 use std::marker::Model;
 
-/// How many octets a run holds at most: 64 KiB.
-pub(crate) const PIECE: usize = 65_536;
+/// How many octets a run holds at most: the longest record with its length octets.
+pub(crate) const PIECE: usize = LONGEST + 2;
 
 /// Octets that were read and are not dealt with, at the front of a buffer of `PIECE` octets. A proof sees
 /// the octets alone.
