@@ -20,7 +20,7 @@ use Rattle.bac_tool.specs.ArrayIndexLaws.{one_array_index}
 use Rattle.bac_tool.specs.Fields.{least_field, Optional}
 use Rattle.bac_tool.specs.WholeInput.{IsWholeRefusal}
 use Rattle.bac_tool.specs.ThinHeader.{Header, SpellsHeader, header_octets}
-use Rattle.bac_tool.specs.ThinFrame.{IsThinFrame, ObjectField, PropertyField, IndexField, SpellsRequest, SpellsRequired, SpellsThin, request_octets, index_octets, thin_octets}
+use Rattle.bac_tool.specs.ThinFrame.{IsThinFrame, ObjectField, PropertyField, IndexField, SpellsRequest, SpellsRequired, SpellsThin, request_octets, index_octets, thin_octets, IsRequiredReason}
 use Rattle.bac_tool.proofs.PartLemmas.{whole_refused, whole_alike, refused_last}
 use Rattle.bac_tool.proofs.HeaderLemmas.{header_ends, header_least}
 use Rattle.bac_tool.proofs.FieldLemmas.{field_ends, field_least}
@@ -91,9 +91,9 @@ to x b j = (record { header = x.0.0; object = x.0.1.0; property = x.0.1.1; index
 from : (frame : ThinFrame) (b : List ℕ) → SpellsThin frame b → (x : (Header × (Identifier × Enumerated)) × Option ArrayIndex) × Parts x b
 from frame b s = (((frame.header, (frame.object, frame.property)), frame.index), s)
 
-pub thin_refused : (input : List ℕ) (r : Refusal) → IsRefusal SpellsRequired input r → IsWholeRefusal SpellsThin input r
-thin_refused input r h =
-    whole_alike Parts SpellsThin input r to from (whole_refused Parts input r (refused_first SpellsRequired (λ _. Optional IndexField) input r (λ x b f. (None, [], refl)) h))
+pub thin_refused : (input : List ℕ) (r : Refusal) → IsRequiredReason r.why → IsRefusal SpellsRequired input r → IsWholeRefusal SpellsThin input r
+thin_refused input r reason h =
+    whole_alike Parts SpellsThin input r to from (whole_refused Parts input r (λ e. subst IsRequiredReason e reason) (refused_first SpellsRequired (λ _. Optional IndexField) input r (λ x b f. (None, [], refl)) h))
 
 pub thin_refused_last : (input : List ℕ) (x : Header × (Identifier × Enumerated)) (n : ℕ) (r : Refusal) → Takes SpellsRequired input (x, n) → IsWholeRefusal (Optional IndexField) (drop n input) r
     → IsWholeRefusal SpellsThin input (record { place = n + r.place; why = r.why })

@@ -1,5 +1,5 @@
 -- Parts one behind the other, and calls that use their whole input.
-use Rattle.std.proofs.Common.{◌≡◌, ℕ, ◌+◌, ◌<◌, ◌≤◌, ◌↔◌, Option, None, Some, List, [], ◌++◌, length, take, drop, arith, sym, ap, subst, ◌∙◌, append_assoc, append-nil, length-append, length-take, length-drop, take-append-drop}
+use Rattle.std.proofs.Common.{◌≡◌, refl, ℕ, ◌+◌, ◌<◌, ◌≤◌, ◌↔◌, Option, None, Some, List, [], ◌++◌, length, take, drop, arith, sym, ap, subst, ◌∙◌, append_assoc, append-nil, length-append, length-take, length-drop, take-append-drop}
 use Rattle.std.proofs.lemmas.List.{append_cancel_left, take-take}
 use Rattle.std.proofs.Math.Seq.{take-append-add}
 use Rattle.bac_tag.specs.declared.refusals.Refusal.{Refusal}
@@ -62,8 +62,14 @@ joined_refused First Second input x n r ended p h =
 
 -- ---- whole inputs
 
-pub whole_refused : {X : Type 0} (S : X → List ℕ → Type 0) (input : List ℕ) (r : Refusal) → IsRefusal S input r → IsWholeRefusal S input r
-whole_refused S input r h = record { none = λ x s. h.none x input [] (sym (append-nil input)) s; furthest = h.furthest; short = h.short }
+-- what is refused before there is a spelling
+pub whole_refused : {X : Type 0} (S : X → List ℕ → Type 0) (input : List ℕ) (r : Refusal) → (r.why ≡ Trailing → ⊥) → IsRefusal S input r → IsWholeRefusal S input r
+whole_refused S input r other h = record {
+  none = λ x s. h.none x input [] (sym (append-nil input)) s;
+  furthest = h.furthest;
+  short = h.short;
+  trailing = (λ e. absurd (other e), λ p. absurd (h.none p.1.0 (take r.place input) (drop r.place input) (sym (take-append-drop r.place input)) p.1.1));
+}
 
 -- two relations that spell the same lists
 pub whole_alike : {X Y : Type 0} (S : X → List ℕ → Type 0) (T : Y → List ℕ → Type 0) (input : List ℕ) (r : Refusal)
@@ -78,6 +84,10 @@ whole_alike S T input r to from h =
         ends = λ lt v. (let s = from v.value (take (r.place + 1) input ++ v.rest) v.spelled in h.furthest.ends lt (record { value = s.0; rest = v.rest; spelled = s.1 }));
       };
       short = h.short;
+      trailing = (
+        λ e. (let t = h.trailing.0 e in (t.0, to t.1.0 (take r.place input) t.1.1)),
+        λ t. h.trailing.1 (t.0, from t.1.0 (take r.place input) t.1.1),
+      );
     }
 
 module _ {X Y : Type 0} (First : X → List ℕ → Type 0) (Second : Y → List ℕ → Type 0) (x : X) (ended : EndsItself First) where
@@ -115,6 +125,16 @@ module _ {X Y : Type 0} (First : X → List ℕ → Type 0) (Second : Y → List
           });
     };
     short = (λ e. omega (arith, h.short.0 e, length-append a rest), λ e. h.short.1 (omega (arith, length-append a rest)));
+    trailing = (
+      λ e.
+          let t = h.trailing.0 e in
+          (omega (arith, t.0, length-append a rest), ((x, t.1.0), record { front = a; back = take r.place rest; first = f; second = t.1.1; octets = take-append-add a rest r.place })),
+      λ t.
+          let j = t.1.1 in
+          let parts : a ++ take r.place rest ≡ j.front ++ j.back = sym (take-append-add a rest r.place) ∙ j.octets in
+          let same = ended x t.1.0.0 a j.front (take r.place rest) j.back f j.first parts in
+          h.trailing.1 (omega (arith, t.0, length-append a rest), (t.1.0.1, subst (λ (l : List ℕ). Second t.1.0.1 l) (sym (append_cancel_left a (take r.place rest) j.back (parts ∙ ap (λ (l : List ℕ). l ++ j.back) (sym same.0)))) j.second)),
+    );
   }
 
   pub refused_last : (input : List ℕ) (n : ℕ) (r : Refusal) → Takes First input (x, n) → IsWholeRefusal Second (drop n input) r
@@ -138,9 +158,9 @@ module _ {X : Type 0} (S : X → List ℕ → Type 0) where
   ends_absent front rest some ends (Some x) s = ends (record { value = x; rest = rest; spelled = s })
 
   -- what is refused of a part that is there
-  pub optional_refused : (input : List ℕ) (r : Refusal) (why : Why) → 0 < length input → ((why ≡ Short) ↔ (r.place ≡ length input)) → IsRefusal S input r
+  pub optional_refused : (input : List ℕ) (r : Refusal) (why : Why) → 0 < length input → ((why ≡ Short) ↔ (r.place ≡ length input)) → ((why ≡ Trailing) ↔ (r.place ≡ 0)) → IsRefusal S input r
       → IsWholeRefusal (Optional S) input (record { place = r.place; why = why })
-  optional_refused input r why some short h = record {
+  optional_refused input r why some short absent h = record {
     none = none_absent input some (λ x s. h.none x input [] (sym (append-nil input)) s);
     furthest = record {
       within = h.furthest.within;
@@ -148,7 +168,15 @@ module _ {X : Type 0} (S : X → List ℕ → Type 0) where
       ends = λ lt v. ends_absent (take (r.place + 1) input) v.rest (omega (arith, length-take (r.place + 1) input)) (h.furthest.ends lt) v.value v.spelled;
     };
     short = short;
+    trailing = (
+      λ e. (let zero_th = absent.0 e in (omega arith, (None, ap (λ (n : ℕ). take n input) zero_th))),
+      λ t. absent.1 (at_start t.0 t.1.0 t.1.1),
+    );
   }
+    where
+      at_start : r.place < length input → (o : Option X) → Optional S o (take r.place input) → r.place ≡ 0
+      at_start lt None e = omega (arith, ap length e, length-take r.place input)
+      at_start lt (Some x) s = absurd (h.none x (take r.place input) (drop r.place input) (sym (take-append-drop r.place input)) s)
 
   -- what stands behind it
   pub optional_trailing : (input : List ℕ) (x : X) (n : ℕ) → EndsItself S → Takes S input (x, n) → n < length input → IsWholeRefusal (Optional S) input (record { place = n; why = Trailing })
@@ -161,6 +189,7 @@ module _ {X : Type 0} (S : X → List ℕ → Type 0) where
       ends = λ _ v. ends_absent (take (n + 1) input) v.rest (omega (arith, length-take (n + 1) input)) further v.value v.spelled;
     };
     short = (λ e. absurd (cc), λ e. absurd (omega arith));
+    trailing = (λ _. (lt, (Some x, t.spelled)), λ _. refl);
   }
     where
       further : IsViable S (take (n + 1) input) → ⊥

@@ -3,7 +3,7 @@
 use Rattle.std.specs.Prelude.{ℕ, ◌-◌, ◌^◌, ◌<◌, Option, IfSome, List, ◌++◌}
 use Rattle.bac_tag.specs.Spelling.{Joined}
 use Rattle.bac_tag.specs.declared.refusals.Why.{Why}
-use Rattle.bac_tag.specs.declared.refusals.Why.TheVariants.{OutOfMemory, NotCanonical}
+use Rattle.bac_tag.specs.declared.refusals.Why.TheVariants.{Short, Version, PduType, Tag, Length, Content, OutOfMemory, NotCanonical}
 use Rattle.bac_value.specs.Primitives.{IsTheList}
 use Rattle.bac_value.specs.Numbers.{NumberContents, least_number}
 use Rattle.bac_value.specs.Identifier.{Identifier, IsIdentifier, identifier_octets}
@@ -51,6 +51,16 @@ index_octets = optional_octets (λ index. least_field 2 (least_number index.0))
 -- the octets that are written of a thin frame
 abbrev pub thin_octets : ThinFrame → List ℕ
 thin_octets frame = (header_octets frame.header ++ request_octets frame.object frame.property) ++ index_octets frame.index
+
+-- the reasons for which what stands in front of the index is refused
+abbrev pub IsRequiredReason : Why → Type 0
+IsRequiredReason Short = Unit {0}
+IsRequiredReason Version = Unit {0}
+IsRequiredReason PduType = Unit {0}
+IsRequiredReason Tag = Unit {0}
+IsRequiredReason Length = Unit {0}
+IsRequiredReason Content = Unit {0}
+IsRequiredReason _ = ⊥
 
 -- the reasons for which a thin frame is refused: all but want of memory and a spelling that is not canonical
 abbrev pub IsThinReason : Why → Type 0

@@ -3,11 +3,11 @@
 ghost use Rattle.std.specs.Prelude.{◌≡◌, ◌++◌, IfOk, IfErr, OnOk, OnErr, length, take};
 ghost use Rattle.bac_tag.specs.Octets.{IsMark};
 ghost use Rattle.bac_tag.specs.Spelling.{IsLeast, IsRefusal, Takes};
-ghost use Rattle.bac_tool.specs.Fields.{Optional};
+ghost use Rattle.bac_tool.specs.Fields.{IsFieldReason, Optional};
 ghost use Rattle.bac_tool.specs.ThinHeader.{header_octets};
 ghost use Rattle.bac_tool.specs.Appending.{Extends};
 ghost use Rattle.bac_tool.specs.WholeInput.{IsWholeRefusal};
-ghost use Rattle.bac_tool.specs.ThinFrame.{IsThinFrame, IndexField, SpellsRequest, SpellsRequired, SpellsThin, request_octets, index_octets, thin_octets, IsThinReason};
+ghost use Rattle.bac_tool.specs.ThinFrame.{IsThinFrame, IndexField, SpellsRequest, SpellsRequired, SpellsThin, request_octets, index_octets, thin_octets, IsRequiredReason, IsThinReason};
 
 use crate::array_index::ArrayIndex;
 use crate::fields::{Part, append_field, field_len, read_field};
@@ -38,7 +38,7 @@ fn read_request(alloc: Global, octets: &[u8]) -> Result<Part<(ObjectId, Enumerat
     ensures found { IfOk result (λ part. Takes SpellsRequest octets.now (part.value, part.taken)) }
     ensures mark { IfOk result (λ part. IsMark (take part.taken octets.now) (request_octets part.value.0 part.value.1) part.mark) }
     ensures refused { IfErr result (IsRefusal SpellsRequest octets.now) }
-    ensures reasons { IfErr result (λ refusal. IsThinReason refusal.why) }
+    ensures reasons { IfErr result (λ refusal. IsFieldReason refusal.why) }
 {
     let object = read_field::<ObjectId>(alloc, octets, 0)?;
     match read_field::<Enumerated>(alloc, &octets[object.taken..], 1) {
@@ -59,7 +59,7 @@ fn read_required(
     ensures found { IfOk result (λ part. Takes SpellsRequired octets.now (part.value, part.taken)) }
     ensures mark { IfOk result (λ part. IsMark (take part.taken octets.now) (header_octets part.value.0 ++ request_octets part.value.1.0 part.value.1.1) part.mark) }
     ensures refused { IfErr result (IsRefusal SpellsRequired octets.now) }
-    ensures reasons { IfErr result (λ refusal. IsThinReason refusal.why) }
+    ensures reasons { IfErr result (λ refusal. IsRequiredReason refusal.why) }
 {
     let header = ThinHeader::read(octets)?;
     match read_request(alloc, &octets[header.taken..]) {

@@ -8,7 +8,7 @@ use Rattle.bac_tool.proofs.thin_frame.ThinFrame.decode_marked.Goals as goal
 pub returns-in_err-required-clause-refused : goal.returns-in_err-required-clause-refused
 returns-in_err-required-clause-refused c =
     let p = err_from_is_err_and c.from_residual.result c.from_residual.ensures.1 in
-    rw (p.1, p.2) (thin_refused c.args.octets.now _ c.in_err-required.ensures.refused)
+    rw (p.1, p.2) (thin_refused c.args.octets.now _ c.in_err-required.ensures.reasons c.in_err-required.ensures.refused)
 
 pub returns-in-Ok-clause-found : goal.returns-in-Ok-clause-found
 returns-in-Ok-clause-found c = record {
