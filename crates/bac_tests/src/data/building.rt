@@ -153,23 +153,23 @@ fn a_value_may_be_one_primitive(rt: HostRuntime) -> Result<(), Fail> {
 
 // Of example 44 of docs/EXAMPLES.md.
 #[test]
-fn sixteen_groups_nest(rt: HostRuntime) -> Result<(), Fail> {
+fn thirty_two_groups_nest(rt: HostRuntime) -> Result<(), Fail> {
     let mut builder = begun(rt.alloc())?;
     let beyond = [
         refused(Call::Open(0), BuildFault::Depth),
         refused(Call::Open(255), BuildFault::Number),
     ];
-    for _ in 0..16 {
+    for _ in 0..32 {
         takes(&rt, rt.alloc(), &mut builder, &[taken(Call::Open(0))]);
     }
     takes(&rt, rt.alloc(), &mut builder, &beyond);
-    for _ in 0..16 {
+    for _ in 0..32 {
         takes(&rt, rt.alloc(), &mut builder, &[taken(Call::Close)]);
     }
     let value = builder.finish()?;
-    assert_eq!(rt; value.count(), 32);
+    assert_eq!(rt; value.count(), 64);
     for (place, event) in value.events().enumerate() {
-        let wanted = if place < 16 {
+        let wanted = if place < 32 {
             Event::Open(0)
         } else {
             Event::Close(0)

@@ -124,18 +124,20 @@ fn nested(alloc: Global, count: usize) -> Result<Vec<u8>, OutOfMemory> {
 
 // Examples 14 and 68 of docs/EXAMPLES.md.
 #[test]
-fn sixteen_groups_nest(rt: HostRuntime) -> Result<(), Fail> {
+fn thirty_two_groups_nest(rt: HostRuntime) -> Result<(), Fail> {
     let alloc = rt.alloc();
-    let octets = nested(alloc, 16)?;
-    assert_eq!(rt; octets.len(), 34);
+    let octets = nested(alloc, 32)?;
+    assert_eq!(rt; octets.len(), 66);
     reads(&rt, alloc, octets.as_slice(), octets.as_slice())?;
-    let octets = nested(alloc, 17)?;
-    refuses(&rt, alloc, octets.as_slice(), 17, Why::Depth);
+    let octets = nested(alloc, 33)?;
+    refuses(&rt, alloc, octets.as_slice(), 33, Why::Depth);
+    let octets = inside(alloc, 17, &[])?;
+    refuses(&rt, alloc, octets.as_slice(), 18, Why::Short);
     Ok(())
 }
 
 /// How many groups nest at most.
-const DEEPEST: usize = 16;
+const DEEPEST: usize = 32;
 
 /// The octets inside so many groups of a value.
 fn inside(alloc: Global, groups: usize, octets: &[u8]) -> Result<Vec<u8>, OutOfMemory> {
@@ -237,7 +239,7 @@ fn a_value_is_read_again_where_memory_was_refused(rt: HostRuntime) -> Result<(),
 fn many_tags_are_refused_at_once(rt: HostRuntime) -> Result<(), Fail> {
     let alloc = rt.alloc();
     let mut octets = vec![in alloc; 0x3E; 1 << 20]?;
-    refuses(&rt, alloc, octets.as_slice(), 17, Why::Depth);
+    refuses(&rt, alloc, octets.as_slice(), 33, Why::Depth);
     octets.clear();
     octets.resize(1 << 20, 0x3F)?;
     refuses(&rt, alloc, octets.as_slice(), 0, Why::Tag);

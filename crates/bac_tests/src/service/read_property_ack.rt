@@ -114,17 +114,17 @@ fn values_are_read_as_open_values(rt: HostRuntime) -> Result<(), Fail> {
 
 // Of example 68 of docs/EXAMPLES.md.
 #[test]
-fn sixteen_groups_nest_in_a_value(rt: HostRuntime) -> Result<(), Fail> {
-    let mut deep = [0x0E; 34];
+fn thirty_two_groups_nest_in_a_value(rt: HostRuntime) -> Result<(), Fail> {
+    let mut deep = [0x0E; 66];
     deep[0] = 0x3E;
-    for place in 17..33 {
+    for place in 33..65 {
         deep[place] = 0x0F;
     }
-    deep[33] = 0x3F;
+    deep[65] = 0x3F;
     let rows = [kept(&deep)];
     judge(&rt, rt.alloc(), SERVICE, &PROPERTY, &rows)?;
-    let mut deeper = [0x0E; 18];
+    let mut deeper = [0x0E; 34];
     deeper[0] = 0x3E;
-    let rows = [refused(&deeper, 24, Why::Depth)];
+    let rows = [refused(&deeper, 40, Why::Depth)];
     judge(&rt, rt.alloc(), SERVICE, &PROPERTY, &rows)
 }
