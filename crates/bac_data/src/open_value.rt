@@ -8,7 +8,7 @@ ghost use Rattle.bac_data.specs.Nodes.{nodes_events, AreNodes};
 ghost use Rattle.bac_data.specs.Endings.{HoldEndings};
 
 use crate::nodes::Node;
-use crate::walking::Events;
+use crate::walking::{Event, Events};
 use std::marker::Model;
 
 /// An open value: a list of elements, each an application primitive, a context primitive (its number and its
@@ -34,6 +34,22 @@ impl Model for Any {
     ghost view = { λ any. value_of_events (nodes_events any.octets.items any.nodes.items) };
 
     ghost invariant = { λ any. AreNodes any.octets.items 0 any.nodes.items × Opens 32 [] (nodes_events any.octets.items any.nodes.items) [] × HoldEndings 0 any.nodes.items };
+}
+
+/// A walk over the value, as [`Any::events`] gives it.
+impl<'a> IntoIterator for &'a Any {
+    ghost use Rattle.std.specs.Prelude.{◌≡◌};
+    ghost use Rattle.bac_data.specs.Events.{events};
+
+    type Item = Event<'a>;
+
+    type IntoIter = Events<'a>;
+
+    ghost into_iter_gives = { λ any walk. walk ≡ events any.now };
+
+    fn into_iter(self) -> Events<'a> {
+        self.events()
+    }
 }
 
 impl Any {

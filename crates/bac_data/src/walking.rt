@@ -83,4 +83,8 @@ impl<'a> Iterator for Events<'a> {
         self.nodes = others;
         Some(step_of(self.octets, *node))
     }
+
+    fn size_hint(&self) -> (usize, Option<usize>) {
+        (self.nodes.len(), Some(self.nodes.len()))
+    }
 }

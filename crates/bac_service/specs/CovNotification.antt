@@ -11,25 +11,25 @@ use Rattle.bac_service.specs.Productions.{Both, Items, Grouped, IsRecordOf}
 
 -- what a notification says
 pub record Notification : Type 0 where
-  pub process : Unsigned32
+  pub process_identifier : Unsigned32
   pub device : Identifier
   pub object : Identifier
-  pub remaining : Unsigned32
+  pub time_remaining : Unsigned32
   pub values : List PropertyValue
 
 abbrev pub notification_of : CovNotification → Notification
-notification_of n = record { process = n.process; device = n.device; object = n.object; remaining = n.remaining; values = n.values.items }
+notification_of n = record { process_identifier = n.process_identifier; device = n.device; object = n.object; time_remaining = n.time_remaining; values = n.values.items }
 
 abbrev pub SpellsNotification : ℕ → Notification → List ℕ → Type 0
 SpellsNotification groups n =
-    Joins (UnsignedField 0 n.process) (Joins (ObjectField 1 n.device) (Joins (ObjectField 2 n.object) (
-    Joins (UnsignedField 3 n.remaining) (Grouped 4 (Items (SpellsPropertyValue groups)) n.values)
+    Joins (UnsignedField 0 n.process_identifier) (Joins (ObjectField 1 n.device) (Joins (ObjectField 2 n.object) (
+    Joins (UnsignedField 3 n.time_remaining) (Grouped 4 (Items (SpellsPropertyValue groups)) n.values)
     )))
 
 pub notification_parts : (groups : ℕ) → IsRecordOf (Both (UnsignedField 0) (Both (ObjectField 1) (Both (ObjectField 2) (Both (UnsignedField 3) (Grouped 4 (Items (SpellsPropertyValue groups))))))) (SpellsNotification groups)
 notification_parts groups = record {
-  fields = λ n. (n.process, (n.device, (n.object, (n.remaining, n.values))));
-  of_fields = λ p. record { process = p.0; device = p.1.0; object = p.1.1.0; remaining = p.1.1.1.0; values = p.1.1.1.1 };
+  fields = λ n. (n.process_identifier, (n.device, (n.object, (n.time_remaining, n.values))));
+  of_fields = λ p. record { process_identifier = p.0; device = p.1.0; object = p.1.1.0; time_remaining = p.1.1.1.0; values = p.1.1.1.1 };
   same = λ n. refl;
   split = λ n b s. s;
   joined = λ p b s. s;

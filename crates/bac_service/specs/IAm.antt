@@ -7,14 +7,14 @@ use Rattle.bac_service.specs.Productions.{Both, IsRecordOf}
 
 abbrev pub SpellsIAm : IAm → List ℕ → Type 0
 SpellsIAm request =
-    Joins (ApplicationObject request.object)
-    (Joins (ApplicationUnsigned request.apdu)
+    Joins (ApplicationObject request.device)
+    (Joins (ApplicationUnsigned request.max_apdu_length)
     (Joins (ApplicationEnumerated request.segmentation) (ApplicationUnsigned16 request.vendor)))
 
 pub i_am_parts : IsRecordOf (Both ApplicationObject (Both ApplicationUnsigned (Both ApplicationEnumerated ApplicationUnsigned16))) SpellsIAm
 i_am_parts = record {
-  fields = λ r. (r.object, (r.apdu, (r.segmentation, r.vendor)));
-  of_fields = λ p. record { object = p.0; apdu = p.1.0; segmentation = p.1.1.0; vendor = p.1.1.1 };
+  fields = λ r. (r.device, (r.max_apdu_length, (r.segmentation, r.vendor)));
+  of_fields = λ p. record { device = p.0; max_apdu_length = p.1.0; segmentation = p.1.1.0; vendor = p.1.1.1 };
   same = λ r. refl;
   split = λ r b s. s;
   joined = λ p b s. s;

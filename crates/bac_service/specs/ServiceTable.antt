@@ -1,5 +1,5 @@
 -- The table of services: which production a kind and a service choice name (clause 21).
-use Rattle.std.specs.Prelude.{ℕ, Bool, true, false, nat_eq, Option, None, Some, List, [], ◌∷◌, ◌++◌}
+use Rattle.std.specs.Prelude.{◌≢◌, ℕ, Bool, true, false, nat_eq, Option, None, Some, List, [], ◌∷◌, ◌++◌}
 use Rattle.std.specs.Map.{lookup}
 use Rattle.bac_service.specs.declared.kind.Kind.{Kind}
 use Rattle.bac_service.specs.declared.kind.Kind.TheVariants.{Confirmed, Unconfirmed, ComplexAck, Error}
@@ -26,6 +26,13 @@ rows multiple Error =
 -- the production of a kind and a choice: none where no row stands
 abbrev pub production_of : Bool → Kind → ℕ → Option ServiceProduction
 production_of multiple kind choice = lookup (λ c. nat_eq c choice) (rows multiple kind)
+
+-- the pairs that name the same production whether WritePropertyMultiple is typed or not
+abbrev pub IsUnchanged : Kind → ℕ → Type 0
+IsUnchanged Confirmed choice = choice ≢ 16
+IsUnchanged Unconfirmed choice = Unit {0}
+IsUnchanged ComplexAck choice = Unit {0}
+IsUnchanged Error choice = choice ≢ 16
 
 -- a production without a list and without an open value
 abbrev pub is_small_production : Option ServiceProduction → Bool

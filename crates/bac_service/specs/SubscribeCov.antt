@@ -12,7 +12,7 @@ use Rattle.bac_service.specs.Productions.{Both, Optional, IsRecordOf}
 
 abbrev pub SpellsSubscribeCov : SubscribeCov → List ℕ → Type 0
 SpellsSubscribeCov request =
-    Joins (UnsignedField 0 request.process)
+    Joins (UnsignedField 0 request.process_identifier)
     (Joins (ObjectField 1 request.object)
     (Joins (Optional (BooleanField 2) request.confirmed) (Optional (UnsignedField 3) request.lifetime)))
 
@@ -58,16 +58,16 @@ abbrev pub SubscribeCovParts : Unsigned32 × (Identifier × (Option Boolean × O
 SubscribeCovParts = Both (UnsignedField 0) (Both (ObjectField 1) (Both (Optional BitField) (Optional (UnsignedField 3))))
 
 abbrev pub subscribe_cov_of : Unsigned32 × (Identifier × (Option Boolean × Option Unsigned32)) → SubscribeCov
-subscribe_cov_of p = record { process = p.0; object = p.1.0; confirmed = option_map bit_of p.1.1.0; lifetime = p.1.1.1 }
+subscribe_cov_of p = record { process_identifier = p.0; object = p.1.0; confirmed = option_map bit_of p.1.1.0; lifetime = p.1.1.1 }
 
 pub subscribe_cov_alike : (p : Unsigned32 × (Identifier × (Option Boolean × Option Unsigned32))) (b : List ℕ) → SubscribeCovParts p b ↔ SpellsSubscribeCov (subscribe_cov_of p) b
 subscribe_cov_alike p b = (third b (λ c. (bits_alike p.1.1.0 c).0), third b (λ c. (bits_alike p.1.1.0 c).1))
 
 pub subscribe_cov_parts : IsRecordOf SubscribeCovParts SpellsSubscribeCov
 subscribe_cov_parts = record {
-  fields = λ r. (r.process, (r.object, (option_map boolean_of r.confirmed, r.lifetime)));
+  fields = λ r. (r.process_identifier, (r.object, (option_map boolean_of r.confirmed, r.lifetime)));
   of_fields = subscribe_cov_of;
-  same = λ r. ap (λ (c : Option Bool). let s : SubscribeCov = record { process = r.process; object = r.object; confirmed = c; lifetime = r.lifetime } in s) (bits_back r.confirmed);
+  same = λ r. ap (λ (c : Option Bool). let s : SubscribeCov = record { process_identifier = r.process_identifier; object = r.object; confirmed = c; lifetime = r.lifetime } in s) (bits_back r.confirmed);
   split = λ r b. third b (λ c. (booleans_alike r.confirmed c).1);
   joined = λ p b. (subscribe_cov_alike p b).0;
 }

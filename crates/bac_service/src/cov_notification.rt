@@ -20,13 +20,13 @@ pub struct CovNotification {
     /// Whether the notification wants an answer.
     pub confirmed: bool,
     /// The process of the subscriber for which the notification is.
-    pub process: Unsigned32,
+    pub process_identifier: Unsigned32,
     /// The device that notifies.
     pub device: ObjectId,
     /// The object that is watched.
     pub object: ObjectId,
     /// For how many seconds the subscription goes on; 0 where it has no end.
-    pub remaining: Unsigned32,
+    pub time_remaining: Unsigned32,
     /// The values of the object, in their order. There may be none.
     pub values: Vec<PropertyValue>,
 }
@@ -56,22 +56,22 @@ impl Record for CovNotification {
 
     /// Leaves `confirmed` false: the octets do not tell it. `decode_notification` puts it in, by the service choice.
     fn from_parts(parts: Parts) -> CovNotification {
-        let (process, (device, (object, (remaining, values)))) = parts;
+        let (process_identifier, (device, (object, (time_remaining, values)))) = parts;
         CovNotification {
             confirmed: false,
-            process: process.0,
+            process_identifier: process_identifier.0,
             device: device.0,
             object: object.0,
-            remaining: remaining.0,
+            time_remaining: time_remaining.0,
             values: values.0,
         }
     }
 
     fn write_fields(&self, out: &mut Vec<u8>) -> Result<(), OutOfMemory> {
-        Field::<Unsigned32, 0>(self.process).write(out)?;
+        Field::<Unsigned32, 0>(self.process_identifier).write(out)?;
         Field::<ObjectId, 1>(self.device).write(out)?;
         Field::<ObjectId, 2>(self.object).write(out)?;
-        Field::<Unsigned32, 3>(self.remaining).write(out)?;
+        Field::<Unsigned32, 3>(self.time_remaining).write(out)?;
         write_group::<Vec<PropertyValue>, 4>(&self.values, out)
     }
 

@@ -20,9 +20,9 @@ use bac_value::{Enumerated, ObjectId};
 #[derive(Clone, Copy, Debug, PartialEq, Eq)]
 pub struct IAm {
     /// The device.
-    pub object: ObjectId,
+    pub device: ObjectId,
     /// The most octets of an APDU that it takes.
-    pub apdu: Unsigned32,
+    pub max_apdu_length: Unsigned32,
     /// Which messages in segments it can do: 0, it sends and takes them; 1, it sends them; 2, it takes them;
     /// 3, neither. Other numbers are kept.
     pub segmentation: Enumerated,
@@ -51,18 +51,18 @@ impl Record for IAm {
     ghost spells = { SpellsIAm };
 
     fn from_parts(parts: Parts) -> IAm {
-        let (object, (apdu, (segmentation, vendor))) = parts;
+        let (device, (max_apdu_length, (segmentation, vendor))) = parts;
         IAm {
-            object: object.0,
-            apdu: apdu.0,
+            device: device.0,
+            max_apdu_length: max_apdu_length.0,
             segmentation: segmentation.0,
             vendor: vendor.0,
         }
     }
 
     fn write_fields(&self, out: &mut Vec<u8>) -> Result<(), OutOfMemory> {
-        ApplicationField(self.object).write(out)?;
-        ApplicationField(self.apdu).write(out)?;
+        ApplicationField(self.device).write(out)?;
+        ApplicationField(self.max_apdu_length).write(out)?;
         ApplicationField(self.segmentation).write(out)?;
         ApplicationField(self.vendor).write(out)
     }

@@ -7,7 +7,7 @@ ghost use Rattle.bac_service.specs.declared.kind.Kind.TheVariants.{Error};
 ghost use Rattle.bac_service.specs.ServiceTable.{service_error, rows, production_of};
 
 /// The APDUs that carry a service (clause 20.1).
-#[derive(Clone, Copy, Debug, PartialEq, Eq)]
+#[derive(Clone, Copy, Debug, PartialEq, Eq, Hash)]
 pub enum Kind {
     /// A request that wants an answer.
     Confirmed,

@@ -1,9 +1,10 @@
 //! Laws of the definitions.
 
-ghost use Rattle.std.specs.Prelude.{◌≡◌, ◌↔◌, ◌⊎◌, ℕ, List, true, IsTrue};
+ghost use Rattle.std.specs.Prelude.{◌≡◌, ◌↔◌, ◌⊎◌, ℕ, List, true, false, IsTrue};
 ghost use Rattle.bac_tag.specs.Spelling.{IsLeast, IsViable, IsPartway, OneOf};
 ghost use Rattle.bac_service.specs.declared.kind.Kind.{Kind};
 ghost use Rattle.bac_service.specs.Productions.{Both};
+ghost use Rattle.bac_service.specs.ServiceTable.{IsUnchanged};
 ghost use Rattle.bac_service.specs.ServiceValues.{ServiceValue};
 ghost use Rattle.bac_service.specs.Services.{SpellsService};
 
@@ -52,6 +53,13 @@ pub fn canonical_octets_tell_the_service()
 {
     services_have_one_value();
 }
+
+/// A service that was spelled while WritePropertyMultiple was opaque and 16 groups nested, and is none of the two of
+/// choice 16 that are typed now, is spelled by the same lists, and has the same canonical octets.
+pub fn former_services_are_kept()
+    ensures spelled { (kind : Kind) (choice : ℕ) (v : ServiceValue) (b : List ℕ) → IsUnchanged kind choice → SpellsService false 16 kind choice v b → SpellsService true 32 kind choice v b }
+    ensures least { (kind : Kind) (choice : ℕ) (v : ServiceValue) (b : List ℕ) → IsUnchanged kind choice → IsLeast (SpellsService false 16 kind choice v) b → IsLeast (SpellsService true 32 kind choice v) b }
+{}
 
 /// A list begins a spelling of one part or another exactly where it begins one of either.
 pub(crate) fn choices_are_viable_in_a_case<A: Production, B: Production>()

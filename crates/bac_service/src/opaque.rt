@@ -9,16 +9,30 @@ ghost use Rattle.bac_service.specs.Services.{SpellsSaid, IsPlaced};
 use crate::kind::{Kind, has_production};
 use bac_tag::OutOfMemory;
 use std::alloc::Global;
+use std::error::Error;
+use std::fmt;
+use std::fmt::Display;
 use std::marker::Model;
 
 /// Why there is no such opaque service. Typed comes first.
 #[derive(Clone, Copy, Debug, PartialEq, Eq)]
 pub enum OpaqueFault {
     /// The kind and the choice have a production.
-    Typed,
+    Typed = 1,
     /// Memory was refused.
     OutOfMemory,
 }
+
+impl Display for OpaqueFault {
+    fn fmt<W: fmt::Write>(&self, formatter: &mut fmt::Formatter<W>) -> fmt::Result {
+        formatter.write_str(match self {
+            OpaqueFault::Typed => "the kind and the service choice have a production",
+            OpaqueFault::OutOfMemory => "out of memory",
+        })
+    }
+}
+
+impl Error for OpaqueFault {}
 
 /// A service of a kind and a choice without a production. It means its octets, whatever they are and however many.
 #[derive(Debug, Drop)]

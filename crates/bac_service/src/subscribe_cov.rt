@@ -21,7 +21,7 @@ use bac_value::{Boolean, ObjectId};
 #[derive(Clone, Copy, Debug, PartialEq, Eq)]
 pub struct SubscribeCov {
     /// The number of the subscriber's process.
-    pub process: Unsigned32,
+    pub process_identifier: Unsigned32,
     /// The object to watch.
     pub object: ObjectId,
     /// Whether the notifications are to be confirmed.
@@ -51,9 +51,9 @@ impl Record for SubscribeCov {
     ghost spells = { SpellsSubscribeCov };
 
     fn from_parts(parts: Parts) -> SubscribeCov {
-        let (process, (object, (confirmed, lifetime))) = parts;
+        let (process_identifier, (object, (confirmed, lifetime))) = parts;
         SubscribeCov {
-            process: process.0,
+            process_identifier: process_identifier.0,
             object: object.0,
             confirmed: bit_of(bare(confirmed)),
             lifetime: bare(lifetime),
@@ -61,7 +61,7 @@ impl Record for SubscribeCov {
     }
 
     fn write_fields(&self, out: &mut Vec<u8>) -> Result<(), OutOfMemory> {
-        Field::<Unsigned32, 0>(self.process).write(out)?;
+        Field::<Unsigned32, 0>(self.process_identifier).write(out)?;
         Field::<ObjectId, 1>(self.object).write(out)?;
         under::<Boolean, 2>(boolean_of(self.confirmed)).write(out)?;
         under::<Unsigned32, 3>(self.lifetime).write(out)

@@ -17,8 +17,14 @@ const MOST: u64 = 0xFFFF;
 
 /// An Unsigned below 2^16 (clause 20.2.4): 1 to 8 octets, the most significant octet first. The fewest are
 /// written.
-#[derive(Clone, Copy, Debug, PartialEq, Eq)]
+#[derive(Clone, Copy, Debug, PartialEq, Eq, PartialOrd, Ord, Hash)]
 pub struct Unsigned16(pub u16);
+
+impl From<u16> for Unsigned16 {
+    fn from(number: u16) -> Unsigned16 {
+        Unsigned16(number)
+    }
+}
 
 impl Primitive for Unsigned16 {
     const APP: u8 = 2;

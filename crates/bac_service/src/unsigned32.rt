@@ -17,8 +17,14 @@ const MOST: u64 = 0xFFFF_FFFF;
 
 /// An Unsigned below 2^32 (clause 20.2.4): 1 to 8 octets, the most significant octet first. The fewest are
 /// written.
-#[derive(Clone, Copy, Debug, PartialEq, Eq)]
+#[derive(Clone, Copy, Debug, PartialEq, Eq, PartialOrd, Ord, Hash)]
 pub struct Unsigned32(pub u32);
+
+impl From<u32> for Unsigned32 {
+    fn from(number: u32) -> Unsigned32 {
+        Unsigned32(number)
+    }
+}
 
 impl Primitive for Unsigned32 {
     const APP: u8 = 2;

@@ -4,6 +4,9 @@ ghost use Rattle.std.specs.Prelude.{◌≡◌, ◌+◌, ◌^◌, ◌<◌};
 ghost use Rattle.bac_tag.specs.Refusals.{name_of, weight_of, farther_of, behind};
 
 use std::alloc::{AllocError, AllocFailed};
+use std::error::Error;
+use std::fmt;
+use std::fmt::Display;
 
 /// Why an input is refused.
 #[derive(Clone, Copy, Debug, PartialEq, Eq)]
@@ -53,6 +56,12 @@ impl Why {
             Why::NotCanonical => "NotCanonical",
             Why::OutOfMemory => "OutOfMemory",
         }
+    }
+}
+
+impl Display for Why {
+    fn fmt<W: fmt::Write>(&self, formatter: &mut fmt::Formatter<W>) -> fmt::Result {
+        formatter.write_str(self.name())
     }
 }
 
@@ -109,9 +118,26 @@ impl Refusal {
     }
 }
 
+/// As `Tag at 3`.
+impl Display for Refusal {
+    fn fmt<W: fmt::Write>(&self, formatter: &mut fmt::Formatter<W>) -> fmt::Result {
+        write!(formatter, "{} at {}", self.why, self.place)
+    }
+}
+
+impl Error for Refusal {}
+
 /// Memory was wanted and refused.
 #[derive(Clone, Copy, Debug, PartialEq, Eq)]
 pub struct OutOfMemory;
+
+impl Display for OutOfMemory {
+    fn fmt<W: fmt::Write>(&self, formatter: &mut fmt::Formatter<W>) -> fmt::Result {
+        formatter.write_str("out of memory")
+    }
+}
+
+impl Error for OutOfMemory {}
 
 impl From<AllocError> for OutOfMemory {
     fn from(_error: AllocError) -> OutOfMemory {

@@ -97,6 +97,13 @@ impl Bits {
         bit_count(&self.contents)
     }
 
+    /// Whether there is no bit.
+    pub fn is_empty(&self) -> bool
+        ensures { IsTrue result ↔ (length self.now ≡ 0) }
+    {
+        self.len() == 0
+    }
+
     /// One bit, counted from 0, and none past the end.
     pub fn get(&self, place: usize) -> Option<bool>
         ensures { result ≡ slice_get self.now place }

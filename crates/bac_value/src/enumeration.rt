@@ -18,8 +18,14 @@ const MOST: u64 = 0xFFFF_FFFF;
 
 /// An enumerated value: 1 to 8 octets of a number below 2^32, the most significant octet first. The fewest
 /// are written.
-#[derive(Clone, Copy, Debug, PartialEq, Eq)]
+#[derive(Clone, Copy, Debug, PartialEq, Eq, PartialOrd, Ord, Hash)]
 pub struct Enumerated(pub u32);
+
+impl From<u32> for Enumerated {
+    fn from(number: u32) -> Enumerated {
+        Enumerated(number)
+    }
+}
 
 impl Primitive for Enumerated {
     const APP: u8 = 9;

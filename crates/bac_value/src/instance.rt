@@ -10,6 +10,7 @@ use crate::primitives::Primitive;
 use crate::ranged_numbers::{
     hopeless_number, mark_number, read_number, write_number, written_number_len,
 };
+use crate::value_faults::OutOfRange;
 use bac_tag::{OutOfMemory, Refusal};
 use std::alloc::Global;
 use std::marker::Model;
@@ -19,7 +20,7 @@ const LAST: u32 = 0x3F_FFFF;
 
 /// The instance of an object of some kind: 0 to 4,194,303. Its contents are those of an Unsigned (clause
 /// 20.2.4), of which the fewest octets are written.
-#[derive(Clone, Copy, Debug, PartialEq, Eq)]
+#[derive(Clone, Copy, Debug, PartialEq, Eq, PartialOrd, Ord, Hash)]
 pub struct Instance {
     number: u32,
 }
@@ -52,6 +53,25 @@ impl Instance {
         ensures range { result ≤ 4194303 }
     {
         self.number
+    }
+}
+
+impl TryFrom<u32> for Instance {
+    ghost use Rattle.std.specs.Prelude.{◌≡◌, ◌≤◌, ◌↔◌, IsOk, IfOk};
+
+    type Error = OutOfRange;
+
+    ghost try_from_gives = { λ number result. (IsOk result ↔ (number ≤ 4194303)) × IfOk result (λ instance. instance ≡ number) };
+
+    /// The instance with that number.
+    ///
+    /// # Errors
+    /// `OutOfRange` above 4,194,303.
+    fn try_from(number: u32) -> Result<Instance, OutOfRange> {
+        match Instance::new(number) {
+            Some(instance) => Ok(instance),
+            None => Err(OutOfRange),
+        }
     }
 }
 

@@ -49,4 +49,4 @@ pub use real::RealBits;
 pub use signed_integer::Signed;
 pub use time_value::Time;
 pub use unsigned_integer::Unsigned;
-pub use value_faults::ValueFault;
+pub use value_faults::{OutOfRange, ValueFault};

@@ -20,7 +20,7 @@ const MOST_INSTANCE: u32 = 0x3F_FFFF;
 
 /// A kind of object and an instance of it. Four octets, the most significant octet first: 10 bits of kind,
 /// then 22 bits of instance.
-#[derive(Clone, Copy, Debug, PartialEq, Eq)]
+#[derive(Clone, Copy, Debug, PartialEq, Eq, PartialOrd, Ord, Hash)]
 pub struct ObjectId {
     kind: u16,
     instance: u32,

@@ -10,6 +10,7 @@ use crate::primitives::Primitive;
 use crate::ranged_numbers::{
     hopeless_number, mark_number, read_number, write_number, written_number_len,
 };
+use crate::value_faults::OutOfRange;
 use bac_tag::{OutOfMemory, Refusal};
 use std::alloc::Global;
 use std::marker::Model;
@@ -22,7 +23,7 @@ const LAST: u8 = 16;
 
 /// The priority of a command: 1, which comes first, to 16. Its contents are those of an Unsigned (clause
 /// 20.2.4), of which the fewest octets are written.
-#[derive(Clone, Copy, Debug, PartialEq, Eq)]
+#[derive(Clone, Copy, Debug, PartialEq, Eq, PartialOrd, Ord, Hash)]
 pub struct Priority {
     number: u8,
 }
@@ -55,6 +56,25 @@ impl Priority {
         ensures range { (1 ≤ result) × (result ≤ 16) }
     {
         self.number
+    }
+}
+
+impl TryFrom<u8> for Priority {
+    ghost use Rattle.std.specs.Prelude.{◌≡◌, ◌≤◌, ◌↔◌, IsOk, IfOk};
+
+    type Error = OutOfRange;
+
+    ghost try_from_gives = { λ number result. (IsOk result ↔ ((1 ≤ number) × (number ≤ 16))) × IfOk result (λ priority. priority ≡ number) };
+
+    /// The priority with that number.
+    ///
+    /// # Errors
+    /// `OutOfRange` where it is not 1 to 16.
+    fn try_from(number: u8) -> Result<Priority, OutOfRange> {
+        match Priority::new(number) {
+            Some(priority) => Ok(priority),
+            None => Err(OutOfRange),
+        }
     }
 }
 

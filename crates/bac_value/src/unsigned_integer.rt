@@ -14,8 +14,14 @@ use bac_tag::{OutOfMemory, Refusal};
 use std::alloc::Global;
 
 /// An unsigned integer: 1 to 8 octets, the most significant octet first. The fewest are written.
-#[derive(Clone, Copy, Debug, PartialEq, Eq)]
+#[derive(Clone, Copy, Debug, PartialEq, Eq, PartialOrd, Ord, Hash)]
 pub struct Unsigned(pub u64);
+
+impl From<u64> for Unsigned {
+    fn from(number: u64) -> Unsigned {
+        Unsigned(number)
+    }
+}
 
 impl Primitive for Unsigned {
     const APP: u8 = 2;

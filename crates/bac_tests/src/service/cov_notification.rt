@@ -25,10 +25,10 @@ const HEADING: [u8; 14] = [9, 0x12, 0x1C, 2, 0, 0, 4, 0x2C, 0, 0, 0, 0x0A, 0x39,
 
 /// The notification has the fields of those octets.
 fn tells_two_values(rt: &impl Abort, notification: &CovNotification) -> Result<(), Fail> {
-    assert_eq!(rt; notification.process, Unsigned32(18));
+    assert_eq!(rt; notification.process_identifier, Unsigned32(18));
     assert_eq!(rt; notification.device, object(8, 4)?);
     assert_eq!(rt; notification.object, object(0, 10)?);
-    assert_eq!(rt; notification.remaining, Unsigned32(0));
+    assert_eq!(rt; notification.time_remaining, Unsigned32(0));
     let [first, second] = notification.values.as_slice() else {
         panic!(rt; "{notification:?}")
     };
@@ -71,7 +71,7 @@ fn a_value_has_an_index_and_a_priority(rt: HostRuntime) -> Result<(), Fail> {
     ];
     match canonical(&rt, rt.alloc(), UNCONFIRMED, &octets)? {
         Service::CovNotification(notification) => {
-            assert_eq!(rt; notification.remaining, Unsigned32(3600));
+            assert_eq!(rt; notification.time_remaining, Unsigned32(3600));
             let [value] = notification.values.as_slice() else {
                 panic!(rt; "{notification:?}")
             };

@@ -22,8 +22,8 @@ fn a_device_tells_its_largest_message_and_its_vendor(rt: HostRuntime) -> Result<
     match canonical(&rt, rt.alloc(), SERVICE, &octets)? {
         Service::IAm(request) => {
             let wanted = IAm {
-                object: object(8, 1)?,
-                apdu: Unsigned32(480),
+                device: object(8, 1)?,
+                max_apdu_length: Unsigned32(480),
                 segmentation: Enumerated(3),
                 vendor: Unsigned16(99),
             };

@@ -73,10 +73,10 @@ fn notifications_of_both_kinds_are_written_alike(rt: HostRuntime) -> Result<(), 
     for (confirmed, kind, choice) in [(true, Kind::Confirmed, 1), (false, Kind::Unconfirmed, 2)] {
         let service = Service::CovNotification(CovNotification {
             confirmed,
-            process: Unsigned32(18),
+            process_identifier: Unsigned32(18),
             device: object(8, 4)?,
             object: object(0, 10)?,
-            remaining: Unsigned32(0),
+            time_remaining: Unsigned32(0),
             values: Vec::new(rt.alloc()),
         });
         is_written(&rt, rt.alloc(), &service, kind, choice, &octets)?;

@@ -143,41 +143,41 @@ fn questions_have_their_fields(rt: HostRuntime) -> Result<(), Fail> {
 
 #[test]
 fn a_subscription_has_its_fields(rt: HostRuntime) -> Result<(), Fail> {
-    let (process, object) = (Unsigned32(18), object(0, 5)?);
+    let (process_identifier, object) = (Unsigned32(18), object(0, 5)?);
     let end = SubscribeCov {
-        process,
+        process_identifier,
         object,
         confirmed: None,
         lifetime: None,
     };
     let endless = SubscribeCov {
-        process,
+        process_identifier,
         object,
         confirmed: Some(true),
         lifetime: Some(Unsigned32(0)),
     };
     let text =
-        "SubscribeCov { process: Unsigned32(18), object: ObjectId { kind: 0, instance: 5 }, confirmed: None, lifetime: None }";
+        "SubscribeCov { process_identifier: Unsigned32(18), object: ObjectId { kind: 0, instance: 5 }, confirmed: None, lifetime: None }";
     is_shown(&rt, rt.alloc(), end, endless, text)
 }
 
 #[test]
 fn a_device_has_its_fields(rt: HostRuntime) -> Result<(), Fail> {
-    let object = object(8, 1)?;
-    let (apdu, segmentation) = (Unsigned32(480), Enumerated(3));
+    let device = object(8, 1)?;
+    let (max_apdu_length, segmentation) = (Unsigned32(480), Enumerated(3));
     let first = IAm {
-        object,
-        apdu,
+        device,
+        max_apdu_length,
         segmentation,
         vendor: Unsigned16(99),
     };
     let second = IAm {
-        object,
-        apdu,
+        device,
+        max_apdu_length,
         segmentation,
         vendor: Unsigned16(98),
     };
     let text =
-        "IAm { object: ObjectId { kind: 8, instance: 1 }, apdu: Unsigned32(480), segmentation: Enumerated(3), vendor: Unsigned16(99) }";
+        "IAm { device: ObjectId { kind: 8, instance: 1 }, max_apdu_length: Unsigned32(480), segmentation: Enumerated(3), vendor: Unsigned16(99) }";
     is_shown(&rt, rt.alloc(), first, second, text)
 }

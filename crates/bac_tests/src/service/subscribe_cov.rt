@@ -18,7 +18,7 @@ fn a_subscription_without_end_has_lifetime_0(rt: HostRuntime) -> Result<(), Fail
     match canonical(&rt, rt.alloc(), SERVICE, &octets)? {
         Service::SubscribeCov(request) => {
             let wanted = SubscribeCov {
-                process: Unsigned32(18),
+                process_identifier: Unsigned32(18),
                 object: object(0, 10)?,
                 confirmed: Some(true),
                 lifetime: Some(Unsigned32(0)),
