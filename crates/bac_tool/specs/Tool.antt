@@ -63,26 +63,27 @@ TakesPart old new octets = (count : ℕ) × TakesFront old.taken new.taken octet
 abbrev pub Receives : Sink → Sink → List ℕ → Type 0
 Receives old new octets = (Appends old.taken new.taken octets × (new.failures ≡ old.failures)) ⊎ TakesPart old new octets
 
--- Nothing was written to the output, and the errors took this text. That is failure.
+-- Nothing was written to the output, and the errors received this text. That is failure.
 pub record Tells (output output' errors errors' : Sink) (text : List ℕ) (status : ℕ) : Type 0 where
   pub unwritten : output' ≡ output
   pub told : Receives errors errors' text
   pub status_is : status ≡ 2
 
--- A text went to the output: the status is 0 where the output took it whole.
-abbrev pub Writes : Sink → Sink → ℕ → Type 0
-Writes output output' status = (text : List ℕ) ×
-    ((Appends output.taken output'.taken text × (output'.failures ≡ output.failures) × (status ≡ 0)) ⊎ (TakesPart output output' text × (status ≡ 2)))
+-- A text was written to the output. Where the output took it whole the errors took nothing, and all went well.
+abbrev pub Writes : Sink → Sink → Sink → Sink → ℕ → Type 0
+Writes output output' errors errors' status = (text : List ℕ) ×
+    ((Appends output.taken output'.taken text × (output'.failures ≡ output.failures) × (errors' ≡ errors) × (status ≡ 0))
+    ⊎ (TakesPart output output' text × (status ≡ 2)))
 
 -- How words that name no job are answered: want of memory by its line on the errors, help by a text on the output, and a
 -- mistake by a text on the errors. Memory may be wanted for either text too.
 abbrev pub Answers : ErrorKind → Sink → Sink → Sink → Sink → ℕ → Type 0
 Answers OutOfMemory output output' errors errors' status = Tells output output' errors errors' out_of_memory status
-Answers DisplayHelp output output' errors errors' status = Tells output output' errors errors' out_of_memory status ⊎ Writes output output' status
+Answers DisplayHelp output output' errors errors' status = Tells output output' errors errors' out_of_memory status ⊎ Writes output output' errors errors' status
 Answers _ output output' errors errors' status = (text : List ℕ) × Tells output output' errors errors' text status
 
--- No job was run, and nothing was read: memory was wanted, or the words have a fault, of which they are told. Words that the
--- command line takes have none.
+-- No job was run, and nothing was read: memory was wanted, or the words have a fault and are answered by its kind. For words
+-- that the command line takes it is memory.
 pub record HasNotRun (takes : Bool) (faults : Kinds) (input input' : Source) (output output' errors errors' : Sink) (status : ℕ) : Type 0 where
   pub kind : ErrorKind
   pub is_fault : (kind ≡ OutOfMemory) ⊎ IsAmong kind faults
