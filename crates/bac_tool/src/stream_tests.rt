@@ -156,15 +156,15 @@ fn records_come_back(rt: HostRuntime) -> Result<(), Fail> {
 }
 
 /// Numbers of octets at which a record could be taken for a longer or a shorter one.
-const SIZES: [usize; 12] = [
+const SIZES: [u16; 12] = [
     0, 1, 255, 256, 1_000, 1_001, 1_497, 1_498, 32_768, 65_279, 65_534, 65_535,
 ];
 
-/// A record of so many octets.
-fn long_record(alloc: Global, size: usize) -> Result<Vec<u8>, Fail> {
-    let mut record = vec![in alloc; 0xAA; size + 2]?;
-    record[0] = (size / 256) as u8;
-    record[1] = (size % 256) as u8;
+/// The octets behind their length.
+fn record_of(alloc: Global, size: u16, octets: &[u8]) -> Result<Vec<u8>, Fail> {
+    let mut record = Vec::new(alloc);
+    record.extend_from_slice(&size.to_be_bytes())?;
+    record.extend_from_slice(octets)?;
     Ok(record)
 }
 
@@ -172,18 +172,20 @@ fn long_record(alloc: Global, size: usize) -> Result<Vec<u8>, Fail> {
 #[test]
 fn records_of_each_size_come_back(rt: HostRuntime) -> Result<(), Fail> {
     for size in SIZES {
-        let record = long_record(rt.alloc(), size)?;
+        let octets = vec![in rt.alloc(); 0xAA; usize::from(size)]?;
+        let record = record_of(rt.alloc(), size, &octets)?;
         let mut writer = Counted::new(Vec::new(rt.alloc()));
-        write_record(&mut writer, &record[2..])?;
+        write_record(&mut writer, &octets)?;
         assert!(rt; writer.device.as_slice() == record.as_slice(), "{size}");
 
         let mut reader = Counted::new(record.as_slice());
         let got = read_record(rt.alloc(), &mut reader)?;
-        assert!(rt; got.as_deref() == Some(&record[2..]), "{size}");
+        assert!(rt; got.as_deref() == Some(octets.as_slice()), "{size}");
         assert_eq!(rt; reader.device.len(), 0, "{size}");
 
-        let mut cut = Counted::new(&record[..size + 1]);
-        let fault = read_record(rt.alloc(), &mut cut).err();
+        let cut = record.len().saturating_sub(1);
+        let mut reader = Counted::new(&record[..cut]);
+        let fault = read_record(rt.alloc(), &mut reader).err();
         assert_eq!(rt; fault, Some(StreamFault::Truncated), "{size}");
     }
     Ok(())
@@ -193,14 +195,14 @@ fn records_of_each_size_come_back(rt: HostRuntime) -> Result<(), Fail> {
 #[test]
 fn a_run_takes_records_of_each_size(rt: HostRuntime) -> Result<(), Fail> {
     for size in SIZES {
-        let record = long_record(rt.alloc(), size)?;
+        let octets = vec![in rt.alloc(); 0xAA; usize::from(size)]?;
         let mut file = Vec::new(rt.alloc());
         file.extend_from_slice(&[0, 3, 1, 2, 3])?;
-        file.extend_from_slice(&record)?;
+        file.extend_from_slice(&record_of(rt.alloc(), size, &octets)?)?;
         file.extend_from_slice(&[0, 2, 8, 9])?;
         let mut want = Vec::new(rt.alloc());
         want.extend_from_slice(&[1, 2, 3])?;
-        want.extend_from_slice(&record[2..])?;
+        want.extend_from_slice(&octets)?;
         want.extend_from_slice(&[8, 9])?;
         for piece in [997, 65_536, usize::MAX] {
             let mut writer = Counted::new(Vec::new(rt.alloc()));
@@ -217,8 +219,8 @@ fn a_run_takes_records_of_each_size(rt: HostRuntime) -> Result<(), Fail> {
                 "{size} in pieces of {piece}"
             );
         }
+        let cut = file.len().saturating_sub(5);
         let mut writer = Counted::new(Vec::new(rt.alloc()));
-        let cut = file.len() - 5;
         let got = run(
             rt.alloc(),
             &CopyOctets,
