@@ -1,4 +1,5 @@
 //! Of tag heads, and of the words by which octets are refused.
 
 mod heads;
+mod refusals;
 mod short;

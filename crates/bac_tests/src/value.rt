@@ -1,6 +1,7 @@
 //! Of values of the primitive types.
 
 mod fixed;
+mod keys;
 mod limits;
 mod memory;
 mod numbers;

@@ -106,4 +106,5 @@ fn a_service_is_read_without_its_mark(rt: HostRuntime) -> Result<(), Fail> {
 fn laws_can_be_called() {
     laws::services_have_one_value();
     laws::canonical_octets_tell_the_service();
+    laws::former_services_are_kept();
 }

@@ -181,3 +181,16 @@ fn a_device_has_its_fields(rt: HostRuntime) -> Result<(), Fail> {
         "IAm { device: ObjectId { kind: 8, instance: 1 }, max_apdu_length: Unsigned32(480), segmentation: Enumerated(3), vendor: Unsigned16(99) }";
     is_shown(&rt, rt.alloc(), first, second, text)
 }
+
+#[test]
+fn faults_and_numbers_are_shown(rt: HostRuntime) -> Result<(), Fail> {
+    let fault = OpaqueFault::Typed;
+    assert_eq!(rt;
+        format!(in rt.alloc(); "{fault}")?.as_str(),
+        "the kind and the service choice have a production"
+    );
+    assert_eq!(rt; fault as u8, 1);
+    assert_eq!(rt; Unsigned32::from(u32::MAX), Unsigned32(u32::MAX));
+    assert!(rt; Unsigned16::from(255) < Unsigned16(256));
+    Ok(())
+}
