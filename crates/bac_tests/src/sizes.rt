@@ -17,12 +17,18 @@ pub fn mixed(alloc: Global, count: usize) -> Result<Vec<u8>, AllocError> {
     Ok(octets)
 }
 
-/// The pieces, one behind the other.
-pub fn joined(alloc: Global, pieces: &[&[u8]]) -> Result<Vec<u8>, AllocError> {
-    let mut octets = Vec::new(alloc);
-    for piece in pieces {
-        octets.extend_from_slice(piece)?;
-    }
+/// Four lists of octets, one behind the other.
+pub fn enclosed(
+    alloc: Global,
+    front: &[u8],
+    length: &[u8],
+    contents: &[u8],
+    behind: &[u8],
+) -> Result<Vec<u8>, AllocError> {
+    let mut octets = Vec::from_slice(alloc, front)?;
+    octets.extend_from_slice(length)?;
+    octets.extend_from_slice(contents)?;
+    octets.extend_from_slice(behind)?;
     Ok(octets)
 }
 

@@ -1,7 +1,7 @@
 //! Services of many octets and of long lists are decoded and encoded whole: no clause says that memory is there.
 
 use super::object;
-use crate::sizes::{ITEMS, joined, mixed, numbered};
+use crate::sizes::{ITEMS, enclosed, mixed, numbered};
 use bac_data::{Any, Event};
 use bac_service::{
     ErrorCause, Kind, Opaque, PropertyValue, ReadAccessResult, ReadResult, Service, decode_service,
@@ -18,6 +18,20 @@ const SIZES: [(usize, &[u8]); 3] = [
     (65_535, &[0xFE, 0xFF, 0xFF]),
     (1_048_576, &[0xFF, 0, 0x10, 0, 0]),
 ];
+
+/// The object 0:5 and its property 85, up to the length of an octet string.
+const PROPERTY: [u8; 9] = [0x0C, 0, 0, 0, 5, 0x19, 0x55, 0x3E, 0x65];
+
+/// The object 0:5, and the first result's property 85, up to the same.
+const RESULT: [u8; 10] = [0x0C, 0, 0, 0, 5, 0x1E, 0x29, 0x55, 0x4E, 0x65];
+
+/// Of the process 18, the device 8:4 and the object 0:10, and the first value's property 85, up to the same.
+const CHANGED: [u8; 19] = [
+    9, 0x12, 0x1C, 2, 0, 0, 4, 0x2C, 0, 0, 0, 0x0A, 0x39, 0, 0x4E, 9, 0x55, 0x2E, 0x65,
+];
+
+/// The object 1:1, and the first value's property 85, up to the same.
+const WRITTEN: [u8; 10] = [0x0C, 0, 0x40, 0, 1, 0x1E, 9, 0x55, 0x2E, 0x65];
 
 /// The numbers of the items of a long list.
 const NUMBERS: std::ops::Range<u16> = 1_000..11_000;
@@ -39,18 +53,51 @@ fn kept(
     Ok(found)
 }
 
-/// The value is one application primitive.
-fn is_primitive(rt: &impl Abort, value: &Any, wanted: PrimRef<'_>) {
+/// The value is one octet string.
+fn is_string(rt: &impl Abort, value: &Any, octets: &[u8]) {
     assert_eq!(rt; value.count(), 1);
     for event in value.events() {
-        assert!(rt; event == Event::App(wanted));
+        assert!(rt; event == Event::App(PrimRef::Octets(octets)));
     }
+}
+
+/// The one value of the list is that of the property 85: these octets.
+fn is_alone(rt: &impl Abort, values: &[PropertyValue], octets: &[u8]) {
+    let [value] = values else {
+        panic!(rt; "no list of one")
+    };
+    assert_eq!(rt; (value.property, value.index), (Enumerated(85), None));
+    assert_eq!(rt; value.priority, None);
+    is_string(rt, &value.value, octets);
+}
+
+/// The one result of the one object, which is 0:5, is the value of the property 85: these octets.
+fn tells_value(rt: &impl Abort, results: &[ReadAccessResult], octets: &[u8]) -> Result<(), Fail> {
+    let [told] = results else {
+        panic!(rt; "no list of one")
+    };
+    assert_eq!(rt; told.object, object(0, 5)?);
+    let Some(results) = &told.results else {
+        panic!(rt; "no results")
+    };
+    let [result] = results.as_slice() else {
+        panic!(rt; "no list of one")
+    };
+    assert_eq!(rt; (result.property, result.index), (Enumerated(85), None));
+    match &result.result {
+        ReadResult::Value(value) => is_string(rt, value, octets),
+        ReadResult::Error(cause) => panic!(rt; "{cause:?}"),
+    }
+    Ok(())
 }
 
 /// The value is a number.
 fn is_number(rt: &impl Abort, value: &Any, number: u16) {
-    let wanted = PrimRef::Unsigned(Unsigned(u64::from(number)));
-    is_primitive(rt, value, wanted);
+    assert_eq!(rt; value.count(), 1);
+    for event in value.events() {
+        let wanted = Unsigned(u64::from(number));
+        assert_eq!(rt; event, Event::App(PrimRef::Unsigned(wanted)));
+    }
 }
 
 // Of examples 32 and 49 of docs/EXAMPLES.md.
@@ -82,18 +129,14 @@ fn opaque_octets_of_every_size_are_kept(rt: HostRuntime) -> Result<(), Fail> {
 #[test]
 fn values_of_every_size_are_kept_in_an_answer(rt: HostRuntime) -> Result<(), Fail> {
     let alloc = rt.alloc();
-    let property = [0x0C, 0, 0, 0, 5, 0x19, 0x55];
     for (size, length) in SIZES {
         let contents = mixed(alloc, size)?;
-        let octets = joined(
-            alloc,
-            &[&property, &[0x3E, 0x65], length, &contents, &[0x3F]],
-        )?;
+        let octets = enclosed(alloc, &PROPERTY, length, &contents, &[0x3F])?;
         match kept(&rt, alloc, (Kind::ComplexAck, 12), &octets)? {
             Service::ReadPropertyAck(ack) => {
                 assert_eq!(rt; (ack.object, ack.property), (object(0, 5)?, Enumerated(85)));
                 assert_eq!(rt; ack.index, None);
-                is_primitive(&rt, &ack.value, PrimRef::Octets(&contents));
+                is_string(&rt, &ack.value, &contents);
             }
             _ => panic!(rt; "no answer of {size} octets"),
         }
@@ -104,14 +147,9 @@ fn values_of_every_size_are_kept_in_an_answer(rt: HostRuntime) -> Result<(), Fai
 #[test]
 fn values_of_every_size_are_kept_in_a_request(rt: HostRuntime) -> Result<(), Fail> {
     let alloc = rt.alloc();
-    let property = [0x0C, 0, 0, 0, 5, 0x19, 0x55];
     for (size, length) in SIZES {
         let contents = mixed(alloc, size)?;
-        let behind = [0x3F, 0x49, 8];
-        let octets = joined(
-            alloc,
-            &[&property, &[0x3E, 0x65], length, &contents, &behind],
-        )?;
+        let octets = enclosed(alloc, &PROPERTY, length, &contents, &[0x3F, 0x49, 8])?;
         match kept(&rt, alloc, (Kind::Confirmed, 15), &octets)? {
             Service::WriteProperty(request) => {
                 assert_eq!(rt;
@@ -119,7 +157,39 @@ fn values_of_every_size_are_kept_in_a_request(rt: HostRuntime) -> Result<(), Fai
                     (object(0, 5)?, Enumerated(85))
                 );
                 assert_eq!(rt; (request.index, request.priority), (None, Priority::new(8)));
-                is_primitive(&rt, &request.value, PrimRef::Octets(&contents));
+                is_string(&rt, &request.value, &contents);
+            }
+            _ => panic!(rt; "no request of {size} octets"),
+        }
+    }
+    Ok(())
+}
+
+// The values of examples 18, 20 and 74 of docs/EXAMPLES.md are an octet string, alone in their lists.
+#[test]
+fn values_of_every_size_are_kept_in_lists(rt: HostRuntime) -> Result<(), Fail> {
+    let alloc = rt.alloc();
+    for (size, length) in SIZES {
+        let contents = mixed(alloc, size)?;
+        let octets = enclosed(alloc, &RESULT, length, &contents, &[0x4F, 0x1F])?;
+        match kept(&rt, alloc, (Kind::ComplexAck, 14), &octets)? {
+            Service::ReadPropertyMultipleAck(ack) => {
+                tells_value(&rt, ack.results.as_slice(), &contents)?;
+            }
+            _ => panic!(rt; "no answer of {size} octets"),
+        }
+        let octets = enclosed(alloc, &CHANGED, length, &contents, &[0x2F, 0x4F])?;
+        match kept(&rt, alloc, (Kind::Unconfirmed, 2), &octets)? {
+            Service::CovNotification(told) => is_alone(&rt, told.values.as_slice(), &contents),
+            _ => panic!(rt; "no notification of {size} octets"),
+        }
+        let octets = enclosed(alloc, &WRITTEN, length, &contents, &[0x2F, 0x1F])?;
+        match kept(&rt, alloc, (Kind::Confirmed, 16), &octets)? {
+            Service::WritePropertyMultiple(request) => {
+                let [spec] = request.specs.as_slice() else {
+                    panic!(rt; "no list of one")
+                };
+                is_alone(&rt, spec.values.as_slice(), &contents);
             }
             _ => panic!(rt; "no request of {size} octets"),
         }
@@ -156,7 +226,7 @@ fn ten_thousand_objects_are_asked_for(rt: HostRuntime) -> Result<(), Fail> {
 fn ten_thousand_properties_are_asked_for(rt: HostRuntime) -> Result<(), Fail> {
     let alloc = rt.alloc();
     let references = numbered(alloc, &[0x0A], &[])?;
-    let octets = joined(alloc, &[&[0x0C, 0, 0, 0, 5, 0x1E], &references, &[0x1F]])?;
+    let octets = enclosed(alloc, &[0x0C, 0, 0, 0, 5, 0x1E], &references, &[0x1F], &[])?;
     match kept(&rt, alloc, (Kind::Confirmed, 14), &octets)? {
         Service::ReadPropertyMultiple(request) => {
             let [spec] = request.specs.as_slice() else {
@@ -214,7 +284,7 @@ fn ten_thousand_objects_are_answered(rt: HostRuntime) -> Result<(), Fail> {
 fn ten_thousand_results_are_told(rt: HostRuntime) -> Result<(), Fail> {
     let alloc = rt.alloc();
     let results = numbered(alloc, &[0x29, 0x55, 0x4E, 0x22], &[0x4F])?;
-    let octets = joined(alloc, &[&[0x0C, 0, 0, 0, 5, 0x1E], &results, &[0x1F]])?;
+    let octets = enclosed(alloc, &[0x0C, 0, 0, 0, 5, 0x1E], &results, &[0x1F], &[])?;
     match kept(&rt, alloc, (Kind::ComplexAck, 14), &octets)? {
         Service::ReadPropertyMultipleAck(ack) => {
             let [told] = ack.results.as_slice() else {
@@ -256,7 +326,7 @@ fn ten_thousand_values_are_told(rt: HostRuntime) -> Result<(), Fail> {
         9, 0x12, 0x1C, 2, 0, 0, 4, 0x2C, 0, 0, 0, 0x0A, 0x39, 0, 0x4E,
     ];
     let values = numbered(alloc, &[9, 0x55, 0x2E, 0x22], &[0x2F])?;
-    let octets = joined(alloc, &[&front, &values, &[0x4F]])?;
+    let octets = enclosed(alloc, &front, &values, &[0x4F], &[])?;
     for service in [(Kind::Confirmed, 1), (Kind::Unconfirmed, 2)] {
         match kept(&rt, alloc, service, &octets)? {
             Service::CovNotification(notification) => {
@@ -275,7 +345,7 @@ fn ten_thousand_values_are_written(rt: HostRuntime) -> Result<(), Fail> {
     let alloc = rt.alloc();
     let service = (Kind::Confirmed, 16);
     let values = numbered(alloc, &[9, 0x55, 0x2E, 0x22], &[0x2F])?;
-    let octets = joined(alloc, &[&[0x0C, 0, 0x40, 0, 1, 0x1E], &values, &[0x1F]])?;
+    let octets = enclosed(alloc, &[0x0C, 0, 0x40, 0, 1, 0x1E], &values, &[0x1F], &[])?;
     match kept(&rt, alloc, service, &octets)? {
         Service::WritePropertyMultiple(request) => {
             let [spec] = request.specs.as_slice() else {

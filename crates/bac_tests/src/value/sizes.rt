@@ -4,7 +4,8 @@ ghost use Rattle.std.specs.Prelude.{◌≤◌, ◌<◌};
 
 use crate::sizes::mixed;
 use bac_value::{
-    Bits, Octets, Prim, PrimRef, Primitive, Text, append_written, mark_contents, written_len_of,
+    Bits, Octets, Prim, PrimRef, Primitive, Text, append_written, mark_contents, write_number,
+    written_len_of,
 };
 use std::alloc::{AllocError, Global};
 use std::process::Abort;
@@ -31,19 +32,12 @@ fn is_kept<T: Primitive>(rt: &impl Abort, alloc: Global, contents: &[u8]) -> Res
     Ok(value)
 }
 
-/// By their application number canonical contents are read as this value, and are written behind as many octets.
-fn is_kept_under(
-    rt: &impl Abort,
-    alloc: Global,
-    number: u8,
-    contents: &[u8],
-    wanted: PrimRef<'_>,
-) -> Result<(), Fail>
+/// By their application number canonical contents are read, and are written behind as many octets.
+fn kept_under(rt: &impl Abort, alloc: Global, number: u8, contents: &[u8]) -> Result<Prim, Fail>
     requires { number ≤ 12 }
 {
     let prim = Prim::read(alloc, number, contents)?;
     assert_eq!(rt; prim.number(), number);
-    assert!(rt; prim.as_prim_ref() == wanted, "of tag {number}");
     assert_eq!(rt; prim.written_len(), contents.len());
     assert_eq!(rt; prim.mark(contents), None);
     let mut out = Vec::from_slice(alloc, contents)?;
@@ -54,7 +48,22 @@ fn is_kept_under(
     let mut out = Vec::from_slice(alloc, contents)?;
     append_written(number, contents, &mut out)?;
     are_joined(rt, &out, contents, contents);
-    Ok(())
+    Ok(prim)
+}
+
+/// The value is an octet string.
+fn is_string(prim: &Prim, octets: &[u8]) -> bool {
+    prim.as_prim_ref() == PrimRef::Octets(octets)
+}
+
+/// The value is a text.
+fn is_text(prim: &Prim, set: u8, octets: &[u8]) -> bool {
+    prim.as_prim_ref() == PrimRef::Text { set, octets }
+}
+
+/// The value has so many bits.
+fn has_bits(prim: &Prim, count: usize, packed: &[u8]) -> bool {
+    prim.as_prim_ref() == PrimRef::Bits { count, packed }
 }
 
 #[test]
@@ -66,7 +75,8 @@ fn octets_of_every_size_are_kept(rt: HostRuntime) -> Result<(), Fail> {
         assert!(rt; made.octets() == contents.as_slice(), "{size} octets");
         let read = is_kept::<Octets>(&rt, alloc, &contents)?;
         assert!(rt; read == made, "{size} octets");
-        is_kept_under(&rt, alloc, 6, &contents, PrimRef::Octets(&contents))?;
+        let prim = kept_under(&rt, alloc, 6, &contents)?;
+        assert!(rt; is_string(&prim, &contents), "{size} octets");
     }
     Ok(())
 }
@@ -85,8 +95,8 @@ fn texts_of_every_size_are_kept(rt: HostRuntime) -> Result<(), Fail> {
         assert!(rt; made.octets() == octets, "{size} octets");
         let read = is_kept::<Text>(&rt, alloc, &contents)?;
         assert!(rt; read == made, "{size} octets");
-        let wanted = PrimRef::Text { set, octets };
-        is_kept_under(&rt, alloc, 7, &contents, wanted)?;
+        let prim = kept_under(&rt, alloc, 7, &contents)?;
+        assert!(rt; is_text(&prim, set, octets), "{size} octets");
     }
     Ok(())
 }
@@ -145,8 +155,8 @@ fn bits_of_every_size_are_kept(rt: HostRuntime) -> Result<(), Fail> {
             assert!(rt; contents.get(1..) == Some(made.packed()), "{count} bits");
             let read = is_kept::<Bits>(&rt, alloc, &contents)?;
             assert!(rt; read == made, "{count} bits");
-            let packed = made.packed();
-            is_kept_under(&rt, alloc, 8, &contents, PrimRef::Bits { count, packed })?;
+            let prim = kept_under(&rt, alloc, 8, &contents)?;
+            assert!(rt; has_bits(&prim, count, made.packed()), "{count} bits");
         }
     }
     Ok(())
@@ -182,5 +192,8 @@ fn values_are_written_behind_many_octets(rt: HostRuntime) -> Result<(), Fail> {
         append_written(number, contents, &mut out)?;
         are_joined(&rt, &out, &front, contents);
     }
+    let mut out = Vec::from_slice(alloc, &front)?;
+    write_number(0x0102, &mut out)?;
+    are_joined(&rt, &out, &front, &[1, 2]);
     Ok(())
 }
