@@ -2,6 +2,7 @@
 
 use crate::faults::BenchFault;
 use bac_data::{Any, read_any, read_any_marked, write_any};
+use bac_value::Primitive;
 use std::alloc::Global;
 
 /// Values that are read from octets and written as octets. What is written must be the octets that were read,
@@ -13,6 +14,26 @@ pub trait Case: Sized + Drop {
     fn mark(alloc: Global, octets: &[u8]) -> Result<Option<usize>, BenchFault>;
 
     fn write(&self, out: &mut Vec<u8>) -> Result<(), BenchFault>;
+}
+
+/// The contents of a primitive value.
+#[derive(Drop)]
+pub struct Contents<P>(P);
+
+impl<P: Primitive> Case for Contents<P> {
+    fn read(alloc: Global, octets: &[u8]) -> Result<Contents<P>, BenchFault> {
+        Ok(Contents(P::read(alloc, octets)?))
+    }
+
+    fn mark(alloc: Global, octets: &[u8]) -> Result<Option<usize>, BenchFault> {
+        let value = P::read(alloc, octets)?;
+        Ok(value.mark(octets))
+    }
+
+    fn write(&self, out: &mut Vec<u8>) -> Result<(), BenchFault> {
+        self.0.write(out)?;
+        Ok(())
+    }
 }
 
 /// The number of the tags around an open value.

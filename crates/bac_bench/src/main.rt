@@ -5,6 +5,8 @@
 //! `time` it measures, and prints a table.
 #![tactic(auto)]
 
+ghost use Rattle.std.specs.Prelude.{◌≡◌, IfOk, vec_len};
+
 mod cases;
 mod faults;
 mod modes;
@@ -14,12 +16,17 @@ mod tables;
 
 use bac_data::Any;
 use bac_service::Kind;
+use bac_value::{Bits, Octets, Text};
+use cases::Contents;
 use faults::BenchFault;
 use modes::Mode;
 use services::Message;
 use std::alloc::{AllocError, Global};
 use std::process::ExitCode;
 use std::rt::{Clock, Env};
+
+/// The contents of the largest value.
+const LARGEST: usize = 1_048_576;
 
 fn main(rt: HostRuntime) -> ExitCode {
     match run(&rt) {
@@ -35,22 +42,73 @@ fn main(rt: HostRuntime) -> ExitCode {
 fn run(rt: &(impl Print + AllocGlobal + Env + Clock)) -> Result<(), BenchFault> {
     let words: Vec<String> = std::env::args(rt)?.collect(rt.alloc())?;
     let mode = Mode::named(&words).ok_or(BenchFault::Usage)?;
+    let largest = contents(rt.alloc(), LARGEST)?;
     tables::begin(rt, mode)?;
-    let short = short_primitives(rt.alloc(), 4_096)?;
-    tables::add::<Any>(rt, mode, "open, short values", &short)?;
+    tables::add::<Contents<Octets>>(rt, mode, "octet string", &largest)?;
+    tables::add::<Contents<Text>>(rt, mode, "character string", &largest)?;
+    tables::add::<Contents<Bits>>(rt, mode, "bit string", &largest)?;
+    let one = one_octet_string(rt.alloc(), &largest)?;
+    tables::add::<Any>(rt, mode, "open, one string", &one)?;
+    for repetitions in [4_096, 65_536] {
+        let short = short_primitives(rt.alloc(), repetitions)?;
+        tables::add::<Any>(rt, mode, "open, short values", &short)?;
+    }
     run_services(rt, mode)
 }
 
-/// Three services: one that wants no memory, and two with lists.
-fn run_services(rt: &(impl Print + AllocGlobal + Clock), mode: Mode) -> Result<(), BenchFault> {
-    services::begin(rt, mode)?;
-    let read_property = Message {
+/// ReadProperty and ReadProperty-ACK, WriteProperty with a group in its value, and three services that hold numbers
+/// and identifiers alone.
+const MESSAGES: [Message<'static>; 6] = [
+    Message {
         name: "ReadProperty",
         kind: Kind::Confirmed,
         choice: 12,
         octets: &[0x0C, 0, 0, 0, 5, 0x19, 0x55],
-    };
-    services::add(rt, mode, &read_property)?;
+    },
+    Message {
+        name: "ReadProperty-ACK",
+        kind: Kind::ComplexAck,
+        choice: 12,
+        octets: &[
+            0x0C, 0, 0, 0, 5, 0x19, 0x55, 0x3E, 0x44, 0x42, 0xC8, 0, 0, 0x3F,
+        ],
+    },
+    Message {
+        name: "WriteProperty",
+        kind: Kind::Confirmed,
+        choice: 15,
+        octets: &[
+            0x0C, 0, 0x80, 0, 1, 0x19, 0x55, 0x3E, 0x0E, 0x21, 5, 0x91, 3, 0x0F, 0x1E, 0x44, 0x42,
+            0xC8, 0, 0, 0x2E, 0xC4, 0, 0, 0, 5, 0x19, 0x55, 0x2F, 0x1F, 0x75, 6, 0, 0x41, 0x42,
+            0x43, 0x44, 0x45, 0xA4, 0x7C, 1, 0x0F, 1, 0xB4, 0x0C, 0, 0, 0, 0x3F, 0x49, 8,
+        ],
+    },
+    Message {
+        name: "I-Am",
+        kind: Kind::Unconfirmed,
+        choice: 0,
+        octets: &[0xC4, 2, 0, 0, 5, 0x22, 5, 0xC4, 0x91, 3, 0x21, 0x0F],
+    },
+    Message {
+        name: "Who-Is",
+        kind: Kind::Unconfirmed,
+        choice: 8,
+        octets: &[0x0A, 3, 0xE8, 0x1A, 7, 0xD0],
+    },
+    Message {
+        name: "SubscribeCOV",
+        kind: Kind::Confirmed,
+        choice: 5,
+        octets: &[0x09, 0x12, 0x1C, 0, 0, 0, 0x0A, 0x29, 1, 0x3A, 1, 0x2C],
+    },
+];
+
+/// Those, and two services with lists.
+fn run_services(rt: &(impl Print + AllocGlobal + Clock), mode: Mode) -> Result<(), BenchFault> {
+    services::begin(rt, mode)?;
+    for message in &MESSAGES {
+        services::add(rt, mode, message)?;
+    }
     let results = twenty_results(rt.alloc())?;
     let read_property_multiple_ack = Message {
         name: "ReadPropertyMultiple-ACK",
@@ -66,48 +124,7 @@ fn run_services(rt: &(impl Print + AllocGlobal + Clock), mode: Mode) -> Result<(
         choice: 2,
         octets: &values,
     };
-    services::add(rt, mode, &notification)?;
-    let write_property = Message {
-        name: "WriteProperty",
-        kind: Kind::Confirmed,
-        choice: 15,
-        octets: &[
-            0x0C, 0, 0x80, 0, 1, 0x19, 0x55, 0x3E, 0x0E, 0x21, 5, 0x91, 3, 0x0F, 0x1E, 0x44, 0x42,
-            0xC8, 0, 0, 0x2E, 0xC4, 0, 0, 0, 5, 0x19, 0x55, 0x2F, 0x1F, 0x75, 6, 0, 0x41, 0x42,
-            0x43, 0x44, 0x45, 0xA4, 0x7C, 1, 0x0F, 1, 0xB4, 0x0C, 0, 0, 0, 0x3F, 0x49, 8,
-        ],
-    };
-    services::add(rt, mode, &write_property)?;
-    let i_am = Message {
-        name: "I-Am",
-        kind: Kind::Unconfirmed,
-        choice: 0,
-        octets: &[0xC4, 2, 0, 0, 5, 0x22, 5, 0xC4, 0x91, 3, 0x21, 0x0F],
-    };
-    services::add(rt, mode, &i_am)?;
-    let who_is = Message {
-        name: "Who-Is",
-        kind: Kind::Unconfirmed,
-        choice: 8,
-        octets: &[0x0A, 3, 0xE8, 0x1A, 7, 0xD0],
-    };
-    services::add(rt, mode, &who_is)?;
-    let subscribe = Message {
-        name: "SubscribeCOV",
-        kind: Kind::Confirmed,
-        choice: 5,
-        octets: &[0x09, 0x12, 0x1C, 0, 0, 0, 0x0A, 0x29, 1, 0x3A, 1, 0x2C],
-    };
-    services::add(rt, mode, &subscribe)?;
-    let read_property_ack = Message {
-        name: "ReadProperty-ACK",
-        kind: Kind::ComplexAck,
-        choice: 12,
-        octets: &[
-            0x0C, 0, 0, 0, 5, 0x19, 0x55, 0x3E, 0x44, 0x42, 0xC8, 0, 0, 0x3F,
-        ],
-    };
-    services::add(rt, mode, &read_property_ack)
+    services::add(rt, mode, &notification)
 }
 
 /// A ReadPropertyMultiple-ACK of one object with twenty results, a Real each.
@@ -132,6 +149,21 @@ fn four_values(alloc: Global) -> Result<Vec<u8>, AllocError> {
         octets.extend_from_slice(&[0x09, 0x55, 0x2E, 0x44, 0x42, 0xC8, 0, 0, 0x2F])?;
     }
     octets.push(0x4F)?;
+    Ok(octets)
+}
+
+/// Octets that are contents of a value of each type: the 0 in front is a character set, and no unused bits.
+fn contents(alloc: Global, size: usize) -> Result<Vec<u8>, AllocError>
+    ensures { IfOk result (λ octets. vec_len octets ≡ size) }
+{
+    (0..size).map(|place| (place % 251) as u8).collect(alloc)
+}
+
+/// An open value with its tags, of one octet string: these octets.
+fn one_octet_string(alloc: Global, contents: &[u8]) -> Result<Vec<u8>, AllocError> {
+    let mut octets = Vec::from_slice(alloc, &[0x3E, 0x65, 0xFF, 0, 0x10, 0, 0])?;
+    octets.extend_from_slice(contents)?;
+    octets.push(0x3F)?;
     Ok(octets)
 }
 
