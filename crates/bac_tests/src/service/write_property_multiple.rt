@@ -13,6 +13,15 @@ const SERVICE: (Kind, u8) = (Kind::Confirmed, 16);
 /// The kind and the choice of its error.
 const ERROR: (Kind, u8) = (Kind::Error, 16);
 
+/// The object 1:1.
+const OBJECT: [u8; 5] = [0x0C, 0, 0x40, 0, 1];
+
+/// The class 2 and the code 32, in their group.
+const CAUSE: [u8; 6] = [0x0E, 0x91, 2, 0x91, 0x20, 0x0F];
+
+/// The same, and the object 1:1 of the first write that failed.
+const FAILED: [u8; 12] = [0x0E, 0x91, 2, 0x91, 0x20, 0x0F, 0x1E, 0x0C, 0, 0x40, 0, 1];
+
 /// The object 1:1, its property 85 and the Real 100.0.
 const VALUE: [u8; 15] = [
     0x0C, 0, 0x40, 0, 1, 0x1E, 9, 0x55, 0x2E, 0x44, 0x42, 0xC8, 0, 0, 0x2F,
@@ -65,6 +74,42 @@ fn values_come_in_order_and_end(rt: HostRuntime) -> Result<(), Fail> {
     judge(&rt, rt.alloc(), SERVICE, &VALUE, &rows)
 }
 
+// Of example 77 of docs/EXAMPLES.md: no octets are a list too, behind which others trail.
+#[test]
+fn fields_of_a_specification_come_once_and_in_order(rt: HostRuntime) -> Result<(), Fail> {
+    let rows = [
+        refused(&[0xAA], 0, Why::Trailing),
+        refused(&[0x0C], 1, Why::Short),
+        refused(&[0x1E, 0x1F], 0, Why::Trailing),
+        refused(&[0x0B, 0, 0x40, 0], 0, Why::Trailing),
+        refused(&OBJECT, 5, Why::Short),
+    ];
+    judge(&rt, rt.alloc(), SERVICE, &[], &rows)?;
+    let rows = [
+        refused(&OBJECT, 5, Why::Tag),
+        refused(&[9, 0x55], 5, Why::Tag),
+        refused(&[0x1E, 0x1F, 0x1E, 0x1F], 7, Why::Trailing),
+        refused(&[0x1E, 0x19, 3], 6, Why::Tag),
+        refused(&[0x1E, 0x2E, 0x2F, 0x1F], 6, Why::Tag),
+        refused(&[0x1E, 9, 0x55, 9, 0x55], 8, Why::Tag),
+        refused(&[0x1E, 9, 0x55, 0x1F], 8, Why::Tag),
+        refused(&[0x1E, 9, 0x55, 0x39, 8], 8, Why::Tag),
+        refused(&[0x1E, 9, 0x55, 0x19, 3, 0x1F], 10, Why::Tag),
+        refused(&[0x1E, 9, 0x55, 0x19, 3, 0x19, 3], 10, Why::Tag),
+        refused(&[0x1E, 0x0D, 5, 1, 0, 0, 0, 0], 8, Why::Content),
+        refused(&[0x1E, 9, 0x55, 0x1D, 5, 1, 0, 0, 0, 0], 10, Why::Content),
+    ];
+    judge(&rt, rt.alloc(), SERVICE, &OBJECT, &rows)?;
+    let rows = [
+        kept(&[0x1F]),
+        refused(&[0x19, 3, 0x1F], 15, Why::Tag),
+        refused(&[0x2E, 0x2F, 0x1F], 15, Why::Tag),
+        refused(&[0x39, 8, 0x39, 8], 17, Why::Tag),
+        refused(&[0x39, 0], 16, Why::Content),
+    ];
+    judge(&rt, rt.alloc(), SERVICE, &VALUE, &rows)
+}
+
 #[test]
 fn objects_may_be_none(rt: HostRuntime) -> Result<(), Fail> {
     match canonical(&rt, rt.alloc(), SERVICE, &[])? {
@@ -100,4 +145,39 @@ fn an_error_tells_the_first_write_that_failed(rt: HostRuntime) -> Result<(), Fai
         &[],
         &[refused(&[0x91, 2], 0, Why::Tag)],
     )
+}
+
+// Of example 76 of docs/EXAMPLES.md.
+#[test]
+fn fields_of_an_error_come_once_and_in_order(rt: HostRuntime) -> Result<(), Fail> {
+    let rows = [
+        refused(&[0x1E, 0x0C, 0, 0x40, 0, 1], 0, Why::Tag),
+        refused(&[0x0E, 0x0F], 1, Why::Tag),
+        refused(&[0x0E, 0x21, 2], 1, Why::Tag),
+        refused(&[0x0E, 0x91, 2, 0x0F], 3, Why::Tag),
+        refused(&[0x0E, 0x91, 2, 0x91, 0x20, 0x91, 1], 5, Why::Tag),
+        refused(&[0x0E, 0x95, 5, 1, 0, 0, 0, 0], 3, Why::Content),
+        refused(&CAUSE, 6, Why::Short),
+    ];
+    judge(&rt, rt.alloc(), ERROR, &[], &rows)?;
+    let rows = [
+        refused(&CAUSE, 6, Why::Tag),
+        refused(&OBJECT, 6, Why::Tag),
+        refused(&[0x2E, 0x0C, 0, 0x40, 0, 1], 6, Why::Tag),
+        refused(&[0x1E, 0x1F], 7, Why::Tag),
+        refused(&[0x1E, 0x19, 0x55], 7, Why::Tag),
+    ];
+    judge(&rt, rt.alloc(), ERROR, &CAUSE, &rows)?;
+    let rows = [
+        kept(&[0x19, 0x55, 0x1F]),
+        refused(&[0x1F], 12, Why::Tag),
+        refused(&OBJECT, 12, Why::Tag),
+        refused(&[0x29, 3], 12, Why::Tag),
+        refused(&[0x1D, 5, 1, 0, 0, 0, 0], 14, Why::Content),
+        refused(&[0x19, 0x55, 0x19, 0x55], 14, Why::Tag),
+        refused(&[0x19, 0x55, 0x2D, 5, 1, 0, 0, 0, 0], 16, Why::Content),
+        refused(&[0x19, 0x55, 0x29, 3, 0x29, 3], 16, Why::Tag),
+        refused(&[0x19, 0x55, 0x1F, 0], 15, Why::Trailing),
+    ];
+    judge(&rt, rt.alloc(), ERROR, &FAILED, &rows)
 }
