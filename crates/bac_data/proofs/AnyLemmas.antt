@@ -6,13 +6,13 @@ use Rattle.bac_tag.specs.declared.refusals.Refusal.{Refusal}
 use Rattle.bac_tag.specs.declared.heads.TagHead.{TagHead}
 use Rattle.bac_tag.specs.declared.heads.TagHead.TheVariants.{App, AppBool, Ctx, Open, Close}
 use Rattle.bac_tag.specs.declared.expecting.Expected.TheVariants as expected
-use Rattle.bac_tag.specs.Spelling.{IsViable, IsRefusal, Takes, Joined}
+use Rattle.bac_tag.specs.Spelling.{IsViable, IsRefusal, Takes, JoinedBy, Joins}
 use Rattle.bac_tag.specs.SpellingLaws.{refused_first, refused_alike}
 use Rattle.bac_tag.specs.Heads.{Heads}
 use Rattle.bac_tag.specs.Expected.{ExpectedHeads}
 use Rattle.bac_tag.proofs.WritingLemmas.{some_least}
 use Rattle.bac_data.specs.OpenValue.{Elements, none, depth}
-use Rattle.bac_data.specs.Spells.{Joins, SpellsAll, SpellsOpen}
+use Rattle.bac_data.specs.Spells.{SpellsAll, SpellsOpen}
 use Rattle.bac_data.specs.Events.{Event, application, contextual, opening, closing, events, Opens, NextIn, SpellsEvent, SpellsEvents, SpellsNext}
 use Rattle.bac_data.specs.Reading.{MayStand, SpellsStanding}
 use Rattle.bac_data.specs.Building.{HasOpen, IsPlace, MayFollow, closing_number}
@@ -36,7 +36,7 @@ opening_follow : (n : ℕ) → n ≤ 254 → (head : TagHead) (b : List ℕ) →
 unfolding Behind
 opening_follow n small head b h = let (d, c) = close_of n small in (none, d, (joins [] d refl c refl, omega arith))
 
-opening_to : (n : ℕ) (x : TagHead × Elements) (b : List ℕ) → Joined (Opening n) (Behind n) x b → (v : Elements) × SpellsOpen 32 n v b
+opening_to : (n : ℕ) (x : TagHead × Elements) (b : List ℕ) → JoinedBy (Opening n) (Behind n) x b → (v : Elements) × SpellsOpen 32 n v b
 unfolding Behind
 opening_to n (Open m, v) b j = (v, record { enclosed = joins j.front j.back (subst (λ (k : ℕ). Heads (Open k) j.front) j.first.fits j.first.spelled) j.second.0 j.octets; nested = j.second.1 })
 opening_to n (App m len, v) b j = absurd j.first.fits
@@ -44,13 +44,13 @@ opening_to n (AppBool bit, v) b j = absurd j.first.fits
 opening_to n (Ctx m len, v) b j = absurd j.first.fits
 opening_to n (Close m, v) b j = absurd j.first.fits
 
-opening_from : (n : ℕ) (v : Elements) (b : List ℕ) → SpellsOpen 32 n v b → (x : TagHead × Elements) × Joined (Opening n) (Behind n) x b
+opening_from : (n : ℕ) (v : Elements) (b : List ℕ) → SpellsOpen 32 n v b → (x : TagHead × Elements) × JoinedBy (Opening n) (Behind n) x b
 unfolding Behind
 opening_from n v b p = ((Open n, v), record { front = p.enclosed.front; back = p.enclosed.back; first = record { fits = refl; spelled = p.enclosed.first }; second = (p.enclosed.second, p.nested); octets = p.enclosed.octets })
 
 -- what is refused in the opening tag
 pub refused_opening : (n : ℕ) (input : List ℕ) (r : Refusal) → n ≤ 254 → IsRefusal (Opening n) input r → IsRefusal (SpellsOpen 32 n) input r
-refused_opening n input r small h = refused_alike (Joined (Opening n) (Behind n)) (SpellsOpen 32 n) input r (opening_to n) (opening_from n) (refused_first (Opening n) (Behind n) input r (opening_follow n small) h)
+refused_opening n input r small h = refused_alike (JoinedBy (Opening n) (Behind n)) (SpellsOpen 32 n) input r (opening_to n) (opening_from n) (refused_first (Opening n) (Behind n) input r (opening_follow n small) h)
 
 -- ---- what has been read: the events so far spell what was taken
 

@@ -1,7 +1,8 @@
 -- The events of a value are spelled as the value is.
 use Rattle.std.proofs.Common.{◌≡◌, ℕ, ◌≤◌, List, [], ◌∷◌, ◌++◌, refl, sym, ◌∙◌, ap, subst, append_assoc, append-nil}
+use Rattle.bac_tag.specs.Spelling.{Joins}
 use Rattle.bac_data.specs.OpenValue.{Element, primitive, context, group, Elements, none, more, depth}
-use Rattle.bac_data.specs.Spells.{Joins, Spells, SpellsAll, SpellsOpen}
+use Rattle.bac_data.specs.Spells.{Spells, SpellsAll, SpellsOpen}
 use Rattle.bac_data.specs.Events.{Event, application, contextual, opening, closing, element_events, events, SpellsEvent, SpellsEvents}
 
 pub joins : {First Second : List ℕ → Type 0} {b : List ℕ} (c d : List ℕ) → First c → Second d → b ≡ c ++ d → Joins First Second b

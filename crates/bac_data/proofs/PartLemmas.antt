@@ -1,11 +1,11 @@
 -- What begins a spelling of an element, and of elements.
 use Rattle.std.specs.Prelude.{◌≡◌, ◌↔◌, ◌⊎◌, ℕ, List, [], ◌++◌, refl}
 use Rattle.std.proofs.Common.{inl, inr}
-use Rattle.bac_tag.specs.Spelling.{IsViable, IsPartway, Joined}
-use Rattle.bac_tag.specs.SpellingLaws.{viable-Joined}
+use Rattle.bac_tag.specs.Spelling.{IsViable, IsPartway, JoinedBy, Joins}
+use Rattle.bac_tag.specs.SpellingLaws.{viable-JoinedBy}
 use Rattle.bac_value.specs.declared.prim.PrimitiveValue.{PrimitiveValue}
 use Rattle.bac_data.specs.OpenValue.{Element, primitive, context, group, Elements, none, more}
-use Rattle.bac_data.specs.Spells.{Joins, SpellsPrimitive, SpellsContext, Spells, SpellsAll}
+use Rattle.bac_data.specs.Spells.{SpellsPrimitive, SpellsContext, Spells, SpellsAll}
 use Rattle.bac_data.specs.Parts.{SpellsContextOf, SpellsGroup, SpellsMore}
 
 -- ---- an element is of one of three cases
@@ -29,13 +29,13 @@ viable_element b = (
 
 -- ---- an element with others behind it
 
-to_pair : (b : List ℕ) → IsViable SpellsMore b → IsViable (Joined Spells (λ (e : Element). SpellsAll)) b
+to_pair : (b : List ℕ) → IsViable SpellsMore b → IsViable (JoinedBy Spells (λ (e : Element). SpellsAll)) b
 to_pair b v = let j = v.spelled in record { value = v.value; rest = v.rest; spelled = record { front = j.front; back = j.back; first = j.first; second = j.second; octets = j.octets } }
 
-of_pair : (b : List ℕ) → IsViable (Joined Spells (λ (e : Element). SpellsAll)) b → IsViable SpellsMore b
+of_pair : (b : List ℕ) → IsViable (JoinedBy Spells (λ (e : Element). SpellsAll)) b → IsViable SpellsMore b
 of_pair b v = let j = v.spelled in record { value = v.value; rest = v.rest; spelled = record { front = j.front; back = j.back; first = j.first; second = j.second; octets = j.octets } }
 
 pub viable_more : (b : List ℕ) → IsViable SpellsMore b ↔ (IsViable Spells b ⊎ IsPartway Spells (λ (e : Element). SpellsAll) b)
 viable_more b =
-    let same = viable-Joined Spells (λ (e : Element). SpellsAll) (λ e c s. (none, [], refl)) b in
+    let same = viable-JoinedBy Spells (λ (e : Element). SpellsAll) (λ e c s. (none, [], refl)) b in
     (λ v. same.0 (to_pair b v), λ h. of_pair b (same.1 h))

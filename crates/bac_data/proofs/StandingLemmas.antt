@@ -8,7 +8,7 @@ use Rattle.bac_tag.specs.declared.heads.TagHead.{TagHead}
 use Rattle.bac_tag.specs.declared.heads.TagHead.TheVariants.{App, AppBool, Ctx, Open, Close}
 use Rattle.bac_tag.specs.OctetsLaws.{octets_filled, length-filled, zeros_to, octets_replicate}
 use Rattle.bac_tag.specs.Octets.{IsOctets}
-use Rattle.bac_tag.specs.Spelling.{EndsItself, IsViable, IsFurthest, IsRefusal, Joined, Takes}
+use Rattle.bac_tag.specs.Spelling.{EndsItself, IsViable, IsFurthest, IsRefusal, JoinedBy, Takes}
 use Rattle.bac_tag.specs.SpellingLaws.{refused_first, refused_second, refused_alike}
 use Rattle.bac_tag.specs.Heads.{Heads}
 use Rattle.bac_tag.specs.HeadsLaws.{heads_end}
@@ -28,7 +28,7 @@ module _ (room : Bool) (number : ℕ) where
   Head = HeadsOfOne (next_heads room number)
 
   abbrev pub Parts : TagHead × Event → List ℕ → Type 0
-  Parts = Joined Head Under
+  Parts = JoinedBy Head Under
 
   stands : (head : TagHead) (e : Event) (c : List ℕ) → FitsOne (next_heads room number) head → Under head e c → MayStand room number e
   stands (App m len) e c f (prim, i, n, s, l) = subst (MayStand room number) (sym i) tt

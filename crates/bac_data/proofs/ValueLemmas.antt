@@ -4,7 +4,7 @@ use Rattle.std.proofs.Common.{sym, subst, inl, inr, arith}
 use Rattle.bac_tag.specs.Octets.{NoGreater}
 use Rattle.bac_tag.specs.OctetsLaws.{NoGreater-append}
 use Rattle.bac_tag.specs.declared.heads.TagHead.TheVariants.{App, AppBool, Ctx, Open, Close}
-use Rattle.bac_tag.specs.Spelling.{IsLeast}
+use Rattle.bac_tag.specs.Spelling.{IsLeast, Joins}
 use Rattle.bac_tag.specs.Heads.{IsValid, Heads}
 use Rattle.bac_tag.proofs.WritingLemmas.{some_least}
 use Rattle.bac_value.specs.declared.prim.PrimitiveValue.{PrimitiveValue}
@@ -12,7 +12,7 @@ use Rattle.bac_value.specs.declared.prim.PrimitiveValue.TheVariants.{Null, Boole
 use Rattle.bac_value.specs.PrimContents.{application_number, IsPrim, prim_written}
 use Rattle.bac_value.specs.PrimLaws.{prim_limit, prim_only_values, prim_written_contents}
 use Rattle.bac_data.specs.OpenValue.{Element, primitive, context, group, Elements, none, more, IsElement, AreElements, IsOpenValue}
-use Rattle.bac_data.specs.Spells.{Joins, SpellsPrimitive, Spells, SpellsAll, SpellsOpen}
+use Rattle.bac_data.specs.Spells.{SpellsPrimitive, Spells, SpellsAll, SpellsOpen}
 use Rattle.bac_data.specs.Events.{Event, application, contextual, opening, closing, SpellsEvent, SpellsEvents}
 use Rattle.bac_data.proofs.EventLemmas.{whole, whole_spelled}
 use Rattle.bac_data.proofs.EventLeastLemmas.{least_contents, least_boolean_of, least_context}

@@ -2,9 +2,10 @@
 use Rattle.std.specs.Prelude.{◌≡◌, ℕ, ◌<◌, List, [], ◌∷◌, ◌++◌, length}
 use Rattle.bac_tag.specs.declared.heads.TagHead.TheVariants.{Open, Close}
 use Rattle.bac_tag.specs.Heads.{Heads}
+use Rattle.bac_tag.specs.Spelling.{Joins}
 use Rattle.bac_value.specs.declared.prim.PrimitiveValue.{PrimitiveValue}
 use Rattle.bac_data.specs.OpenValue.{Element, primitive, context, group, Elements, none, more}
-use Rattle.bac_data.specs.Spells.{Joins, SpellsPrimitive, SpellsContext}
+use Rattle.bac_data.specs.Spells.{SpellsPrimitive, SpellsContext}
 
 pub data Event : Type 0 where
   application : PrimitiveValue → Event

@@ -2,20 +2,13 @@
 use Rattle.std.specs.Prelude.{◌≡◌, ℕ, ◌≤◌, List, [], ◌++◌, ◌⊎◌, length}
 use Rattle.bac_tag.specs.declared.heads.TagHead.TheVariants.{App, AppBool, Ctx, Open, Close}
 use Rattle.bac_tag.specs.Heads.{Heads}
+use Rattle.bac_tag.specs.Spelling.{Joins}
 use Rattle.bac_value.specs.declared.boolean_value.Boolean.{Boolean as BooleanValue}
 use Rattle.bac_value.specs.declared.prim.PrimitiveValue.{PrimitiveValue}
 use Rattle.bac_value.specs.declared.prim.PrimitiveValue.TheVariants.{Boolean}
 use Rattle.bac_value.specs.OctetStringContents.{IsOctetString}
 use Rattle.bac_value.specs.PrimContents.{application_number, PrimContents}
 use Rattle.bac_data.specs.OpenValue.{Element, primitive, context, group, Elements, none, more, depth}
-
--- a list of the first kind, and behind it one of the second
-pub record Joins (First Second : List ℕ → Type 0) (b : List ℕ) : Type 0 where
-  pub front : List ℕ
-  pub back : List ℕ
-  pub first : First front
-  pub second : Second back
-  pub octets : b ≡ front ++ back
 
 -- a Boolean: its head says which
 pub record SpellsBoolean (prim : PrimitiveValue) (b : List ℕ) : Type 0 where

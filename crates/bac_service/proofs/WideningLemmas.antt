@@ -3,7 +3,7 @@ use Rattle.std.specs.Prelude.{◌≡◌, ◌≢◌, ℕ, ◌≤◌, true, false,
 use Rattle.std.proofs.Common.{sym, ◌∙◌, subst, inl, inr, arith}
 use Rattle.std.proofs.lemmas.Bool.Decides.{nat_tests}
 use Rattle.bac_tag.specs.Octets.{NoGreater}
-use Rattle.bac_tag.specs.Spelling.{IsLeast, OneOf}
+use Rattle.bac_tag.specs.Spelling.{IsLeast, OneOf, Joined}
 use Rattle.bac_data.specs.Spells.{SpellsOpen}
 use Rattle.bac_service.specs.declared.kind.Kind.{Kind}
 use Rattle.bac_service.specs.declared.kind.Kind.TheVariants.{Confirmed, Unconfirmed, ComplexAck, Error}
@@ -14,7 +14,7 @@ use Rattle.bac_service.specs.declared.property_result.ReadResult.{ReadResult}
 use Rattle.bac_service.specs.declared.property_result.ReadResult.TheVariants as result
 use Rattle.bac_service.specs.declared.property_result.PropertyResult.{PropertyResult}
 use Rattle.bac_service.specs.Contents.{ObjectField, EnumeratedField, UnsignedField, PriorityField}
-use Rattle.bac_service.specs.Productions.{Both, Optional, Items, Grouped}
+use Rattle.bac_service.specs.Productions.{Optional, Items, Grouped}
 use Rattle.bac_service.specs.ReadPropertyAck.{SpellsReadPropertyAck}
 use Rattle.bac_service.specs.WriteProperty.{SpellsWriteProperty}
 use Rattle.bac_service.specs.PropertyValue.{SpellsPropertyValue}
@@ -36,7 +36,7 @@ record Widens {V : Type 0} (S T : V → List ℕ → Type 0) : Type 0 where
 same : {V : Type 0} (S : V → List ℕ → Type 0) → Widens S S
 same S = record { wider = λ v b s. s; back = λ v b c s t. t }
 
-both : {V W : Type 0} {S S' : V → List ℕ → Type 0} {T T' : W → List ℕ → Type 0} → Widens S S' → Widens T T' → Widens (Both S T) (Both S' T')
+both : {V W : Type 0} {S S' : V → List ℕ → Type 0} {T T' : W → List ℕ → Type 0} → Widens S S' → Widens T T' → Widens (Joined S T) (Joined S' T')
 both {V} {W} {S} {S'} {T} {T'} f g = record {
   wider = λ p b j. record { front = j.front; back = j.back; first = f.wider p.0 j.front j.first; second = g.wider p.1 j.back j.second; octets = j.octets };
   back = λ p b c j k. record { front = k.front; back = k.back; first = f.back p.0 j.front k.front j.first k.first; second = g.back p.1 j.back k.back j.second k.second; octets = k.octets };
@@ -82,20 +82,20 @@ by_fields fields f = record { wider = λ v. f.wider (fields v); back = λ v. f.b
 
 -- ---- the productions
 
-ack_parts : Widens (Both (ObjectField 0) (Both (EnumeratedField 1) (Both (Optional (UnsignedField 2)) (SpellsOpen 16 3)))) (Both (ObjectField 0) (Both (EnumeratedField 1) (Both (Optional (UnsignedField 2)) (SpellsOpen 32 3))))
+ack_parts : Widens (Joined (ObjectField 0) (Joined (EnumeratedField 1) (Joined (Optional (UnsignedField 2)) (SpellsOpen 16 3)))) (Joined (ObjectField 0) (Joined (EnumeratedField 1) (Joined (Optional (UnsignedField 2)) (SpellsOpen 32 3))))
 ack_parts = both (same (ObjectField 0)) (both (same (EnumeratedField 1)) (both (same (Optional (UnsignedField 2))) (open_value 3)))
 
 ack : Widens (SpellsReadPropertyAck 16) (SpellsReadPropertyAck 32)
 ack = by_fields (λ (a : ReadPropertyAck). (a.object, (a.property, (a.index, a.value)))) ack_parts
 
-write_parts : Widens (Both (ObjectField 0) (Both (EnumeratedField 1) (Both (Optional (UnsignedField 2)) (Both (SpellsOpen 16 3) (Optional (PriorityField 4))))))
-    (Both (ObjectField 0) (Both (EnumeratedField 1) (Both (Optional (UnsignedField 2)) (Both (SpellsOpen 32 3) (Optional (PriorityField 4))))))
+write_parts : Widens (Joined (ObjectField 0) (Joined (EnumeratedField 1) (Joined (Optional (UnsignedField 2)) (Joined (SpellsOpen 16 3) (Optional (PriorityField 4))))))
+    (Joined (ObjectField 0) (Joined (EnumeratedField 1) (Joined (Optional (UnsignedField 2)) (Joined (SpellsOpen 32 3) (Optional (PriorityField 4))))))
 write_parts = both (same (ObjectField 0)) (both (same (EnumeratedField 1)) (both (same (Optional (UnsignedField 2))) (both (open_value 3) (same (Optional (PriorityField 4))))))
 
 write : Widens (SpellsWriteProperty 16) (SpellsWriteProperty 32)
 write = by_fields (λ (r : WriteProperty). (r.object, (r.property, (r.index, (r.value, r.priority))))) write_parts
 
-value_parts : Widens (Both (EnumeratedField 0) (Both (Optional (UnsignedField 1)) (Both (SpellsOpen 16 2) (Optional (PriorityField 3))))) (Both (EnumeratedField 0) (Both (Optional (UnsignedField 1)) (Both (SpellsOpen 32 2) (Optional (PriorityField 3)))))
+value_parts : Widens (Joined (EnumeratedField 0) (Joined (Optional (UnsignedField 1)) (Joined (SpellsOpen 16 2) (Optional (PriorityField 3))))) (Joined (EnumeratedField 0) (Joined (Optional (UnsignedField 1)) (Joined (SpellsOpen 32 2) (Optional (PriorityField 3)))))
 value_parts = both (same (EnumeratedField 0)) (both (same (Optional (UnsignedField 1))) (both (open_value 2) (same (Optional (PriorityField 3)))))
 
 property_value : Widens (SpellsPropertyValue 16) (SpellsPropertyValue 32)
@@ -112,26 +112,26 @@ read_result = record { wider = wider_result; back = back_result }
     back_result (result.Value value) b c s t = (open_value 4).back value b c s t
     back_result (result.Error cause) b c s t = t
 
-result_parts : Widens (Both (EnumeratedField 2) (Both (Optional (UnsignedField 3)) (SpellsReadResult 16))) (Both (EnumeratedField 2) (Both (Optional (UnsignedField 3)) (SpellsReadResult 32)))
+result_parts : Widens (Joined (EnumeratedField 2) (Joined (Optional (UnsignedField 3)) (SpellsReadResult 16))) (Joined (EnumeratedField 2) (Joined (Optional (UnsignedField 3)) (SpellsReadResult 32)))
 result_parts = both (same (EnumeratedField 2)) (both (same (Optional (UnsignedField 3))) read_result)
 
 property_result : Widens (SpellsPropertyResult 16) (SpellsPropertyResult 32)
 property_result = by_fields (λ (r : PropertyResult). (r.property, (r.index, r.result))) result_parts
 
-access_result_parts : Widens (Both (ObjectField 0) (Optional (Grouped 1 (Items (SpellsPropertyResult 16))))) (Both (ObjectField 0) (Optional (Grouped 1 (Items (SpellsPropertyResult 32)))))
+access_result_parts : Widens (Joined (ObjectField 0) (Optional (Grouped 1 (Items (SpellsPropertyResult 16))))) (Joined (ObjectField 0) (Optional (Grouped 1 (Items (SpellsPropertyResult 32)))))
 access_result_parts = both (same (ObjectField 0)) (optional (grouped 1 (items property_result)))
 
 access_result : Widens (SpellsAccessResult 16) (SpellsAccessResult 32)
 access_result = by_fields (λ (r : AccessResult). (r.object, r.results)) access_result_parts
 
-specification_parts : Widens (Both (ObjectField 0) (Grouped 1 (Items (SpellsPropertyValue 16)))) (Both (ObjectField 0) (Grouped 1 (Items (SpellsPropertyValue 32))))
+specification_parts : Widens (Joined (ObjectField 0) (Grouped 1 (Items (SpellsPropertyValue 16)))) (Joined (ObjectField 0) (Grouped 1 (Items (SpellsPropertyValue 32))))
 specification_parts = both (same (ObjectField 0)) (grouped 1 (items property_value))
 
 write_specification : Widens (SpellsWriteSpecification 16) (SpellsWriteSpecification 32)
 write_specification = by_fields (λ (s : WriteSpecification). (s.object, s.values)) specification_parts
 
-notification_parts : Widens (Both (UnsignedField 0) (Both (ObjectField 1) (Both (ObjectField 2) (Both (UnsignedField 3) (Grouped 4 (Items (SpellsPropertyValue 16)))))))
-    (Both (UnsignedField 0) (Both (ObjectField 1) (Both (ObjectField 2) (Both (UnsignedField 3) (Grouped 4 (Items (SpellsPropertyValue 32)))))))
+notification_parts : Widens (Joined (UnsignedField 0) (Joined (ObjectField 1) (Joined (ObjectField 2) (Joined (UnsignedField 3) (Grouped 4 (Items (SpellsPropertyValue 16)))))))
+    (Joined (UnsignedField 0) (Joined (ObjectField 1) (Joined (ObjectField 2) (Joined (UnsignedField 3) (Grouped 4 (Items (SpellsPropertyValue 32)))))))
 notification_parts = both (same (UnsignedField 0)) (both (same (ObjectField 1)) (both (same (ObjectField 2)) (both (same (UnsignedField 3)) (grouped 4 (items property_value)))))
 
 notification : Widens (SpellsNotification 16) (SpellsNotification 32)

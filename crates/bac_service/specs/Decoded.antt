@@ -2,11 +2,10 @@
 use Rattle.std.specs.Prelude.{◌≡◌, ◌≢◌, ◌↔◌, ℕ, true, false, Option, List, Result, Ok, Err}
 use Rattle.bac_tag.specs.declared.refusals.Refusal.{Refusal}
 use Rattle.bac_tag.specs.declared.refusals.Why.TheVariants.{OutOfMemory}
+use Rattle.bac_tag.specs.Spelling.{HasMark, IsWholeRefusal}
 use Rattle.bac_service.specs.declared.kind.Kind.{Kind}
 use Rattle.bac_service.specs.declared.service.Service.{Service}
-use Rattle.bac_service.specs.Productions.{HasMark}
 use Rattle.bac_service.specs.Reasons.{IsServiceReason}
-use Rattle.bac_service.specs.WholeInput.{IsWholeRefusal}
 use Rattle.bac_service.specs.WholeLaws.{whole_alike}
 use Rattle.bac_service.specs.LeastLaws.{mark_alike}
 use Rattle.bac_service.specs.ServiceTable.{is_small}

@@ -9,7 +9,7 @@ use Rattle.bac_tag.specs.declared.heads.TagHead.TheVariants.{App, AppBool, Ctx, 
 use Rattle.bac_tag.specs.Octets.{NoGreater, FirstDifference, IsMark, joined_mark}
 use Rattle.bac_tag.specs.OctetsLaws.{NoGreater-append, mark-append, mark_first, mark_by}
 use Rattle.bac_tag.specs.declared.refusals.Why.TheVariants.{Short}
-use Rattle.bac_tag.specs.Spelling.{EndsItself, IsLeast, IsFurthest, IsRefusal, Takes, Joined}
+use Rattle.bac_tag.specs.Spelling.{EndsItself, IsLeast, IsFurthest, IsRefusal, Takes, JoinedBy, HasMark, AppendsLeast}
 use Rattle.bac_tag.specs.SpellingLaws.{refused_first, refused_second, refused_alike}
 use Rattle.bac_tag.specs.Heads.{Heads, IsValid}
 use Rattle.bac_tag.specs.HeadsLaws.{heads_end}
@@ -20,7 +20,7 @@ use Rattle.bac_service.specs.Leads.{Lead, application, context, BeginsIn}
 use Rattle.bac_service.specs.LeadLaws.{head_begins}
 use Rattle.bac_service.specs.Fields.{heading, expected_heading, IsHeading, IsField}
 use Rattle.bac_service.specs.LongestLaws.{take_add, leaf_longest}
-use Rattle.bac_service.specs.Productions.{Lawful, IsLongest, IsReach, HasMark, IsInhabited, AppendsLeast}
+use Rattle.bac_service.specs.Productions.{Lawful, IsLongest, IsReach, IsInhabited}
 use Rattle.bac_service.specs.ProductionLaws.{leaf_lawful}
 use Rattle.bac_service.specs.RefusalLaws.{leaf_reach}
 
@@ -107,7 +107,7 @@ module _ {V : Type 0} (contents : V → List ℕ → Type 0) (c : Option ℕ) (a
   Body head value b = (len : ℕ) × (head ≡ heading c app len) × OfSize contents len value b
 
   abbrev Parts : TagHead × V → List ℕ → Type 0
-  Parts = Joined HeadOf Body
+  Parts = JoinedBy HeadOf Body
 
   follow : (head : TagHead) (b : List ℕ) → HeadOf head b → (value : V) × (d : List ℕ) × Body head value d
   unfolding Body

@@ -2,11 +2,11 @@
 use Rattle.std.specs.Prelude.{ℕ, List, [], ◌∷◌, ◌++◌, Bool, ◌&&◌, IsTrue, nat_le, refl}
 use Rattle.bac_tag.specs.declared.refusals.Refusal.{Refusal}
 use Rattle.bac_tag.specs.declared.heads.TagHead.TheVariants.{Open, Close}
-use Rattle.bac_tag.specs.Spelling.{IsRefusal}
+use Rattle.bac_tag.specs.Spelling.{IsRefusal, Joined}
 use Rattle.bac_tag.specs.SpellingLaws.{refused_alike}
 use Rattle.bac_service.specs.Leads.{Lead, closing, disjoint, and_where}
 use Rattle.bac_service.specs.LeadLaws.{disjoint_nil}
-use Rattle.bac_service.specs.Productions.{Both, Grouped, IsInhabited, IsLongest, IsReach}
+use Rattle.bac_service.specs.Productions.{Grouped, IsInhabited, IsLongest, IsReach}
 use Rattle.bac_service.specs.ProductionLaws.{Head, sound_parts}
 use Rattle.bac_service.specs.LongestLaws.{longest_alike}
 use Rattle.bac_service.specs.RefusalLaws.{reach_alike}
@@ -22,7 +22,7 @@ group_inhabited {S} cs n a I h =
 
 -- a group is its opening tag, its part and its closing tag
 abbrev pub Tagged : {V : Type 0} → ℕ → (V → List ℕ → Type 0) → Unit {0} × (V × Unit {0}) → List ℕ → Type 0
-Tagged n S = Both (Head (Open n)) (Both S (Head (Close n)))
+Tagged n S = Joined (Head (Open n)) (Joined S (Head (Close n)))
 
 pub group_sound : (os cs : List Lead) (e : Bool) (n : ℕ) (a : Bool) → IsTrue (nat_le n 254 && (a && disjoint (closing n ∷ []) cs)) → IsTrue (nat_le n 254 && ((a && (nat_le n 254 && disjoint (closing n ∷ []) cs)) && disjoint (and_where e os (closing n ∷ [])) []))
 group_sound os cs e n a h =

@@ -1,9 +1,9 @@
 -- I-Am (clause 21): the device, the largest APDU that it takes, its segmentation and its vendor, each under the application tag of its type.
 use Rattle.std.specs.Prelude.{ℕ, List, refl}
-use Rattle.bac_data.specs.Spells.{Joins}
+use Rattle.bac_tag.specs.Spelling.{Joins, Joined}
 use Rattle.bac_service.specs.declared.i_am.IAm.{IAm}
 use Rattle.bac_service.specs.Contents.{ApplicationObject, ApplicationUnsigned, ApplicationEnumerated, ApplicationUnsigned16}
-use Rattle.bac_service.specs.Productions.{Both, IsRecordOf}
+use Rattle.bac_service.specs.Productions.{IsRecordOf}
 
 abbrev pub SpellsIAm : IAm → List ℕ → Type 0
 SpellsIAm request =
@@ -11,7 +11,7 @@ SpellsIAm request =
     (Joins (ApplicationUnsigned request.max_apdu_length)
     (Joins (ApplicationEnumerated request.segmentation) (ApplicationUnsigned16 request.vendor)))
 
-pub i_am_parts : IsRecordOf (Both ApplicationObject (Both ApplicationUnsigned (Both ApplicationEnumerated ApplicationUnsigned16))) SpellsIAm
+pub i_am_parts : IsRecordOf (Joined ApplicationObject (Joined ApplicationUnsigned (Joined ApplicationEnumerated ApplicationUnsigned16))) SpellsIAm
 i_am_parts = record {
   fields = λ r. (r.device, (r.max_apdu_length, (r.segmentation, r.vendor)));
   of_fields = λ p. record { device = p.0; max_apdu_length = p.1.0; segmentation = p.1.1.0; vendor = p.1.1.1 };

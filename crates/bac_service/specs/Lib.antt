@@ -16,7 +16,6 @@ pub mod GroupLaws
 pub mod Fields
 pub mod FieldLaws
 pub mod OpenValueLaws
-pub mod WholeInput
 pub mod WholeLaws
 pub mod Unsigned32Laws
 pub mod Unsigned16Laws

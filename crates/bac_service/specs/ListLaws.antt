@@ -4,9 +4,9 @@ use Rattle.bac_tag.specs.declared.refusals.Refusal.{Refusal}
 use Rattle.bac_tag.specs.declared.refusals.Why.TheVariants.{Short}
 use Rattle.bac_tag.specs.Octets.{joined_mark}
 use Rattle.bac_tag.specs.Refusals.{farther_of, behind}
-use Rattle.bac_tag.specs.Spelling.{IsRefusal}
+use Rattle.bac_tag.specs.Spelling.{IsRefusal, HasMark}
 use Rattle.bac_service.specs.Leads.{Lead, disjoint}
-use Rattle.bac_service.specs.Productions.{Items, Lawful, IsInhabited, IsLongest, IsReach, HasMark}
+use Rattle.bac_service.specs.Productions.{Items, Lawful, IsInhabited, IsLongest, IsReach}
 use Rattle.bac_service.specs.LongestLaws.{IsSoFar, so_far_start, so_far_end, list_more, take_add}
 use Rattle.bac_service.specs.ReachLaws.{IsReachSoFar, reach_start}
 use Rattle.bac_service.specs.RefusalLaws.{farther_is, reach_taken, reach_item, reach_items, reach_so_far}

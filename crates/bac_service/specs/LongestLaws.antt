@@ -3,10 +3,10 @@ use Rattle.std.specs.Prelude.{◌≡◌, ℕ, ◌+◌, ◌≤◌, ◌<◌, List,
 use Rattle.std.proofs.Common.{suc, zero, sym, ◌∙◌, ap, subst, inl, inr, arith, append_assoc}
 use Rattle.std.proofs.lemmas.List.{append_cancel_left, append-nil, take-append-drop, length-append, length-drop, length-take-le, drop-take, take-take, drop-drop}
 use Rattle.std.proofs.lemmas.Bool.{and_parts}
-use Rattle.bac_tag.specs.Spelling.{NoFront, EndsItself, OneOf, Takes}
+use Rattle.bac_tag.specs.Spelling.{NoFront, EndsItself, OneOf, Takes, Joined}
 use Rattle.bac_service.specs.Leads.{Lead, disjoint, BeginsIn}
 use Rattle.bac_service.specs.LeadLaws.{begins_apart, begins_more, begins_not_nil}
-use Rattle.bac_service.specs.Productions.{Both, Items, Aligned, Lawful, IsLongest}
+use Rattle.bac_service.specs.Productions.{Items, Aligned, Lawful, IsLongest}
 use Rattle.bac_service.specs.Productions.Aligned.{same, shorter, longer}
 use Rattle.bac_service.specs.ProductionLaws.{begun, sound_parts, items_lawful, not_empty, one_never, one_lawful}
 
@@ -47,7 +47,7 @@ module _ {V W : Type 0} (S : V → List ℕ → Type 0) (T : W → List ℕ → 
       → ((drop n input ≡ b ++ y) × (length f ≡ n)) ⊎ ((b ≡ []) × (length f ≤ n))
   front_of_both p q f b y s t e = front_cases p q f b y s t e (LT.opens q b t) (LS.aligned v p (take n input) f (drop n input) (b ++ y) L.spelled s (take-append-drop n input ∙ e))
 
-  pub longest_both : (w : W) (m : ℕ) → IsLongest T (drop n input) w m → IsLongest (Both S T) input (v, w) (n + m)
+  pub longest_both : (w : W) (m : ℕ) → IsLongest T (drop n input) w m → IsLongest (Joined S T) input (v, w) (n + m)
   longest_both w m M = record {
     within = let h : m ≤ length (drop n input) = M.within in let k : n ≤ length input = L.within in omega (arith, length-drop n input);
     spelled = record { front = take n input; back = take m (drop n input); first = L.spelled; second = M.spelled; octets = take_add n m input L.within };
@@ -60,7 +60,7 @@ module _ {V W : Type 0} (S : V → List ℕ → Type 0) (T : W → List ℕ → 
         ];
   }
 
-  pub none_second : NoFront T (drop n input) → NoFront (Both S T) input
+  pub none_second : NoFront T (drop n input) → NoFront (Joined S T) input
   none_second none q c y e j =
       let e1 : input ≡ j.front ++ (j.back ++ y) = e ∙ ap (λ (l : List ℕ). l ++ y) j.octets ∙ append_assoc j.front j.back y in
       elim (front_of_both q.0 q.1 j.front j.back y j.first j.second e1) [
@@ -68,19 +68,19 @@ module _ {V W : Type 0} (S : V → List ℕ → Type 0) (T : W → List ℕ → 
         | inr h ↦ none q.1 [] (drop n input) refl (subst (λ (l : List ℕ). T q.1 l) h.0 j.second)
       ]
 
-pub none_first : {V W : Type 0} (S : V → List ℕ → Type 0) (T : W → List ℕ → Type 0) (input : List ℕ) → NoFront S input → NoFront (Both S T) input
+pub none_first : {V W : Type 0} (S : V → List ℕ → Type 0) (T : W → List ℕ → Type 0) (input : List ℕ) → NoFront S input → NoFront (Joined S T) input
 none_first S T input none q c y e j = none q.0 j.front (j.back ++ y) (e ∙ ap (λ (l : List ℕ). l ++ y) j.octets ∙ append_assoc j.front j.back y) j.first
 
 pub pair_found : {V W : Type 0} {S : V → List ℕ → Type 0} {T : W → List ℕ → Type 0} {os cs ot ct : List Lead} {es et : Bool} (a b : Bool)
     → (IsTrue a → Lawful S os cs es) → (IsTrue b → Lawful T ot ct et) → IsTrue (a && (b && disjoint ot cs))
-    → {input : List ℕ} {v : V} {n : ℕ} {w : W} {m : ℕ} → IsLongest S input v n → IsLongest T (drop n input) w m → IsLongest (Both S T) input (v, w) (n + m)
+    → {input : List ℕ} {v : V} {n : ℕ} {w : W} {m : ℕ} → IsLongest S input v n → IsLongest T (drop n input) w m → IsLongest (Joined S T) input (v, w) (n + m)
 pair_found {S} {T} {os} {cs} {ot} {ct} {es} {et} a b LS LT h {input} {v} {n} {w} {m} L M =
     let p = sound_parts a b (disjoint ot cs) h in
     longest_both S T os cs ot ct es et (LS p.0) (LT p.1) p.2 input v n L w m M
 
 pub pair_none : {V W : Type 0} {S : V → List ℕ → Type 0} {T : W → List ℕ → Type 0} {os cs ot ct : List Lead} {es et : Bool} (a b : Bool)
     → (IsTrue a → Lawful S os cs es) → (IsTrue b → Lawful T ot ct et) → IsTrue (a && (b && disjoint ot cs))
-    → {input : List ℕ} {v : V} {n : ℕ} → IsLongest S input v n → NoFront T (drop n input) → NoFront (Both S T) input
+    → {input : List ℕ} {v : V} {n : ℕ} → IsLongest S input v n → NoFront T (drop n input) → NoFront (Joined S T) input
 pair_none {S} {T} {os} {cs} {ot} {ct} {es} {et} a b LS LT h {input} {v} {n} L none =
     let p = sound_parts a b (disjoint ot cs) h in
     none_second S T os cs ot ct es et (LS p.0) (LT p.1) p.2 input v n L none

@@ -5,7 +5,7 @@ use Rattle.bac_tag.specs.declared.refusals.Refusal.{Refusal}
 use Rattle.bac_tag.specs.declared.refusals.Why.TheVariants.{Short}
 use Rattle.bac_tag.specs.declared.heads.TagHead.TheVariants.{App, AppBool, Ctx, Open, Close}
 use Rattle.bac_tag.specs.Octets.{IsMark}
-use Rattle.bac_tag.specs.Spelling.{IsLeast, IsFurthest, Takes}
+use Rattle.bac_tag.specs.Spelling.{IsLeast, IsFurthest, Takes, HasMark}
 use Rattle.bac_tag.proofs.WritingLemmas.{some_least}
 use Rattle.bac_value.specs.declared.prim.PrimitiveValue.{PrimitiveValue}
 use Rattle.bac_value.specs.PrimContents.{application_number, prim_written}
@@ -20,7 +20,7 @@ use Rattle.bac_data.proofs.OpenLemmas.{open_ends}
 use Rattle.bac_service.specs.Leads as lead
 use Rattle.bac_service.specs.Leads.{BeginsIn}
 use Rattle.bac_service.specs.LeadLaws.{head_begins}
-use Rattle.bac_service.specs.Productions.{Lawful, IsInhabited, IsLongest, IsReach, HasMark}
+use Rattle.bac_service.specs.Productions.{Lawful, IsInhabited, IsLongest, IsReach}
 use Rattle.bac_service.specs.ProductionLaws.{leaf_lawful}
 use Rattle.bac_service.specs.LongestLaws.{leaf_longest}
 use Rattle.bac_service.specs.RefusalLaws.{leaf_reach}

@@ -7,10 +7,10 @@ use Rattle.bac_tag.specs.declared.heads.TagHead.{TagHead}
 use Rattle.bac_tag.specs.declared.heads.TagHead.TheVariants.{Open, Close}
 use Rattle.bac_tag.specs.Heads.{Heads}
 use Rattle.bac_tag.specs.HeadsLaws.{heads_end}
-use Rattle.bac_tag.specs.Spelling.{EndsItself, OneOf}
+use Rattle.bac_tag.specs.Spelling.{EndsItself, OneOf, Joined}
 use Rattle.bac_service.specs.Leads.{Lead, opening, closing, lead_of, disjoint, and_where, BeginsIn}
 use Rattle.bac_service.specs.LeadLaws.{begins_apart, begins_more, begins_not_nil, begins_first, begins_also, head_begins, disjoint_nil}
-use Rattle.bac_service.specs.Productions.{Both, Optional, Items, Grouped, IsRecordOf, Aligned, Lawful}
+use Rattle.bac_service.specs.Productions.{Optional, Items, Grouped, IsRecordOf, Aligned, Lawful}
 use Rattle.bac_service.specs.Productions.Aligned.{same, shorter, longer}
 
 flip : {V : Type 0} (ts : List Lead) (v w : V) (b c : List ℕ) → Aligned ts v w b c → Aligned ts w v c b
@@ -37,7 +37,7 @@ module _ {V W : Type 0} (S : V → List ℕ → Type 0) (T : W → List ℕ → 
   later p q b c x y b1 b2 c1 c2 ep eb ec e1 (longer z e2 s) =
       longer z (eb ∙ ap (λ (l : List ℕ). b1 ++ l) e2 ∙ sym (append_assoc b1 c2 z) ∙ ap (λ (l : List ℕ). (l ++ c2) ++ z) e1 ∙ ap (λ (l : List ℕ). l ++ z) (sym ec)) (begins_first et ct cs z s)
 
-  joined_aligned : (p q : V × W) (b c x y : List ℕ) (m : Both S T p b) (n : Both S T q c) → b ++ x ≡ c ++ y
+  joined_aligned : (p q : V × W) (b c x y : List ℕ) (m : Joined S T p b) (n : Joined S T q c) → b ++ x ≡ c ++ y
       → m.front ++ (m.back ++ x) ≡ n.front ++ (n.back ++ y) → Aligned cs p.0 q.0 m.front n.front → Aligned (and_where et ct cs) p q b c
   joined_aligned p q b c x y m n e e2 (same ep e1) =
       let e3 : m.back ++ x ≡ n.back ++ y = append_cancel_left m.front (m.back ++ x) (n.back ++ y) (e2 ∙ ap (λ (l : List ℕ). l ++ (n.back ++ y)) (sym e1)) in
@@ -47,13 +47,13 @@ module _ {V W : Type 0} (S : V → List ℕ → Type 0) (T : W → List ℕ → 
   joined_aligned p q b c x y m n e e2 (longer z ez s) =
       flip (and_where et ct cs) q p c b (early q p c b y x n.front n.back m.front m.back z n.second n.octets m.octets ez s (sym e2) (LT.opens q.1 n.back n.second))
 
-  both_opens : (p : V × W) (b : List ℕ) (m : Both S T p b) → ((m.front ≡ []) × IsTrue es) ⊎ BeginsIn os m.front → ((m.back ≡ []) × IsTrue et) ⊎ BeginsIn ot m.back
+  both_opens : (p : V × W) (b : List ℕ) (m : Joined S T p b) → ((m.front ≡ []) × IsTrue es) ⊎ BeginsIn os m.front → ((m.back ≡ []) × IsTrue et) ⊎ BeginsIn ot m.back
       → ((b ≡ []) × IsTrue (es && et)) ⊎ BeginsIn (and_where es os ot) b
   both_opens p b m (inr o) k = inr (begins_first es os ot b (subst (λ (l : List ℕ). BeginsIn os l) (sym m.octets) (begins_more os m.front m.back o)))
   both_opens p b m (inl h) (inl k) = inl (m.octets ∙ rw (h.0, k.0) refl, rw (h.1, k.1) refl)
   both_opens p b m (inl h) (inr o) = inr (begins_also es os ot b h.1 (subst (λ (l : List ℕ). BeginsIn ot l) (sym (m.octets ∙ rw h.0 refl)) o))
 
-  pub both_lawful : Lawful (Both S T) (and_where es os ot) (and_where et ct cs) (es && et)
+  pub both_lawful : Lawful (Joined S T) (and_where es os ot) (and_where et ct cs) (es && et)
   both_lawful = record {
     opens = λ p b m. both_opens p b m (LS.opens p.0 m.front m.first) (LT.opens p.1 m.back m.second);
     aligned = λ p q b c x y m n e.
@@ -160,16 +160,16 @@ through_lawful S os cs e L f injective = record {
 }
 
 module _ {V : Type 0} (S : V → List ℕ → Type 0) (os cs : List Lead) (n : ℕ) where
-  grouped_by : (e : Bool) → Lawful S os cs e → IsTrue (disjoint (closing n ∷ []) cs) → Lawful (Both (Head (Open n)) (Both S (Head (Close n)))) (opening n ∷ []) [] false
-  grouped_by true L apart = both_lawful (Head (Open n)) (Both S (Head (Close n))) (opening n ∷ []) [] (and_where true os (closing n ∷ [])) [] false false (head_lawful (Open n))
+  grouped_by : (e : Bool) → Lawful S os cs e → IsTrue (disjoint (closing n ∷ []) cs) → Lawful (Joined (Head (Open n)) (Joined S (Head (Close n)))) (opening n ∷ []) [] false
+  grouped_by true L apart = both_lawful (Head (Open n)) (Joined S (Head (Close n))) (opening n ∷ []) [] (and_where true os (closing n ∷ [])) [] false false (head_lawful (Open n))
       (both_lawful S (Head (Close n)) os cs (closing n ∷ []) [] true false L (head_lawful (Close n)) apart) (disjoint_nil (and_where true os (closing n ∷ [])))
-  grouped_by false L apart = both_lawful (Head (Open n)) (Both S (Head (Close n))) (opening n ∷ []) [] (and_where false os (closing n ∷ [])) [] false false (head_lawful (Open n))
+  grouped_by false L apart = both_lawful (Head (Open n)) (Joined S (Head (Close n))) (opening n ∷ []) [] (and_where false os (closing n ∷ [])) [] false false (head_lawful (Open n))
       (both_lawful S (Head (Close n)) os cs (closing n ∷ []) [] false false L (head_lawful (Close n)) apart) (disjoint_nil (and_where false os (closing n ∷ [])))
 
   pub grouped_lawful : (e : Bool) → Lawful S os cs e → IsTrue (disjoint (closing n ∷ []) cs) → Lawful (Grouped n S) (opening n ∷ []) [] false
   grouped_lawful e L apart =
       let u : Unit {0} = tt in
-      through_lawful (Both (Head (Open n)) (Both S (Head (Close n)))) (opening n ∷ []) [] false (grouped_by e L apart) (λ (v : V). (u, (v, u))) (λ v w p. ap (λ (q : Unit {0} × (V × Unit {0})). q.1.0) p)
+      through_lawful (Joined (Head (Open n)) (Joined S (Head (Close n)))) (opening n ∷ []) [] false (grouped_by e L apart) (λ (v : V). (u, (v, u))) (λ v w p. ap (λ (q : Unit {0} × (V × Unit {0})). q.1.0) p)
 
 module _ {V W : Type 0} (S : V → List ℕ → Type 0) (T : W → List ℕ → Type 0) (os cs ot ct : List Lead) (LS : Lawful S os cs false) (LT : Lawful T ot ct false) (apart : IsTrue (disjoint os ot)) where
   one_opens : (o : V ⊎ W) (b : List ℕ) → OneOf S T o b → ((b ≡ []) × IsTrue false) ⊎ BeginsIn (os ++ ot) b
@@ -214,7 +214,7 @@ sound_parts a b d h =
     (p.0, q.0, q.1)
 
 pub pair_lawful : {V W : Type 0} {S : V → List ℕ → Type 0} {T : W → List ℕ → Type 0} {os cs ot ct : List Lead} {es et : Bool} (a b : Bool)
-    → (IsTrue a → Lawful S os cs es) → (IsTrue b → Lawful T ot ct et) → IsTrue (a && (b && disjoint ot cs)) → Lawful (Both S T) (and_where es os ot) (and_where et ct cs) (es && et)
+    → (IsTrue a → Lawful S os cs es) → (IsTrue b → Lawful T ot ct et) → IsTrue (a && (b && disjoint ot cs)) → Lawful (Joined S T) (and_where es os ot) (and_where et ct cs) (es && et)
 pair_lawful {S} {T} {os} {cs} {ot} {ct} {es} {et} a b LS LT h =
     let p = sound_parts a b (disjoint ot cs) h in
     both_lawful S T os cs ot ct es et (LS p.0) (LT p.1) p.2

@@ -3,15 +3,11 @@ use Rattle.std.specs.Prelude.{◌≡◌, ◌↔◌, ℕ, ◌≤◌, List, [], �
 use Rattle.bac_tag.specs.declared.refusals.Refusal.{Refusal}
 use Rattle.bac_tag.specs.declared.refusals.Why.TheVariants.{Short}
 use Rattle.bac_tag.specs.Octets.{IsMark}
-use Rattle.bac_tag.specs.Spelling.{IsLeast, IsFurthest}
-use Rattle.bac_data.specs.Spells.{Joins, Encloses}
+use Rattle.bac_tag.specs.Spelling.{IsLeast, IsFurthest, Joins}
+use Rattle.bac_data.specs.Spells.{Encloses}
 use Rattle.bac_service.specs.Leads.{Lead, BeginsIn}
 
 -- ---- what spells a part
-
--- one part behind the other
-abbrev pub Both : {V W : Type 0} → (V → List ℕ → Type 0) → (W → List ℕ → Type 0) → V × W → List ℕ → Type 0
-Both S T p = Joins (S p.0) (T p.1)
 
 -- an optional part: no octets where it is absent
 abbrev pub Optional : {V : Type 0} → (V → List ℕ → Type 0) → Option V → List ℕ → Type 0
@@ -66,15 +62,3 @@ pub record IsLongest {V : Type 0} (spells : V → List ℕ → Type 0) (input : 
 pub record IsReach {V : Type 0} (spells : V → List ℕ → Type 0) (input : List ℕ) (reach : Refusal) : Type 0 where
   pub furthest : IsFurthest spells input reach.place
   pub short : (reach.why ≡ Short) ↔ (reach.place ≡ length input)
-
--- the octets have the mark, against the least octets of the set
-pub record HasMark (Among : List ℕ → Type 0) (taken : List ℕ) (mark : Option ℕ) : Type 0 where
-  pub least : List ℕ
-  pub is_least : IsLeast Among least
-  pub is_mark : IsMark taken least mark
-
--- the new octets are the old ones, and behind them the least of a set
-pub record AppendsLeast (Among : List ℕ → Type 0) (old new : List ℕ) : Type 0 where
-  pub more : List ℕ
-  pub is_least : IsLeast Among more
-  pub new_is : new ≡ old ++ more

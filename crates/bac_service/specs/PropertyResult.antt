@@ -1,9 +1,9 @@
 -- What reading a property gave (clause 21): [2] the property, [3] the index, which may be absent, then [4] the value, or [5] a group with the error.
 use Rattle.std.specs.Prelude.{◌≡◌, ◌↔◌, ℕ, Option, List, ◌⊎◌, refl}
 use Rattle.std.proofs.Common.{inl, inr, sym, ap, subst}
-use Rattle.bac_tag.specs.Spelling.{OneOf}
+use Rattle.bac_tag.specs.Spelling.{OneOf, Joins, Joined}
 use Rattle.bac_data.specs.OpenValue.{Elements}
-use Rattle.bac_data.specs.Spells.{Joins, SpellsOpen}
+use Rattle.bac_data.specs.Spells.{SpellsOpen}
 use Rattle.bac_value.specs.declared.enumeration.Enumerated.{Enumerated}
 use Rattle.bac_service.specs.declared.unsigned32.Unsigned32.{Unsigned32}
 use Rattle.bac_service.specs.declared.error_cause.ErrorCause.{ErrorCause}
@@ -12,7 +12,7 @@ use Rattle.bac_service.specs.declared.property_result.ReadResult.TheVariants.{Va
 use Rattle.bac_service.specs.declared.property_result.PropertyResult.{PropertyResult}
 use Rattle.bac_service.specs.Contents.{EnumeratedField, UnsignedField}
 use Rattle.bac_service.specs.ErrorCause.{SpellsErrorCause}
-use Rattle.bac_service.specs.Productions.{Both, Optional, Grouped, IsRecordOf}
+use Rattle.bac_service.specs.Productions.{Optional, Grouped, IsRecordOf}
 
 abbrev pub SpellsReadResult : ℕ → ReadResult → List ℕ → Type 0
 SpellsReadResult groups (Value value) = SpellsOpen groups 4 value
@@ -47,13 +47,13 @@ abbrev pub property_result_of : Enumerated × (Option Unsigned32 × (Elements �
 property_result_of p = record { property = p.0; index = p.1.0; result = read_result_of p.1.1 }
 
 pub property_result_alike : (groups : ℕ) (p : Enumerated × (Option Unsigned32 × (Elements ⊎ ErrorCause))) (b : List ℕ)
-    → Both (EnumeratedField 2) (Both (Optional (UnsignedField 3)) (OneOf (SpellsOpen groups 4) (Grouped 5 SpellsErrorCause))) p b ↔ SpellsPropertyResult groups (property_result_of p) b
+    → Joined (EnumeratedField 2) (Joined (Optional (UnsignedField 3)) (OneOf (SpellsOpen groups 4) (Grouped 5 SpellsErrorCause))) p b ↔ SpellsPropertyResult groups (property_result_of p) b
 property_result_alike groups p b = (
   λ s. subst (λ (P : List ℕ → Type 0). Joins (EnumeratedField 2 p.0) (Joins (Optional (UnsignedField 3) p.1.0) P) b) (told groups p.1.1) s,
   λ s. subst (λ (P : List ℕ → Type 0). Joins (EnumeratedField 2 p.0) (Joins (Optional (UnsignedField 3) p.1.0) P) b) (sym (told groups p.1.1)) s,
 )
 
-pub property_result_parts : (groups : ℕ) → IsRecordOf (Both (EnumeratedField 2) (Both (Optional (UnsignedField 3)) (OneOf (SpellsOpen groups 4) (Grouped 5 SpellsErrorCause)))) (SpellsPropertyResult groups)
+pub property_result_parts : (groups : ℕ) → IsRecordOf (Joined (EnumeratedField 2) (Joined (Optional (UnsignedField 3)) (OneOf (SpellsOpen groups 4) (Grouped 5 SpellsErrorCause)))) (SpellsPropertyResult groups)
 property_result_parts groups = record {
   fields = λ r. (r.property, (r.index, choice_of r.result));
   of_fields = property_result_of;

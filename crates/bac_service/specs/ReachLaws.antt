@@ -3,11 +3,11 @@ use Rattle.std.specs.Prelude.{◌≡◌, ℕ, ◌+◌, ◌-◌, ◌≤◌, ◌<�
 use Rattle.std.proofs.Common.{sym, ◌∙◌, ap, subst, inl, inr, arith, append_assoc}
 use Rattle.std.proofs.lemmas.List.{append_cancel_left, append-nil, take-append-drop, length-append, length-drop, length-take-le, nil_from_length, drop-drop}
 use Rattle.std.proofs.lemmas.Bool.{cases_lt}
-use Rattle.bac_tag.specs.Spelling.{NoFront, IsViable, IsFurthest}
+use Rattle.bac_tag.specs.Spelling.{NoFront, IsViable, IsFurthest, Joined}
 use Rattle.bac_tag.specs.SpellingLaws.{viable_front}
 use Rattle.bac_service.specs.Leads.{Lead, disjoint, BeginsIn}
 use Rattle.bac_service.specs.LeadLaws.{begins_apart, begins_more, begins_not_nil}
-use Rattle.bac_service.specs.Productions.{Both, Optional, Items, Aligned, Lawful, IsInhabited, IsLongest}
+use Rattle.bac_service.specs.Productions.{Optional, Items, Aligned, Lawful, IsInhabited, IsLongest}
 use Rattle.bac_service.specs.Productions.Aligned.{same, shorter, longer}
 use Rattle.bac_service.specs.ProductionLaws.{sound_parts, items_lawful}
 use Rattle.bac_service.specs.LongestLaws.{take_add, IsSoFar, items_snoc}
@@ -25,14 +25,14 @@ cut (x ∷ q) t (y ∷ f) b e =
     ]
 
 module _ {V W : Type 0} (S : V → List ℕ → Type 0) (T : W → List ℕ → Type 0) where
-  pub viable_first : (u : W) (c : List ℕ) → T u c → (q : List ℕ) → IsViable S q → IsViable (Both S T) q
+  pub viable_first : (u : W) (c : List ℕ) → T u c → (q : List ℕ) → IsViable S q → IsViable (Joined S T) q
   viable_first u c t q h = record { value = (h.value, u); rest = h.rest ++ c; spelled = record { front = q ++ h.rest; back = c; first = h.spelled; second = t; octets = sym (append_assoc q h.rest c) } }
 
-  pub viable_second : (v : V) (f q : List ℕ) → S v f → IsViable T q → IsViable (Both S T) (f ++ q)
+  pub viable_second : (v : V) (f q : List ℕ) → S v f → IsViable T q → IsViable (Joined S T) (f ++ q)
   viable_second v f q s h = record { value = (v, h.value); rest = h.rest; spelled = record { front = f; back = q ++ h.rest; first = s; second = h.spelled; octets = append_assoc f q h.rest } }
 
   -- viable for both parts joined: viable for the first, or a spelling of the first and then viable for the second
-  pub viable_both : (q : List ℕ) → IsViable (Both S T) q → IsViable S q ⊎ ((v : V) × (f z : List ℕ) × S v f × (q ≡ f ++ z) × IsViable T z)
+  pub viable_both : (q : List ℕ) → IsViable (Joined S T) q → IsViable S q ⊎ ((v : V) × (f z : List ℕ) × S v f × (q ≡ f ++ z) × IsViable T z)
   viable_both q h =
       let j = h.spelled in
       elim (cut q h.rest j.front j.back j.octets) [
@@ -41,7 +41,7 @@ module _ {V W : Type 0} (S : V → List ℕ → Type 0) (T : W → List ℕ → 
       ]
 
   -- the first part is refused: so are both, there
-  pub furthest_first : (u : W) (c : List ℕ) → T u c → (input : List ℕ) (n : ℕ) → NoFront S input → IsFurthest S input n → IsFurthest (Both S T) input n
+  pub furthest_first : (u : W) (c : List ℕ) → T u c → (input : List ℕ) (n : ℕ) → NoFront S input → IsFurthest S input n → IsFurthest (Joined S T) input n
   furthest_first u c t input n none F = record {
     within = F.within;
     begins = viable_first u c t (take n input) F.begins;
@@ -83,7 +83,7 @@ module _ {V W : Type 0} (S : V → List ℕ → Type 0) (T : W → List ℕ → 
         | inr o ↦ absurd (begins_apart ot cs back apart o mb)
       ]
 
-  pub furthest_both : (u : W) (c : List ℕ) → T u c → (a b : ℕ) → IsFurthest S input a → IsFurthest T (drop n input) b → IsFurthest (Both S T) input (max a (n + b))
+  pub furthest_both : (u : W) (c : List ℕ) → T u c → (a b : ℕ) → IsFurthest S input a → IsFurthest T (drop n input) b → IsFurthest (Joined S T) input (max a (n + b))
   furthest_both u c t a b F G =
       let na : n ≤ a = reach_past a F in
       let gw : b ≤ length (drop n input) = G.within in
@@ -94,8 +94,8 @@ module _ {V W : Type 0} (S : V → List ℕ → Type 0) (T : W → List ℕ → 
       record {
         within = omega arith;
         begins = elim (cases_lt a (n + b)) [
-          | inl lt ↦ subst (λ (l : List ℕ). IsViable (Both S T) l) (sym (take_add n b input lw) ∙ ap (λ (i : ℕ). take i input) (omega arith)) (viable_second S T v (take n input) (take b (drop n input)) L.spelled G.begins)
-          | inr ge ↦ subst (λ (i : ℕ). IsViable (Both S T) (take i input)) (omega arith) (viable_first S T u c t (take a input) F.begins)
+          | inl lt ↦ subst (λ (l : List ℕ). IsViable (Joined S T) l) (sym (take_add n b input lw) ∙ ap (λ (i : ℕ). take i input) (omega arith)) (viable_second S T v (take n input) (take b (drop n input)) L.spelled G.begins)
+          | inr ge ↦ subst (λ (i : ℕ). IsViable (Joined S T) (take i input)) (omega arith) (viable_first S T u c t (take a input) F.begins)
         ];
         ends = λ lt h. elim (viable_both S T (take (k + 1) input) h) [
           | inl s ↦ F.ends (omega arith) (viable_front S input (a + 1) (k + 1) (omega arith) s)
@@ -122,7 +122,7 @@ furthest_absent S input n F = record {
         absurd (omega arith)
     go lt (Some w) rest s = F.ends lt (record { value = w; rest = rest; spelled = s })
 
-pub pair_inhabited : {V W : Type 0} {S : V → List ℕ → Type 0} {T : W → List ℕ → Type 0} → IsInhabited S → IsInhabited T → IsInhabited (Both S T)
+pub pair_inhabited : {V W : Type 0} {S : V → List ℕ → Type 0} {T : W → List ℕ → Type 0} → IsInhabited S → IsInhabited T → IsInhabited (Joined S T)
 pair_inhabited A B = record { value = (A.value, B.value); octets = A.octets ++ B.octets; spelled = record { front = A.octets; back = B.octets; first = A.spelled; second = B.spelled; octets = refl } }
 
 pub option_inhabited : {V : Type 0} (S : V → List ℕ → Type 0) → IsInhabited (Optional S)
@@ -134,12 +134,12 @@ furthest_present S input n F = furthest_absent S input n F
 
 pub pair_reach : {V W : Type 0} {S : V → List ℕ → Type 0} {T : W → List ℕ → Type 0} {os cs ot ct : List Lead} {es et : Bool} (a b : Bool)
     → (IsTrue a → Lawful S os cs es) → (IsTrue b → Lawful T ot ct et) → IsTrue (a && (b && disjoint ot cs)) → IsInhabited T
-    → {input : List ℕ} {v : V} {n i j : ℕ} → IsLongest S input v n → IsFurthest S input i → IsFurthest T (drop n input) j → IsFurthest (Both S T) input (max i (n + j))
+    → {input : List ℕ} {v : V} {n i j : ℕ} → IsLongest S input v n → IsFurthest S input i → IsFurthest T (drop n input) j → IsFurthest (Joined S T) input (max i (n + j))
 pair_reach {S} {T} {os} {cs} {ot} {ct} {es} {et} a b LS LT h I {input} {v} {n} {i} {j} L F G =
     let p = sound_parts a b (disjoint ot cs) h in
     furthest_both S T os cs ot ct es et (LS p.0) (LT p.1) p.2 input v n L I.value I.octets I.spelled i j F G
 
-pub pair_first : {V W : Type 0} {S : V → List ℕ → Type 0} {T : W → List ℕ → Type 0} → IsInhabited T → {input : List ℕ} {n : ℕ} → NoFront S input → IsFurthest S input n → IsFurthest (Both S T) input n
+pub pair_first : {V W : Type 0} {S : V → List ℕ → Type 0} {T : W → List ℕ → Type 0} → IsInhabited T → {input : List ℕ} {n : ℕ} → NoFront S input → IsFurthest S input n → IsFurthest (Joined S T) input n
 pair_first {S} {T} I {input} {n} none F = furthest_first S T I.value I.octets I.spelled input n none F
 
 -- ---- lists

@@ -7,11 +7,11 @@ use Rattle.bac_tag.specs.declared.refusals.Refusal.{Refusal}
 use Rattle.bac_tag.specs.declared.refusals.Why.{Why}
 use Rattle.bac_tag.specs.declared.refusals.Why.TheVariants.{Short}
 use Rattle.bac_tag.specs.Refusals.{weight_of, farther_of, behind}
-use Rattle.bac_tag.specs.Spelling.{EndsItself, IsViable, IsFurthest, IsRefusal, Takes, OneOf}
+use Rattle.bac_tag.specs.Spelling.{EndsItself, IsViable, IsFurthest, IsRefusal, Takes, OneOf, Joined}
 use Rattle.bac_tag.specs.SpellingLaws.{viable_front, viable-OneOf}
 use Rattle.bac_service.specs.Leads.{Lead, disjoint, BeginsIn}
 use Rattle.bac_service.specs.LeadLaws.{begins_apart, begins_more}
-use Rattle.bac_service.specs.Productions.{Both, Optional, Items, Lawful, IsInhabited, IsLongest, IsReach}
+use Rattle.bac_service.specs.Productions.{Optional, Items, Lawful, IsInhabited, IsLongest, IsReach}
 use Rattle.bac_service.specs.ProductionLaws.{begun, sound_parts, not_empty}
 use Rattle.bac_service.specs.LongestLaws.{IsSoFar, none_first, pair_none}
 use Rattle.bac_service.specs.ReachLaws.{pair_reach, pair_first, pair_inhabited, furthest_absent, furthest_present, IsReachSoFar, reach_end, reach_more}
@@ -41,19 +41,19 @@ short_behind input n r le h = (λ e. omega (arith, h.0 e, length-drop n input), 
 
 module _ {V W : Type 0} {S : V → List ℕ → Type 0} {T : W → List ℕ → Type 0} {os cs ot ct : List Lead} {es et : Bool} (a b : Bool) (LS : IsTrue a → Lawful S os cs es) (LT : IsTrue b → Lawful T ot ct et) (sound : IsTrue (a && (b && disjoint ot cs)))
     (inhabited : IsTrue b → IsInhabited T) {input : List ℕ} {v : V} {n : ℕ} (L : IsLongest S input v n) (r s : Refusal) (R : IsReach S input r) where
-  pub reach_both : IsReach T (drop n input) s → IsReach (Both S T) input (farther_of (behind n s) r)
+  pub reach_both : IsReach T (drop n input) s → IsReach (Joined S T) input (farther_of (behind n s) r)
   reach_both G =
-      reach_of (Both S T) input (behind n s) r (subst (IsFurthest (Both S T) input) (omega arith) (pair_reach a b LS LT sound (inhabited (sound_parts a b (disjoint ot cs) sound).1) L R.furthest G.furthest)) (short_behind input n s L.within G.short) R.short
+      reach_of (Joined S T) input (behind n s) r (subst (IsFurthest (Joined S T) input) (omega arith) (pair_reach a b LS LT sound (inhabited (sound_parts a b (disjoint ot cs) sound).1) L R.furthest G.furthest)) (short_behind input n s L.within G.short) R.short
 
-  pub refused_behind : IsRefusal T (drop n input) s → IsRefusal (Both S T) input (farther_of (behind n s) r)
+  pub refused_behind : IsRefusal T (drop n input) s → IsRefusal (Joined S T) input (farther_of (behind n s) r)
   refused_behind G =
       let reach = reach_both (record { furthest = G.furthest; short = G.short }) in
       record { none = pair_none a b LS LT sound L G.none; furthest = reach.furthest; short = reach.short }
 
-pub sound_inhabited : {V W : Type 0} {S : V → List ℕ → Type 0} {T : W → List ℕ → Type 0} (a b d : Bool) → (IsTrue a → IsInhabited S) → (IsTrue b → IsInhabited T) → IsTrue (a && (b && d)) → IsInhabited (Both S T)
+pub sound_inhabited : {V W : Type 0} {S : V → List ℕ → Type 0} {T : W → List ℕ → Type 0} (a b d : Bool) → (IsTrue a → IsInhabited S) → (IsTrue b → IsInhabited T) → IsTrue (a && (b && d)) → IsInhabited (Joined S T)
 sound_inhabited a b d first second h = let p = sound_parts a b d h in pair_inhabited (first p.0) (second p.1)
 
-pub refused_before : {V W : Type 0} {S : V → List ℕ → Type 0} {T : W → List ℕ → Type 0} (a b d : Bool) → (IsTrue b → IsInhabited T) → IsTrue (a && (b && d)) → {input : List ℕ} {r : Refusal} → IsRefusal S input r → IsRefusal (Both S T) input r
+pub refused_before : {V W : Type 0} {S : V → List ℕ → Type 0} {T : W → List ℕ → Type 0} (a b d : Bool) → (IsTrue b → IsInhabited T) → IsTrue (a && (b && d)) → {input : List ℕ} {r : Refusal} → IsRefusal S input r → IsRefusal (Joined S T) input r
 refused_before {S} {T} a b d inhabited sound {input} {r} h =
     let I = inhabited (sound_parts a b d sound).1 in
     record { none = none_first S T input h.none; furthest = pair_first I h.none h.furthest; short = h.short }

@@ -8,13 +8,12 @@ use Rattle.std.proofs.lemmas.List.Elements.{recursion_from_All, All-from_get_or}
 use Rattle.std.proofs.lemmas.Map.Made.{is_some-lookup}
 use Rattle.bac_tag.specs.Octets.{IsOctets}
 use Rattle.bac_tag.specs.OctetsLaws.{NoGreater-same}
-use Rattle.bac_tag.specs.Spelling.{IsLeast}
+use Rattle.bac_tag.specs.Spelling.{IsLeast, AppendsLeast}
 use Rattle.bac_service.specs.declared.kind.Kind.{Kind}
 use Rattle.bac_service.specs.declared.kind.Kind.TheVariants.{Confirmed, Unconfirmed, Error}
 use Rattle.bac_service.specs.ServiceTable.{ServiceProduction, read_property, read_property_ack, read_property_multiple, read_property_multiple_ack, write_property, write_property_multiple, write_property_multiple_error, who_is, i_am, subscribe_cov, cov_notification, service_error, production_of, is_small}
 use Rattle.bac_service.specs.ServiceValues.{SaidBy, Said, ServiceValue, typed, notification_kind, notification_choice}
 use Rattle.bac_service.specs.Services.{SpellsBy, SpellsSaid, SpellsService, IsPlaced}
-use Rattle.bac_service.specs.Productions.{AppendsLeast}
 use Rattle.bac_service.specs.LeastLaws.{least_alike}
 
 -- ---- the rows

@@ -2,13 +2,13 @@
 use Rattle.std.specs.Prelude.{◌≡◌, ◌↔◌, ℕ, Bool, Option, Some, None, List, refl}
 use Rattle.std.specs.Option.{option_map}
 use Rattle.std.proofs.Common.{ap}
-use Rattle.bac_data.specs.Spells.{Joins}
+use Rattle.bac_tag.specs.Spelling.{Joins, Joined}
 use Rattle.bac_value.specs.Identifier.{Identifier}
 use Rattle.bac_value.specs.declared.boolean_value.Boolean.{Boolean}
 use Rattle.bac_service.specs.declared.unsigned32.Unsigned32.{Unsigned32}
 use Rattle.bac_service.specs.declared.subscribe_cov.SubscribeCov.{SubscribeCov}
 use Rattle.bac_service.specs.Contents.{UnsignedField, ObjectField, BooleanField}
-use Rattle.bac_service.specs.Productions.{Both, Optional, IsRecordOf}
+use Rattle.bac_service.specs.Productions.{Optional, IsRecordOf}
 
 abbrev pub SpellsSubscribeCov : SubscribeCov → List ℕ → Type 0
 SpellsSubscribeCov request =
@@ -55,7 +55,7 @@ third b f j = record {
 }
 
 abbrev pub SubscribeCovParts : Unsigned32 × (Identifier × (Option Boolean × Option Unsigned32)) → List ℕ → Type 0
-SubscribeCovParts = Both (UnsignedField 0) (Both (ObjectField 1) (Both (Optional BitField) (Optional (UnsignedField 3))))
+SubscribeCovParts = Joined (UnsignedField 0) (Joined (ObjectField 1) (Joined (Optional BitField) (Optional (UnsignedField 3))))
 
 abbrev pub subscribe_cov_of : Unsigned32 × (Identifier × (Option Boolean × Option Unsigned32)) → SubscribeCov
 subscribe_cov_of p = record { process_identifier = p.0; object = p.1.0; confirmed = option_map bit_of p.1.1.0; lifetime = p.1.1.1 }

@@ -8,14 +8,14 @@ use Rattle.bac_tag.specs.declared.heads.TagHead.TheVariants.{App, AppBool, Ctx, 
 use Rattle.bac_tag.specs.declared.expecting.Expected.TheVariants as expected
 use Rattle.bac_tag.specs.Octets.{IsMark}
 use Rattle.bac_tag.specs.declared.refusals.Why.TheVariants.{Short}
-use Rattle.bac_tag.specs.Spelling.{IsLeast, IsFurthest, IsRefusal, Takes}
+use Rattle.bac_tag.specs.Spelling.{IsLeast, IsFurthest, IsRefusal, Takes, HasMark}
 use Rattle.bac_tag.specs.HeadsLaws.{heads_end}
 use Rattle.bac_tag.specs.SpellingLaws.{refused_alike}
 use Rattle.bac_tag.specs.Heads.{Heads}
 use Rattle.bac_tag.specs.Short.{BeginsShort}
 use Rattle.bac_tag.specs.Expected.{ExpectedHeads}
 use Rattle.bac_tag.proofs.WritingLemmas.{some_least}
-use Rattle.bac_service.specs.Productions.{IsInhabited, IsLongest, IsReach, HasMark}
+use Rattle.bac_service.specs.Productions.{IsInhabited, IsLongest, IsReach}
 use Rattle.bac_service.specs.LongestLaws.{leaf_longest}
 use Rattle.bac_service.specs.RefusalLaws.{leaf_reach}
 use Rattle.bac_service.specs.ProductionLaws.{Head}

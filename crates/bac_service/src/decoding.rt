@@ -1,9 +1,8 @@
 //! Decoding a value that takes all the octets.
 
 ghost use Rattle.std.specs.Prelude.{◌≡◌, ◌≢◌, IsTrue, IfOk, IfErr};
-ghost use Rattle.bac_service.specs.Productions.{HasMark};
+ghost use Rattle.bac_tag.specs.Spelling.{HasMark, IsWholeRefusal};
 ghost use Rattle.bac_service.specs.Reasons.{IsServiceReason};
-ghost use Rattle.bac_service.specs.WholeInput.{IsWholeRefusal};
 
 use crate::productions::{Production, ReadFault};
 use bac_tag::{Refusal, Why};

@@ -3,13 +3,12 @@
 ghost use Rattle.std.specs.Prelude.{◌≡◌, ◌≢◌, ◌↔◌, ◌≤◌, ◌&&◌, ◌∷◌, ◌++◌, ◌^◌, [], false, not, nat_le, nat_eq, Some, None, Err, IsTrue, IfSome, IfOk, IfErr, OnOk, length, take};
 ghost use Rattle.bac_tag.specs.Heads.{Heads};
 ghost use Rattle.bac_tag.specs.Short.{BeginsShort};
-ghost use Rattle.bac_tag.specs.Spelling.{IsRefusal, Takes};
+ghost use Rattle.bac_tag.specs.Spelling.{IsRefusal, Takes, HasMark, AppendsLeast};
 ghost use Rattle.bac_value.specs.Primitives.{OfSize};
 ghost use Rattle.bac_service.specs.Leads.{context, application};
 ghost use Rattle.bac_service.specs.Fields.{heading, expected_heading, IsHeading, IsField};
 ghost use Rattle.bac_service.specs.FieldLaws.{field_lawful, field_inhabited, application_heading};
 ghost use Rattle.bac_service.specs.TagLaws.{number_within};
-ghost use Rattle.bac_service.specs.Productions.{HasMark, AppendsLeast};
 ghost use Rattle.bac_service.specs.Reasons.{IsPartReason};
 ghost use Rattle.bac_service.specs.ReadFaults.{IfRefused, EndsOrGoesOn};
 

@@ -1,8 +1,9 @@
 //! A group (clause 20.2.1.3.2).
 
 ghost use Rattle.std.specs.Prelude.{◌&&◌, ◌∷◌, [], false, nat_le, IsTrue, OnOk};
+ghost use Rattle.bac_tag.specs.Spelling.{AppendsLeast};
 ghost use Rattle.bac_service.specs.Leads.{opening, closing, disjoint};
-ghost use Rattle.bac_service.specs.Productions.{Grouped, AppendsLeast};
+ghost use Rattle.bac_service.specs.Productions.{Grouped};
 ghost use Rattle.bac_service.specs.ProductionLaws.{group_lawful_sound};
 ghost use Rattle.bac_service.specs.GroupLaws.{group_inhabited};
 

@@ -1,9 +1,8 @@
 //! Laws of the definitions.
 
 ghost use Rattle.std.specs.Prelude.{◌≡◌, ◌↔◌, ◌⊎◌, ℕ, List, true, false, IsTrue};
-ghost use Rattle.bac_tag.specs.Spelling.{IsLeast, IsViable, IsPartway, OneOf};
+ghost use Rattle.bac_tag.specs.Spelling.{IsLeast, IsViable, IsPartway, OneOf, Joined};
 ghost use Rattle.bac_service.specs.declared.kind.Kind.{Kind};
-ghost use Rattle.bac_service.specs.Productions.{Both};
 ghost use Rattle.bac_service.specs.ServiceTable.{IsUnchanged};
 ghost use Rattle.bac_service.specs.ServiceValues.{ServiceValue};
 ghost use Rattle.bac_service.specs.Services.{SpellsService};
@@ -70,5 +69,5 @@ pub(crate) fn choices_are_viable_in_a_case<A: Production, B: Production>()
 /// the beginning of one of the second behind it.
 pub(crate) fn joined_parts_are_viable_in_turn<A: Production, B: Production>()
     requires { IsTrue B.is_sound }
-    ensures { (b : List ℕ) → IsViable (Both A.spells B.spells) b ↔ (IsViable A.spells b ⊎ IsPartway A.spells (λ _. B.spells) b) }
+    ensures { (b : List ℕ) → IsViable (Joined A.spells B.spells) b ↔ (IsViable A.spells b ⊎ IsPartway A.spells (λ _. B.spells) b) }
 {}

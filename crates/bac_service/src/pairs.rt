@@ -1,8 +1,8 @@
 //! One part behind the other.
 
 ghost use Rattle.std.specs.Prelude.{◌&&◌, ◌||◌};
+ghost use Rattle.bac_tag.specs.Spelling.{Joined};
 ghost use Rattle.bac_service.specs.Leads.{and_where, disjoint};
-ghost use Rattle.bac_service.specs.Productions.{Both};
 ghost use Rattle.bac_service.specs.ProductionLaws.{pair_lawful};
 ghost use Rattle.bac_service.specs.RefusalLaws.{sound_inhabited};
 
@@ -15,7 +15,7 @@ impl<A: Production, B: Production> Production for (A, B) {
 
     ghost view = { λ pair. (A.view pair.0, B.view pair.1) };
 
-    ghost spells = { Both A.spells B.spells };
+    ghost spells = { Joined A.spells B.spells };
 
     ghost openers = { and_where A.may_be_empty A.openers B.openers };
 

@@ -1,9 +1,9 @@
 //! The parts of a production (clause 21): what each is spelled by, how it is read and how it is written.
 
 ghost use Rattle.std.specs.Prelude.{◌≡◌, ◌≢◌, ◌↔◌, ℕ, Bool, List, take, length, IsTrue, IfOk, IfErr, OnOk, Err};
-ghost use Rattle.bac_tag.specs.Spelling.{IsRefusal};
+ghost use Rattle.bac_tag.specs.Spelling.{IsRefusal, HasMark, AppendsLeast};
 ghost use Rattle.bac_service.specs.Leads.{Lead};
-ghost use Rattle.bac_service.specs.Productions.{Lawful, IsInhabited, IsLongest, IsReach, HasMark, AppendsLeast};
+ghost use Rattle.bac_service.specs.Productions.{Lawful, IsInhabited, IsLongest, IsReach};
 ghost use Rattle.bac_service.specs.Reasons.{IsPartReason, IsReachReason};
 ghost use Rattle.bac_service.specs.ReadFaults.{IfRefused, EndsOrGoesOn};
 

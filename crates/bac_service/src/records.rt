@@ -1,7 +1,8 @@
 //! A struct whose fields stand one behind the other.
 
 ghost use Rattle.std.specs.Prelude.{◌↔◌, ℕ, List, IsTrue, OnOk};
-ghost use Rattle.bac_service.specs.Productions.{IsRecordOf, AppendsLeast};
+ghost use Rattle.bac_tag.specs.Spelling.{AppendsLeast};
+ghost use Rattle.bac_service.specs.Productions.{IsRecordOf};
 ghost use Rattle.bac_service.specs.ProductionLaws.{record_lawful};
 ghost use Rattle.bac_service.specs.RecordLaws.{record_inhabited};
 

@@ -1,10 +1,9 @@
 //! Decoding a service.
 
 ghost use Rattle.std.specs.Prelude.{◌≡◌, ◌≢◌, true, false, IsNone, IfOk, IfErr};
+ghost use Rattle.bac_tag.specs.Spelling.{HasMark, IsWholeRefusal};
 ghost use Rattle.bac_service.specs.declared.kind.Kind.TheVariants.{Confirmed, Unconfirmed, ComplexAck, Error};
-ghost use Rattle.bac_service.specs.Productions.{HasMark};
 ghost use Rattle.bac_service.specs.Reasons.{IsServiceReason};
-ghost use Rattle.bac_service.specs.WholeInput.{IsWholeRefusal};
 ghost use Rattle.bac_service.specs.ServiceTable.{production_of, is_small};
 ghost use Rattle.bac_service.specs.ServiceValues.{value_of};
 ghost use Rattle.bac_service.specs.Services.{SpellsService};

@@ -1,8 +1,7 @@
 //! Encoding a service.
 
 ghost use Rattle.std.specs.Prelude.{◌≡◌, true, IfOk, OnOk};
-ghost use Rattle.bac_tag.specs.Spelling.{IsLeast};
-ghost use Rattle.bac_service.specs.Productions.{AppendsLeast};
+ghost use Rattle.bac_tag.specs.Spelling.{IsLeast, AppendsLeast};
 ghost use Rattle.bac_service.specs.ServiceValues.{value_of};
 ghost use Rattle.bac_service.specs.Services.{SpellsSaid, SpellsService, IsPlaced};
 

@@ -1,7 +1,7 @@
 //! Errors of typed services (Error, clause 21).
 
 ghost use Rattle.std.specs.Prelude.{◌≡◌, ◌↔◌, IsSome, IfSome, OnOk, true, Some};
-ghost use Rattle.bac_service.specs.Productions.{AppendsLeast};
+ghost use Rattle.bac_tag.specs.Spelling.{AppendsLeast};
 ghost use Rattle.bac_service.specs.ErrorCause.{SpellsErrorCause};
 ghost use Rattle.bac_service.specs.ServiceTable.{service_error, production_of};
 ghost use Rattle.bac_service.specs.declared.kind.Kind.TheVariants.{Error};

@@ -11,7 +11,7 @@ use Rattle.bac_tag.specs.declared.heads.TagHead.TheVariants.{App, AppBool, Ctx, 
 use Rattle.bac_tag.specs.declared.reading.Front.{Front}
 use Rattle.bac_tag.specs.declared.expecting.Expected.{Expected}
 use Rattle.bac_tag.specs.declared.expecting.Expected.TheVariants as expected
-use Rattle.bac_tag.specs.Spelling.{EndsItself, CanFollow, Joined, OneOf, NoFront, IsRefusal, Takes}
+use Rattle.bac_tag.specs.Spelling.{EndsItself, CanFollow, JoinedBy, OneOf, NoFront, IsRefusal, Takes}
 use Rattle.bac_tag.specs.SpellingLaws.{refused_first, refused_second, refused_alike, refused_either}
 use Rattle.bac_tag.specs.Refusals.{farther_of}
 use Rattle.bac_tag.specs.Heads.{IsValid, class_bit, class_of, number_of, in_lvt, four_octets, LengthIn, Opening, Ending, Heads}
@@ -89,12 +89,12 @@ follow e s x b f = follows e x.context x.number x.lvt s f.used
 
 -- ---- a head is a front and a back
 
-pub joined_heads : (e : Expected) (p : Front × TagHead) (b : List ℕ) → Joined (IsFront e) (IsBack e) p b → ExpectedHeads e p.1 b
+pub joined_heads : (e : Expected) (p : Front × TagHead) (b : List ℕ) → JoinedBy (IsFront e) (IsBack e) p b → ExpectedHeads e p.1 b
 joined_heads e p b j =
     let o : Opening (class_of p.1) (number_of p.1) p.0.lvt j.front = subst (λ (n : ℕ). Opening (class_of p.1) n p.0.lvt j.front) j.second.number (subst (λ (c : ℕ). Opening c p.0.number p.0.lvt j.front) j.second.class j.first.opening) in
     record { fits = j.second.fits; spelled = record { valid = j.second.valid; lvt = p.0.lvt; front = j.front; back = j.back; opening = o; ending = j.second.ending; octets = j.octets } }
 
-pub heads_from : (e : Expected) (p : Front × TagHead) (b : List ℕ) → Joined (IsFront e) (IsBack e) p b → (h : TagHead) × ExpectedHeads e h b
+pub heads_from : (e : Expected) (p : Front × TagHead) (b : List ℕ) → JoinedBy (IsFront e) (IsBack e) p b → (h : TagHead) × ExpectedHeads e h b
 heads_from e p b j = (p.1, joined_heads e p b j)
 
 abbrev context_of : TagHead → Bool
@@ -136,7 +136,7 @@ uses_by (expected.Open m) (Open number) lvt b v f t = (refl, f, v, t.0)
 uses_by (expected.Close m) (Close number) lvt b v f t = (refl, f, v, t.0)
 uses_by _ _ lvt b v f t = absurd f
 
-pub heads_to : (e : Expected) (h : TagHead) (b : List ℕ) → ExpectedHeads e h b → (p : Front × TagHead) × Joined (IsFront e) (IsBack e) p b
+pub heads_to : (e : Expected) (h : TagHead) (b : List ℕ) → ExpectedHeads e h b → (p : Front × TagHead) × JoinedBy (IsFront e) (IsBack e) p b
 heads_to e h b x =
     let s = x.spelled in (
       (record { context = context_of h; number = number_of h; lvt = s.lvt }, h),
@@ -152,7 +152,7 @@ heads_to e h b x =
 -- ---- refusals
 
 pub refused_front : (e : Expected) (xs : List ℕ) (r : Refusal) → IsSound e → IsRefusal (IsFront e) xs r → IsRefusal (ExpectedHeads e) xs r
-refused_front e xs r s h = refused_alike (Joined (IsFront e) (IsBack e)) (ExpectedHeads e) xs r (heads_from e) (heads_to e) (refused_first (IsFront e) (IsBack e) xs r (follow e s) h)
+refused_front e xs r s h = refused_alike (JoinedBy (IsFront e) (IsBack e)) (ExpectedHeads e) xs r (heads_from e) (heads_to e) (refused_first (IsFront e) (IsBack e) xs r (follow e s) h)
 
 pub refused_back : (e : Expected) (x : Front) (taken : ℕ) (xs : List ℕ) (r : Refusal) → IsSound e → Takes (IsFront e) xs (x, taken) → IsRefusal (IsBack e x) (drop taken xs) r
     → IsRefusal (ExpectedHeads e) xs (record { place = taken + r.place; why = r.why })
@@ -160,9 +160,9 @@ refused_back e x taken xs r s t h =
     let whole : take taken xs ++ drop taken xs ≡ xs = take-append-drop taken xs in
     let long : length (take taken xs) ≡ taken = length-take-le taken xs t.within in
     let both = refused_second (IsFront e) (IsBack e) x (take taken xs) (drop taken xs) r (fronts_end e s) t.spelled h in
-    refused_alike (Joined (IsFront e) (IsBack e)) (ExpectedHeads e) xs (record { place = taken + r.place; why = r.why }) (heads_from e) (heads_to e)
-    (subst (λ (n : ℕ). IsRefusal (Joined (IsFront e) (IsBack e)) xs (record { place = n + r.place; why = r.why })) long
-    (subst (λ (l : List ℕ). IsRefusal (Joined (IsFront e) (IsBack e)) l (record { place = length (take taken xs) + r.place; why = r.why })) whole both))
+    refused_alike (JoinedBy (IsFront e) (IsBack e)) (ExpectedHeads e) xs (record { place = taken + r.place; why = r.why }) (heads_from e) (heads_to e)
+    (subst (λ (n : ℕ). IsRefusal (JoinedBy (IsFront e) (IsBack e)) xs (record { place = n + r.place; why = r.why })) long
+    (subst (λ (l : List ℕ). IsRefusal (JoinedBy (IsFront e) (IsBack e)) l (record { place = length (take taken xs) + r.place; why = r.why })) whole both))
 
 -- ---- where there is a length
 

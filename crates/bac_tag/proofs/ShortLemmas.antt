@@ -1,11 +1,11 @@
 -- Heads of one octet.
-use Rattle.std.proofs.Common.{◌≡◌, ℕ, ◌+◌, ◌*◌, ◌^◌, ◌<◌, ◌≤◌, inl, inr, Bool, true, false, List, [], ◌∷◌, ◌++◌, length, take, get_or, refl, sym, ap, ◌∙◌, append-nil, length-append, arith}
+use Rattle.std.proofs.Common.{◌≡◌, ℕ, ◌+◌, ◌*◌, ◌^◌, ◌<◌, inl, inr, Bool, true, false, List, [], ◌∷◌, length, take, get_or, refl, sym, ap, ◌∙◌, length-append, arith}
 use Rattle.std.proofs.lemmas.Bool.{cases_lt, lt-ltb, le-ltb}
 use Rattle.bac_tag.specs.declared.heads.TagHead.{TagHead}
-use Rattle.bac_tag.specs.declared.heads.TagHead.TheVariants.{App, AppBool, Ctx, Open, Close}
+use Rattle.bac_tag.specs.declared.heads.TagHead.TheVariants.{App, Ctx, Open, Close}
 use Rattle.bac_tag.specs.Spelling.{IsLeast}
 use Rattle.bac_tag.specs.SpellingLaws.{IsLeast-one}
-use Rattle.bac_tag.specs.Heads.{IsValid, class_bit, numbers, nibble_of, number_octets, lengths, lvt_of, length_octets, Heads, LengthFits}
+use Rattle.bac_tag.specs.Heads.{IsValid, class_bit, number_octets, length_octets, Heads}
 use Rattle.bac_tag.specs.HeadsLaws.{initial_parts, head_is, length_below, class_bit_below, class_bit_one}
 use Rattle.bac_tag.specs.Writing.{number_form, length_form, narrow_opening, narrow_head}
 use Rattle.bac_tag.specs.Short.{headed, BeginsShort, BeginsWith}

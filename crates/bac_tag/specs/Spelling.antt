@@ -1,14 +1,26 @@
 -- Words over any relation `Spells x b`, that the list b spells the value x.
-use Rattle.std.specs.Prelude.{◌≡◌, ℕ, ◌+◌, ◌<◌, ◌≤◌, ◌↔◌, ◌⊎◌, List, ◌++◌, length, take}
+use Rattle.std.specs.Prelude.{◌≡◌, ℕ, ◌+◌, ◌<◌, ◌≤◌, ◌↔◌, ◌⊎◌, Option, List, ◌++◌, length, take}
 use Rattle.std.proofs.Common.{inl, inr}
 use Rattle.bac_tag.specs.declared.refusals.Refusal.{Refusal}
-use Rattle.bac_tag.specs.declared.refusals.Why.TheVariants.{Short}
-use Rattle.bac_tag.specs.Octets.{NoGreater}
+use Rattle.bac_tag.specs.declared.refusals.Why.TheVariants.{Short, Trailing}
+use Rattle.bac_tag.specs.Octets.{NoGreater, IsMark}
 
 -- b is in the set, and no greater than any list in it
 pub record IsLeast (Among : List ℕ → Type 0) (b : List ℕ) : Type 0 where
   pub member : Among b
   pub least : (c : List ℕ) → Among c → NoGreater b c
+
+-- the octets have the mark, against the least octets of the set
+pub record HasMark (Among : List ℕ → Type 0) (taken : List ℕ) (mark : Option ℕ) : Type 0 where
+  pub least : List ℕ
+  pub is_least : IsLeast Among least
+  pub is_mark : IsMark taken least mark
+
+-- the new octets are the old ones, and behind them the least of a set
+pub record AppendsLeast (Among : List ℕ → Type 0) (old new : List ℕ) : Type 0 where
+  pub more : List ℕ
+  pub is_least : IsLeast Among more
+  pub new_is : new ≡ old ++ more
 
 module _ {X : Type 0} where
   -- the list spells some value
@@ -47,13 +59,29 @@ module _ {X : Type 0} where
     pub furthest : IsFurthest Spells input refusal.place
     pub short : (refusal.why ≡ Short) ↔ (refusal.place ≡ length input)
 
--- two parts, one behind the other: the second may go by the value of the first
-pub record Joined {X Y : Type 0} (First : X → List ℕ → Type 0) (Second : X → Y → List ℕ → Type 0) (pair : X × Y) (b : List ℕ) : Type 0 where
+  -- The input as a whole spells no value. The place is that of the first octet with which no spelling can be begun. Short is
+  -- told exactly where the input ends before there is one, Trailing exactly where the octets in front of it spell a value.
+  pub record IsWholeRefusal (Spells : X → List ℕ → Type 0) (input : List ℕ) (refusal : Refusal) : Type 0 where
+    pub none : (x : X) → Spells x input → ⊥
+    pub furthest : IsFurthest Spells input refusal.place
+    pub short : (refusal.why ≡ Short) ↔ (refusal.place ≡ length input)
+    pub trailing : (refusal.why ≡ Trailing) ↔ ((refusal.place < length input) × IsSpelling Spells (take refusal.place input))
+
+-- a list of the first kind, and behind it one of the second
+pub record Joins (First Second : List ℕ → Type 0) (b : List ℕ) : Type 0 where
   pub front : List ℕ
   pub back : List ℕ
-  pub first : First pair.0 front
-  pub second : Second pair.0 pair.1 back
+  pub first : First front
+  pub second : Second back
   pub octets : b ≡ front ++ back
+
+-- two parts, one behind the other
+abbrev pub Joined : {X Y : Type 0} → (X → List ℕ → Type 0) → (Y → List ℕ → Type 0) → X × Y → List ℕ → Type 0
+Joined First Second pair = Joins (First pair.0) (Second pair.1)
+
+-- the same, where the second part goes by the value of the first
+abbrev pub JoinedBy : {X Y : Type 0} → (X → List ℕ → Type 0) → (X → Y → List ℕ → Type 0) → X × Y → List ℕ → Type 0
+JoinedBy First Second pair = Joins (First pair.0) (Second pair.0 pair.1)
 
 -- a spelling of the first part, followed by a list that is viable for the second
 pub record IsPartway {X Y : Type 0} (First : X → List ℕ → Type 0) (Second : X → Y → List ℕ → Type 0) (b : List ℕ) : Type 0 where

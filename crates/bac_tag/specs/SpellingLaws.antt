@@ -10,7 +10,7 @@ use Rattle.std.specs.Prelude.{slice_get, nat_eq, nat_lt, cond, ◌&&◌, Bool, t
 use Rattle.bac_tag.specs.Refusals.{weight_of, farther_of}
 use Rattle.bac_tag.specs.Octets.{FirstDifference}
 use Rattle.bac_tag.specs.OctetsLaws.{NoGreater-antisym, NoGreater-append}
-use Rattle.bac_tag.specs.Spelling.{IsLeast, IsViable, NoFront, EndsItself, IsRefusal, Joined, IsPartway, CanFollow, OneOf}
+use Rattle.bac_tag.specs.Spelling.{IsLeast, IsViable, NoFront, EndsItself, IsRefusal, JoinedBy, IsPartway, CanFollow, OneOf}
 
 -- Of two ways to split a list one has the longer first part, which begins with the other's.
 pub splits : (a b r s : List ℕ) → a ++ r ≡ b ++ s → length a ≤ length b → (m : List ℕ) × (b ≡ a ++ m) × (r ≡ m ++ s)
@@ -20,12 +20,12 @@ splits a b r s e le =
     (drop (length a) b, b_is, append_cancel_left a r (drop (length a) b ++ s) (e ∙ ap (λ (t : List ℕ). t ++ s) b_is ∙ append_assoc a (drop (length a) b) s))
 
 module _ {X Y : Type 0} (First : X → List ℕ → Type 0) (Second : X → Y → List ℕ → Type 0) where
-  viable_first : CanFollow First Second → (b : List ℕ) → IsViable First b → IsViable (Joined First Second) b
+  viable_first : CanFollow First Second → (b : List ℕ) → IsViable First b → IsViable (JoinedBy First Second) b
   viable_first follow b v =
       let f = follow v.value (b ++ v.rest) v.spelled in
       record { value = (v.value, f.0); rest = v.rest ++ f.1; spelled = record { front = b ++ v.rest; back = f.1; first = v.spelled; second = f.2; octets = sym (append_assoc b v.rest f.1) } }
 
-  viable_second : (b : List ℕ) → IsPartway First Second b → IsViable (Joined First Second) b
+  viable_second : (b : List ℕ) → IsPartway First Second b → IsViable (JoinedBy First Second) b
   viable_second b w =
       record {
         value = (w.value, w.viable.value);
@@ -39,7 +39,7 @@ module _ {X Y : Type 0} (First : X → List ℕ → Type 0) (Second : X → Y �
         };
       }
 
-  viable_cases : (b : List ℕ) → IsViable (Joined First Second) b → IsViable First b ⊎ IsPartway First Second b
+  viable_cases : (b : List ℕ) → IsViable (JoinedBy First Second) b → IsViable First b ⊎ IsPartway First Second b
   viable_cases b v =
       let j = v.spelled in
       elim (cases_lt (length b) (length j.front)) [
@@ -57,11 +57,11 @@ module _ {X Y : Type 0} (First : X → List ℕ → Type 0) (Second : X → Y �
       ]
 
   -- the law on two parts joined
-  pub viable-Joined : CanFollow First Second → (b : List ℕ) → IsViable (Joined First Second) b ↔ (IsViable First b ⊎ IsPartway First Second b)
-  viable-Joined follow b = (viable_cases b, λ s. elim s [ inl v ↦ viable_first follow b v | inr w ↦ viable_second b w ])
+  pub viable-JoinedBy : CanFollow First Second → (b : List ℕ) → IsViable (JoinedBy First Second) b ↔ (IsViable First b ⊎ IsPartway First Second b)
+  viable-JoinedBy follow b = (viable_cases b, λ s. elim s [ inl v ↦ viable_first follow b v | inr w ↦ viable_second b w ])
 
   -- what is refused in the first part
-  pub refused_first : (input : List ℕ) (r : Refusal) → CanFollow First Second → IsRefusal First input r → IsRefusal (Joined First Second) input r
+  pub refused_first : (input : List ℕ) (r : Refusal) → CanFollow First Second → IsRefusal First input r → IsRefusal (JoinedBy First Second) input r
   refused_first input r follow h = record {
     none = λ x b rest e j. h.none x.0 j.front (j.back ++ rest) (e ∙ ap (λ (t : List ℕ). t ++ rest) j.octets ∙ append_assoc j.front j.back rest) j.first;
     furthest = record {
@@ -77,7 +77,7 @@ module _ {X Y : Type 0} (First : X → List ℕ → Type 0) (Second : X → Y �
   }
 
   -- what is refused in the second part, behind a spelling of the first
-  pub refused_second : (x : X) (a rest : List ℕ) (r : Refusal) → EndsItself First → First x a → IsRefusal (Second x) rest r → IsRefusal (Joined First Second) (a ++ rest) (record { place = length a + r.place; why = r.why })
+  pub refused_second : (x : X) (a rest : List ℕ) (r : Refusal) → EndsItself First → First x a → IsRefusal (Second x) rest r → IsRefusal (JoinedBy First Second) (a ++ rest) (record { place = length a + r.place; why = r.why })
   refused_second x a rest r ended f h = record {
     none = λ y b more e j.
         let parts : a ++ rest ≡ j.front ++ (j.back ++ more) = e ∙ ap (λ (t : List ℕ). t ++ more) j.octets ∙ append_assoc j.front j.back more in
@@ -86,10 +86,10 @@ module _ {X Y : Type 0} (First : X → List ℕ → Type 0) (Second : X → Y �
         (subst (λ (z : X). Second z y.1 j.back) (sym same.1) j.second);
     furthest = record {
       within = omega (arith, length-append a rest, h.furthest.within);
-      begins = subst (λ (t : List ℕ). IsViable (Joined First Second) t) (sym (take-append-add a rest r.place))
+      begins = subst (λ (t : List ℕ). IsViable (JoinedBy First Second) t) (sym (take-append-add a rest r.place))
           (viable_second (a ++ take r.place rest) (record { value = x; front = a; back = take r.place rest; first = f; viable = h.furthest.begins; octets = refl }));
       ends = λ lt v.
-          let v' : IsViable (Joined First Second) (a ++ take (r.place + 1) rest) = subst (λ (t : List ℕ). IsViable (Joined First Second) t) (ap (λ (n : ℕ). take n (a ++ rest)) (add_assoc (length a) r.place 1) ∙ take-append-add a rest (r.place + 1)) v in
+          let v' : IsViable (JoinedBy First Second) (a ++ take (r.place + 1) rest) = subst (λ (t : List ℕ). IsViable (JoinedBy First Second) t) (ap (λ (n : ℕ). take n (a ++ rest)) (add_assoc (length a) r.place 1) ∙ take-append-add a rest (r.place + 1)) v in
           let j = v'.spelled in
           let parts : a ++ (take (r.place + 1) rest ++ v'.rest) ≡ j.front ++ j.back = sym (append_assoc a (take (r.place + 1) rest) v'.rest) ∙ j.octets in
           let same = ended x v'.value.0 a j.front _ j.back f j.first parts in
@@ -133,8 +133,8 @@ viable-OneOf {X = X} {Y = Y} First Second b = (
     by_case (inr y) rest s = inr (record { value = y; rest = rest; spelled = s })
 
 -- parts that end themselves, one behind the other, end themselves
-pub Joined-end : {X Y : Type 0} (First : X → List ℕ → Type 0) (Second : X → Y → List ℕ → Type 0) → EndsItself First → ((x : X) → EndsItself (Second x)) → EndsItself (Joined First Second)
-Joined-end {X = X} {Y = Y} First Second e f p q b c r s j k same =
+pub JoinedBy-end : {X Y : Type 0} (First : X → List ℕ → Type 0) (Second : X → Y → List ℕ → Type 0) → EndsItself First → ((x : X) → EndsItself (Second x)) → EndsItself (JoinedBy First Second)
+JoinedBy-end {X = X} {Y = Y} First Second e f p q b c r s j k same =
     let parts = λ (l : List ℕ) (x y t : List ℕ) (is : l ≡ x ++ y). let z : l ++ t ≡ x ++ (y ++ t) = ap (λ (u : List ℕ). u ++ t) is ∙ append_assoc x y t in z in
     let whole = sym (parts b j.front j.back r j.octets) ∙ same ∙ parts c k.front k.back s k.octets in
     let first = e p.0 q.0 j.front k.front (j.back ++ r) (k.back ++ s) j.first k.first whole in
@@ -222,7 +222,7 @@ ends_one Spells ends x y b p q = (ends x y b b [] [] p q refl).1
 
 -- the least spellings of two parts joined, where the second does not go by the first
 pub IsLeast-joined : {X Y : Type 0} (First : X → List ℕ → Type 0) (Second : X → Y → List ℕ → Type 0) (x : X) (y : Y) (a b : List ℕ)
-    → IsLeast (First x) a → IsLeast (Second x y) b → IsLeast (Joined First Second (x, y)) (a ++ b)
+    → IsLeast (First x) a → IsLeast (Second x y) b → IsLeast (JoinedBy First Second (x, y)) (a ++ b)
 IsLeast-joined First Second x y a b p q = record {
   member = record { front = a; back = b; first = p.member; second = q.member; octets = refl };
   least = λ c j. rw j.octets (NoGreater-append a j.front b j.back (p.least j.front j.first) (q.least j.back j.second));

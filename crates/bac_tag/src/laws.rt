@@ -3,7 +3,7 @@
 ghost use Rattle.std.specs.Prelude.{◌≡◌, ◌↔◌, ◌⊎◌, ℕ, List, ◌++◌, ◌≤◌, length};
 ghost use Rattle.bac_tag.specs.Octets.{NoGreater};
 ghost use Rattle.bac_tag.specs.Refusals.{farther_of};
-ghost use Rattle.bac_tag.specs.Spelling.{EndsItself, IsLeast, IsViable, IsPartway, IsRefusal, Joined, OneOf};
+ghost use Rattle.bac_tag.specs.Spelling.{EndsItself, IsLeast, IsViable, IsPartway, IsRefusal, JoinedBy, OneOf};
 ghost use Rattle.bac_tag.specs.Heads.{IsValid, LengthFits, Heads};
 ghost use Rattle.bac_tag.specs.declared.heads.TagHead.{TagHead};
 ghost use Rattle.bac_tag.specs.declared.refusals.Refusal.{Refusal};
@@ -68,7 +68,7 @@ pub fn choices_are_viable_in_a_case<A: Spelled, B: Spelled>()
 /// first, or is one of the first with the beginning of one of the second behind it.
 pub fn joined_parts_are_viable_in_turn<A: Spelled, B: Spelled>()
     ensures { (y : B.Value) (d : List ℕ) → B.spells y d
-        → (b : List ℕ) → IsViable (Joined A.spells (λ _. B.spells)) b ↔ (IsViable A.spells b ⊎ IsPartway A.spells (λ _. B.spells) b) }
+        → (b : List ℕ) → IsViable (JoinedBy A.spells (λ _. B.spells)) b ↔ (IsViable A.spells b ⊎ IsPartway A.spells (λ _. B.spells) b) }
 {}
 
 /// Of the refusals of one input by two readings, the farther is that of a reader that takes either.

@@ -8,7 +8,7 @@ use Rattle.bac_tag.specs.declared.heads.TagHead.TheVariants.{App, AppBool, Ctx, 
 use Rattle.bac_tag.specs.declared.expecting.Expected.TheVariants as expected
 use Rattle.bac_tag.specs.Octets.{NoGreater, FirstDifference, IsMark, joined_mark}
 use Rattle.bac_tag.specs.OctetsLaws.{NoGreater-append, mark-append, mark_first, mark_by}
-use Rattle.bac_tag.specs.Spelling.{EndsItself, IsLeast, IsRefusal, Takes, Joined}
+use Rattle.bac_tag.specs.Spelling.{EndsItself, IsLeast, IsRefusal, Takes, JoinedBy}
 use Rattle.bac_tag.specs.SpellingLaws.{refused_first, refused_second, refused_alike, IsLeast-one}
 use Rattle.bac_tag.specs.Heads.{Heads}
 use Rattle.bac_tag.specs.HeadsLaws.{heads_end}
@@ -66,7 +66,7 @@ module _ {V : Type 0} (contents : V → List ℕ → Type 0) (number shortest lo
   Head = ExpectedHeads (expected.Ctx (Some number) shortest longest)
 
   abbrev Parts : TagHead × V → List ℕ → Type 0
-  Parts = Joined Head (ContentsOf contents)
+  Parts = JoinedBy Head (ContentsOf contents)
 
   follow : (head : TagHead) (b : List ℕ) → Head head b → (value : V) × (d : List ℕ) × ContentsOf contents head value d
   unfolding ContentsOf

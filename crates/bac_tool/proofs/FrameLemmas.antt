@@ -4,8 +4,8 @@ use Rattle.std.specs.Prelude.{IfSome}
 use Rattle.std.proofs.lemmas.List.{append_cancel_left}
 use Rattle.bac_tag.specs.declared.refusals.Refusal.{Refusal}
 use Rattle.bac_tag.specs.OctetsLaws.{NoGreater-length, NoGreater-same}
-use Rattle.bac_tag.specs.Spelling.{EndsItself, IsLeast, IsRefusal, Takes, Joined}
-use Rattle.bac_tag.specs.SpellingLaws.{Joined-end, IsLeast-joined, refused_first}
+use Rattle.bac_tag.specs.Spelling.{EndsItself, IsLeast, IsRefusal, Takes, JoinedBy, IsWholeRefusal}
+use Rattle.bac_tag.specs.SpellingLaws.{JoinedBy-end, IsLeast-joined, refused_first}
 use Rattle.bac_value.specs.Primitives.{IsTheList}
 use Rattle.bac_value.specs.PrimitivesLaws.{the_list_once, the_list_written, the_list_least}
 use Rattle.bac_value.specs.Numbers.{NumberContents, least_number}
@@ -18,7 +18,6 @@ use Rattle.bac_tool.specs.declared.array_index.ArrayIndex.{ArrayIndex}
 use Rattle.bac_tool.specs.declared.thin_frame.ThinFrame.{ThinFrame}
 use Rattle.bac_tool.specs.ArrayIndexLaws.{one_array_index}
 use Rattle.bac_tool.specs.Fields.{least_field, Optional}
-use Rattle.bac_tool.specs.WholeInput.{IsWholeRefusal}
 use Rattle.bac_tool.specs.ThinHeader.{Header, SpellsHeader, header_octets}
 use Rattle.bac_tool.specs.ThinFrame.{IsThinFrame, ObjectField, PropertyField, IndexField, SpellsRequest, SpellsRequired, SpellsThin, request_octets, index_octets, thin_octets, IsRequiredReason}
 use Rattle.bac_tool.proofs.PartLemmas.{whole_refused, whole_alike, refused_last}
@@ -58,10 +57,10 @@ index_least index h =
 -- ---- the parts that each frame has
 
 pub request_ends : EndsItself SpellsRequest
-request_ends = Joined-end ObjectField (λ _. PropertyField) object_ends (λ _. property_ends)
+request_ends = JoinedBy-end ObjectField (λ _. PropertyField) object_ends (λ _. property_ends)
 
 pub required_ends : EndsItself SpellsRequired
-required_ends = Joined-end SpellsHeader (λ _. SpellsRequest) header_ends (λ _. request_ends)
+required_ends = JoinedBy-end SpellsHeader (λ _. SpellsRequest) header_ends (λ _. request_ends)
 
 -- some property and some request can follow
 property_follows : (value : Enumerated) × (octets : List ℕ) × PropertyField value octets
@@ -83,7 +82,7 @@ required_refused input r h = refused_first SpellsHeader (λ _. SpellsRequest) in
 -- ---- whole frames
 
 abbrev Parts : (Header × (Identifier × Enumerated)) × Option ArrayIndex → List ℕ → Type 0
-Parts = Joined SpellsRequired (λ _. Optional IndexField)
+Parts = JoinedBy SpellsRequired (λ _. Optional IndexField)
 
 to : (x : (Header × (Identifier × Enumerated)) × Option ArrayIndex) (b : List ℕ) → Parts x b → (frame : ThinFrame) × SpellsThin frame b
 to x b j = (record { header = x.0.0; object = x.0.1.0; property = x.0.1.1; index = x.1 }, j)

@@ -7,12 +7,11 @@ use Rattle.bac_tag.specs.declared.refusals.Why.{Why}
 use Rattle.bac_tag.specs.declared.refusals.Why.TheVariants.{Short, Trailing}
 use Rattle.bac_tag.specs.Octets.{IsMark, joined_mark}
 use Rattle.bac_tag.specs.OctetsLaws.{mark-append}
-use Rattle.bac_tag.specs.Spelling.{EndsItself, IsViable, IsRefusal, Takes, Joined}
+use Rattle.bac_tag.specs.Spelling.{EndsItself, IsViable, IsRefusal, Takes, JoinedBy, IsWholeRefusal}
 use Rattle.bac_tag.specs.SpellingLaws.{refused_second, splits}
 use Rattle.bac_value.specs.PrimitivesLaws.{nothing_left}
 use Rattle.bac_tool.specs.Fields.{Optional}
 use Rattle.bac_tool.specs.Appending.{Extends}
-use Rattle.bac_tool.specs.WholeInput.{IsWholeRefusal}
 
 -- fronts of one list that are as long are one
 pub same_fronts : (b c r s : List ℕ) → b ++ r ≡ c ++ s → length b ≡ length c → b ≡ c
@@ -30,7 +29,7 @@ taken_octets input n m within =
     sym (ap (take (n + m)) (take-append-drop n input)) ∙ ap (λ (k : ℕ). take (k + m) (take n input ++ drop n input)) (sym long) ∙ take-append-add (take n input) (drop n input) m
 
 pub joined_taken : {X Y : Type 0} (First : X → List ℕ → Type 0) (Second : Y → List ℕ → Type 0) (input : List ℕ) (x : X) (y : Y) (n m : ℕ)
-    → Takes First input (x, n) → Takes Second (drop n input) (y, m) → Takes (Joined First (λ _. Second)) input ((x, y), n + m)
+    → Takes First input (x, n) → Takes Second (drop n input) (y, m) → Takes (JoinedBy First (λ _. Second)) input ((x, y), n + m)
 joined_taken First Second input x y n m p q = record {
   within = omega (arith, p.within, q.within, length-drop n input);
   spelled = record { front = take n input; back = take m (drop n input); first = p.spelled; second = q.spelled; octets = taken_octets input n m p.within };
@@ -52,13 +51,13 @@ whole_marked input a b n m o r within p q e =
     (subst (λ (k : ℕ). IsMark (take n input ++ drop n input) (a ++ b) (joined_mark m k o)) long whole))
 
 pub joined_refused : {X Y : Type 0} (First : X → List ℕ → Type 0) (Second : Y → List ℕ → Type 0) (input : List ℕ) (x : X) (n : ℕ) (r : Refusal)
-    → EndsItself First → Takes First input (x, n) → IsRefusal Second (drop n input) r → IsRefusal (Joined First (λ _. Second)) input (record { place = n + r.place; why = r.why })
+    → EndsItself First → Takes First input (x, n) → IsRefusal Second (drop n input) r → IsRefusal (JoinedBy First (λ _. Second)) input (record { place = n + r.place; why = r.why })
 joined_refused First Second input x n r ended p h =
     let whole : take n input ++ drop n input ≡ input = take-append-drop n input in
     let long : length (take n input) ≡ n = omega (arith, length-take n input, p.within) in
     let parts = refused_second First (λ _. Second) x (take n input) (drop n input) r ended p.spelled h in
-    subst (λ (k : ℕ). IsRefusal (Joined First (λ _. Second)) input (record { place = k + r.place; why = r.why })) long
-    (subst (λ (l : List ℕ). IsRefusal (Joined First (λ _. Second)) l (record { place = length (take n input) + r.place; why = r.why })) whole parts)
+    subst (λ (k : ℕ). IsRefusal (JoinedBy First (λ _. Second)) input (record { place = k + r.place; why = r.why })) long
+    (subst (λ (l : List ℕ). IsRefusal (JoinedBy First (λ _. Second)) l (record { place = length (take n input) + r.place; why = r.why })) whole parts)
 
 -- ---- whole inputs
 
@@ -93,7 +92,7 @@ whole_alike S T input r to from h =
 module _ {X Y : Type 0} (First : X → List ℕ → Type 0) (Second : Y → List ℕ → Type 0) (x : X) (ended : EndsItself First) where
   -- what is refused in a last part
   last_refused : (a rest : List ℕ) (r : Refusal) → First x a → IsWholeRefusal Second rest r
-      → IsWholeRefusal (Joined First (λ _. Second)) (a ++ rest) (record { place = length a + r.place; why = r.why })
+      → IsWholeRefusal (JoinedBy First (λ _. Second)) (a ++ rest) (record { place = length a + r.place; why = r.why })
   last_refused a rest r f h = record {
     none = λ y j.
         let same = ended x y.0 a j.front rest j.back f j.first j.octets in
@@ -138,12 +137,12 @@ module _ {X Y : Type 0} (First : X → List ℕ → Type 0) (Second : Y → List
   }
 
   pub refused_last : (input : List ℕ) (n : ℕ) (r : Refusal) → Takes First input (x, n) → IsWholeRefusal Second (drop n input) r
-      → IsWholeRefusal (Joined First (λ _. Second)) input (record { place = n + r.place; why = r.why })
+      → IsWholeRefusal (JoinedBy First (λ _. Second)) input (record { place = n + r.place; why = r.why })
   refused_last input n r p h =
       let whole : take n input ++ drop n input ≡ input = take-append-drop n input in
       let long : length (take n input) ≡ n = omega (arith, length-take n input, p.within) in
-      subst (λ (k : ℕ). IsWholeRefusal (Joined First (λ _. Second)) input (record { place = k + r.place; why = r.why })) long
-      (subst (λ (l : List ℕ). IsWholeRefusal (Joined First (λ _. Second)) l (record { place = length (take n input) + r.place; why = r.why })) whole
+      subst (λ (k : ℕ). IsWholeRefusal (JoinedBy First (λ _. Second)) input (record { place = k + r.place; why = r.why })) long
+      (subst (λ (l : List ℕ). IsWholeRefusal (JoinedBy First (λ _. Second)) l (record { place = length (take n input) + r.place; why = r.why })) whole
       (last_refused (take n input) (drop n input) r p.spelled h))
 
 -- ---- a last part that may be absent

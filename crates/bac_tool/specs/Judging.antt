@@ -3,8 +3,7 @@ use Rattle.std.specs.Prelude.{◌≡◌, ◌⊎◌, ℕ, List, Some}
 use Rattle.bac_tag.specs.declared.refusals.Refusal.{Refusal}
 use Rattle.bac_tag.specs.declared.refusals.Why.TheVariants.{NotCanonical}
 use Rattle.bac_tag.specs.Octets.{IsMark}
-use Rattle.bac_tag.specs.Spelling.{IsLeast}
-use Rattle.bac_tool.specs.WholeInput.{IsWholeRefusal}
+use Rattle.bac_tag.specs.Spelling.{IsLeast, IsWholeRefusal}
 use Rattle.bac_tool.specs.ThinFrame.{SpellsThin, IsThinReason}
 use Rattle.bac_tool.specs.declared.thin_frame.ThinFrame.{ThinFrame}
 use Rattle.bac_tool.specs.declared.modes.Mode.{Mode}

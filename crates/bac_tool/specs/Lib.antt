@@ -10,7 +10,6 @@ pub mod DecimalText
 pub mod ArrayIndexLaws
 pub mod Fields
 pub mod Appending
-pub mod WholeInput
 pub mod ThinHeader
 pub mod ThinFrame
 pub mod ThinText

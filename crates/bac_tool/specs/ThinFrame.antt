@@ -1,7 +1,7 @@
 -- Thin frames: no destination, no source, and as body an unsegmented Confirmed-Request with ReadProperty
 -- (clauses 6.2, 20.1.2 and 21).
 use Rattle.std.specs.Prelude.{ℕ, ◌-◌, ◌^◌, ◌<◌, Option, IfSome, List, ◌++◌}
-use Rattle.bac_tag.specs.Spelling.{Joined}
+use Rattle.bac_tag.specs.Spelling.{JoinedBy}
 use Rattle.bac_tag.specs.declared.refusals.Why.{Why}
 use Rattle.bac_tag.specs.declared.refusals.Why.TheVariants.{Short, Version, PduType, Tag, Length, Content, OutOfMemory, NotCanonical}
 use Rattle.bac_value.specs.Primitives.{IsTheList}
@@ -32,15 +32,15 @@ IndexField = Field (λ index octets. NumberContents 0 (2 ^ 32 - 1) index.0 octet
 
 -- the fields that each frame has
 abbrev pub SpellsRequest : Identifier × Enumerated → List ℕ → Type 0
-SpellsRequest = Joined ObjectField (λ _. PropertyField)
+SpellsRequest = JoinedBy ObjectField (λ _. PropertyField)
 
 -- what stands in front of the index
 abbrev pub SpellsRequired : Header × (Identifier × Enumerated) → List ℕ → Type 0
-SpellsRequired = Joined SpellsHeader (λ _. SpellsRequest)
+SpellsRequired = JoinedBy SpellsHeader (λ _. SpellsRequest)
 
 -- the lists that spell a thin frame
 abbrev pub SpellsThin : ThinFrame → List ℕ → Type 0
-SpellsThin frame = Joined SpellsRequired (λ _. Optional IndexField) ((frame.header, (frame.object, frame.property)), frame.index)
+SpellsThin frame = JoinedBy SpellsRequired (λ _. Optional IndexField) ((frame.header, (frame.object, frame.property)), frame.index)
 
 abbrev pub request_octets : Identifier → Enumerated → List ℕ
 request_octets object property = least_field 0 (identifier_octets object) ++ least_field 1 (least_number property.0)

@@ -2,11 +2,10 @@
 
 ghost use Rattle.std.specs.Prelude.{◌≡◌, ◌++◌, IfOk, IfErr, OnOk, OnErr, length, take};
 ghost use Rattle.bac_tag.specs.Octets.{IsMark};
-ghost use Rattle.bac_tag.specs.Spelling.{IsLeast, IsRefusal, Takes};
+ghost use Rattle.bac_tag.specs.Spelling.{IsLeast, IsRefusal, Takes, IsWholeRefusal};
 ghost use Rattle.bac_tool.specs.Fields.{IsFieldReason, Optional};
 ghost use Rattle.bac_tool.specs.ThinHeader.{header_octets};
 ghost use Rattle.bac_tool.specs.Appending.{Extends};
-ghost use Rattle.bac_tool.specs.WholeInput.{IsWholeRefusal};
 ghost use Rattle.bac_tool.specs.ThinFrame.{IsThinFrame, IndexField, SpellsRequest, SpellsRequired, SpellsThin, request_octets, index_octets, thin_octets, IsRequiredReason, IsThinReason};
 
 use crate::array_index::ArrayIndex;

@@ -7,9 +7,8 @@ use Rattle.bac_tag.specs.Heads.{Heads}
 use Rattle.bac_service.specs.Fields.{heading, expected_heading, IsField}
 use Rattle.bac_service.specs.FieldLaws.{head_named, field_refused_head, field_refused_contents, field_taken}
 use Rattle.bac_service.specs.LongestLaws.{take_add}
-use Rattle.bac_tag.specs.Spelling.{IsRefusal}
+use Rattle.bac_tag.specs.Spelling.{IsRefusal, HasMark}
 use Rattle.bac_tag.specs.Refusals.{behind}
-use Rattle.bac_service.specs.Productions.{HasMark}
 use Rattle.bac_service.proofs.fields.read_field.Goals.{in-Ctx, in-Ctx-2}
 use Rattle.bac_service.proofs.fields.read_field.Goals as goal
 

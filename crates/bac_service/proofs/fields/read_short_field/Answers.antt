@@ -1,11 +1,10 @@
 use Rattle.std.proofs.Common.{◌≡◌, ◌∙◌, ◌+◌, ◌≤◌, ap, ℕ, List, length, sym, subst, take, drop, arith, length-take, length-drop}
 use Rattle.std.proofs.lemmas.List.{take_rest, length-take-le}
 use Rattle.bac_tag.specs.Heads.{Heads}
-use Rattle.bac_tag.specs.Spelling.{IsLeast}
+use Rattle.bac_tag.specs.Spelling.{IsLeast, HasMark}
 use Rattle.bac_service.specs.Fields.{heading, IsField}
 use Rattle.bac_service.specs.FieldLaws.{field_taken, least_mark}
 use Rattle.bac_service.specs.LongestLaws.{take_add}
-use Rattle.bac_service.specs.Productions.{HasMark}
 use Rattle.bac_service.proofs.fields.read_short_field.Goals.{in-None, in-Some}
 use Rattle.bac_service.proofs.fields.read_short_field.Goals as goal
 

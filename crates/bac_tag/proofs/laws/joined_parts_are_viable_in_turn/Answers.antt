@@ -1,5 +1,5 @@
-use Rattle.bac_tag.specs.SpellingLaws.{viable-Joined}
+use Rattle.bac_tag.specs.SpellingLaws.{viable-JoinedBy}
 use Rattle.bac_tag.proofs.laws.joined_parts_are_viable_in_turn.Goals as goal
 
 pub returns : goal.returns
-returns g c = λ y d s b. viable-Joined g.A.Spelled.spells (λ (x : g.A.Spelled.Value). g.B.Spelled.spells) (λ x a p. (y, d, s)) b
+returns g c = λ y d s b. viable-JoinedBy g.A.Spelled.spells (λ (x : g.A.Spelled.Value). g.B.Spelled.spells) (λ x a p. (y, d, s)) b

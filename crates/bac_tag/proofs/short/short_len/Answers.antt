@@ -1,6 +1,6 @@
-use Rattle.std.proofs.Common.{◌≡◌, ℕ, Bool, true, false, ◌∙◌, ap, arith, refl, sym}
+use Rattle.std.proofs.Common.{◌≡◌, Bool, true, false, arith, refl, sym}
 use mathlib.Core.Bool.{beq}
-use Rattle.bac_tag.proofs.ShortLemmas.{short_headed, headed_parts, parts_begin}
+use Rattle.bac_tag.proofs.ShortLemmas.{short_headed, parts_begin}
 use Rattle.bac_tag.proofs.short.short_len.Goals as goal
 
 beq_same : (a b : Bool) → beq a b ≡ true → a ≡ b

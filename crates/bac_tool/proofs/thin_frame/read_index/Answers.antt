@@ -1,9 +1,8 @@
 use Rattle.std.proofs.Common.{arith, refl, ◌≡◌, ◌<◌, ℕ, List, length, false, eqb, sym, subst}
 use Rattle.bac_tag.specs.declared.refusals.Refusal.{Refusal}
 use Rattle.bac_tag.specs.declared.refusals.Why.TheVariants.{Trailing}
-use Rattle.bac_tag.specs.Spelling.{IsRefusal}
+use Rattle.bac_tag.specs.Spelling.{IsRefusal, IsWholeRefusal}
 use Rattle.bac_tool.specs.Fields.{IsFieldReason, Optional}
-use Rattle.bac_tool.specs.WholeInput.{IsWholeRefusal}
 use Rattle.std.proofs.lemmas.Bool.{eqb-false}
 use Rattle.bac_tool.specs.ThinFrame.{IndexField}
 use Rattle.bac_tool.proofs.PartLemmas.{optional_refused, optional_trailing}

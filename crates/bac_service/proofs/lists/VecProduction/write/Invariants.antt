@@ -1,5 +1,6 @@
 use Rattle.std.proofs.Common.{take, map}
-use Rattle.bac_service.specs.Productions.{Items, AppendsLeast}
+use Rattle.bac_tag.specs.Spelling.{AppendsLeast}
+use Rattle.bac_service.specs.Productions.{Items}
 use Rattle.bac_service.proofs.lists.VecProduction.write.Given as goal
 
 abbrev pub invariant-loop-item : goal.invariant-loop-item
