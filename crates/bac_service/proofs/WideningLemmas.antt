@@ -1,9 +1,8 @@
 -- Services that were spelled in the former setting are spelled alike.
-use Rattle.std.specs.Prelude.{◌≡◌, ◌≢◌, ℕ, ◌≤◌, true, false, nat_eq, Option, None, Some, List, [], ◌∷◌, ◌++◌, ◌⊎◌, refl}
-use Rattle.std.proofs.Common.{sym, ◌∙◌, subst, inl, inr, arith}
+use Rattle.std.specs.Prelude.{◌≡◌, ◌≢◌, ℕ, true, false, nat_eq, Option, None, Some, List, [], ◌∷◌, refl}
+use Rattle.std.proofs.Common.{◌∙◌, arith}
 use Rattle.std.proofs.lemmas.Bool.Decides.{nat_tests}
-use Rattle.bac_tag.specs.Octets.{NoGreater}
-use Rattle.bac_tag.specs.Spelling.{IsLeast, OneOf, Joined}
+use Rattle.bac_tag.specs.Spelling.{IsLeast, Joined}
 use Rattle.bac_data.specs.Spells.{SpellsOpen}
 use Rattle.bac_service.specs.declared.kind.Kind.{Kind}
 use Rattle.bac_service.specs.declared.kind.Kind.TheVariants.{Confirmed, Unconfirmed, ComplexAck, Error}
@@ -23,7 +22,7 @@ use Rattle.bac_service.specs.ReadAccessResult.{AccessResult, SpellsAccessResult}
 use Rattle.bac_service.specs.WriteAccessSpecification.{WriteSpecification, SpellsWriteSpecification}
 use Rattle.bac_service.specs.CovNotification.{Notification, SpellsNotification}
 use Rattle.bac_service.specs.ServiceTable.{ServiceProduction, read_property, read_property_ack, read_property_multiple, read_property_multiple_ack, write_property, write_property_multiple, write_property_multiple_error, who_is, i_am, subscribe_cov, cov_notification, service_error, production_of, IsUnchanged}
-use Rattle.bac_service.specs.ServiceValues.{Said, ServiceValue}
+use Rattle.bac_service.specs.ServiceValues.{ServiceValue}
 use Rattle.bac_service.specs.Services.{SpellsBy, SpellsSaid, SpellsService}
 
 -- ---- the parts

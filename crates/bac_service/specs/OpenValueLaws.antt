@@ -1,20 +1,14 @@
 -- Open values as parts of a production.
 use Rattle.std.specs.Prelude.{◌≡◌, ◌↔◌, ℕ, List, [], ◌∷◌, ◌++◌, length, take, Option, IsTrue, nat_le, false, refl}
-use Rattle.std.proofs.Common.{sym, ◌∙◌, subst, inl, inr, arith}
+use Rattle.std.proofs.Common.{sym, ◌∙◌, subst, arith}
 use Rattle.bac_tag.specs.declared.refusals.Refusal.{Refusal}
 use Rattle.bac_tag.specs.declared.refusals.Why.TheVariants.{Short}
-use Rattle.bac_tag.specs.declared.heads.TagHead.TheVariants.{App, AppBool, Ctx, Open, Close}
+use Rattle.bac_tag.specs.declared.heads.TagHead.TheVariants.{Open, Close}
 use Rattle.bac_tag.specs.Octets.{IsMark}
 use Rattle.bac_tag.specs.Spelling.{IsLeast, IsFurthest, Takes, HasMark}
 use Rattle.bac_tag.proofs.WritingLemmas.{some_least}
-use Rattle.bac_value.specs.declared.prim.PrimitiveValue.{PrimitiveValue}
-use Rattle.bac_value.specs.PrimContents.{application_number, prim_written}
-use Rattle.bac_value.specs.PrimLaws.{prim_limit, prim_only_values, prim_written_contents}
 use Rattle.bac_data.specs.OpenValue.{Elements, none}
-use Rattle.bac_data.specs.Spells.{SpellsPrimitive, SpellsOpen}
-use Rattle.bac_data.specs.Events.{Event, application, contextual, opening, closing, SpellsEvent, SpellsEvents}
-use Rattle.bac_data.proofs.EventLemmas.{whole, whole_spelled}
-use Rattle.bac_data.proofs.EventLeastLemmas.{least_contents, least_boolean_of, least_context}
+use Rattle.bac_data.specs.Spells.{SpellsOpen}
 use Rattle.bac_data.proofs.ValueLemmas.{least_open_value}
 use Rattle.bac_data.proofs.OpenLemmas.{open_ends}
 use Rattle.bac_service.specs.Leads as lead
@@ -24,7 +18,6 @@ use Rattle.bac_service.specs.Productions.{Lawful, IsInhabited, IsLongest, IsReac
 use Rattle.bac_service.specs.ProductionLaws.{leaf_lawful}
 use Rattle.bac_service.specs.LongestLaws.{leaf_longest}
 use Rattle.bac_service.specs.RefusalLaws.{leaf_reach}
-use Rattle.bac_service.specs.LeastLaws.{least_joined}
 use Rattle.bac_service.specs.TagLaws.{number_within}
 
 -- ---- the laws

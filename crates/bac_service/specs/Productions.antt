@@ -2,8 +2,7 @@
 use Rattle.std.specs.Prelude.{◌≡◌, ◌↔◌, ℕ, ◌≤◌, List, [], ◌∷◌, ◌++◌, length, take, Bool, ◌⊎◌, IsTrue, Option, Some, None}
 use Rattle.bac_tag.specs.declared.refusals.Refusal.{Refusal}
 use Rattle.bac_tag.specs.declared.refusals.Why.TheVariants.{Short}
-use Rattle.bac_tag.specs.Octets.{IsMark}
-use Rattle.bac_tag.specs.Spelling.{IsLeast, IsFurthest, Joins}
+use Rattle.bac_tag.specs.Spelling.{IsFurthest, Joins}
 use Rattle.bac_data.specs.Spells.{Encloses}
 use Rattle.bac_service.specs.Leads.{Lead, BeginsIn}
 

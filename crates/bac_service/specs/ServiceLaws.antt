@@ -10,8 +10,8 @@ use Rattle.bac_tag.specs.Octets.{IsOctets}
 use Rattle.bac_tag.specs.OctetsLaws.{NoGreater-same}
 use Rattle.bac_tag.specs.Spelling.{IsLeast, AppendsLeast}
 use Rattle.bac_service.specs.declared.kind.Kind.{Kind}
-use Rattle.bac_service.specs.declared.kind.Kind.TheVariants.{Confirmed, Unconfirmed, Error}
-use Rattle.bac_service.specs.ServiceTable.{ServiceProduction, read_property, read_property_ack, read_property_multiple, read_property_multiple_ack, write_property, write_property_multiple, write_property_multiple_error, who_is, i_am, subscribe_cov, cov_notification, service_error, production_of, is_small}
+use Rattle.bac_service.specs.declared.kind.Kind.TheVariants.{Error}
+use Rattle.bac_service.specs.ServiceTable.{ServiceProduction, write_property_multiple_error, cov_notification, service_error, production_of, is_small}
 use Rattle.bac_service.specs.ServiceValues.{SaidBy, Said, ServiceValue, typed, notification_kind, notification_choice}
 use Rattle.bac_service.specs.Services.{SpellsBy, SpellsSaid, SpellsService, IsPlaced}
 use Rattle.bac_service.specs.LeastLaws.{least_alike}
@@ -80,13 +80,17 @@ never w = absurd (let e : true ≡ false = sym w in cc)
 
 -- ---- the least spelling
 
-pub least_service : (x : ServiceValue) {a b : List ℕ} → IsPlaced x → a ≡ [] → AppendsLeast (SpellsSaid 32 x.production x.said) a b → IsLeast (SpellsService true 32 x.kind x.choice x) b
-least_service x {a} {b} placed e L =
+pub appends_service : (x : ServiceValue) {a b : List ℕ} → IsPlaced x → AppendsLeast (SpellsSaid 32 x.production x.said) a b → AppendsLeast (SpellsService true 32 x.kind x.choice x) a b
+appends_service x placed L =
     let alike : (c : List ℕ) → SpellsSaid 32 x.production x.said c ↔ SpellsService true 32 x.kind x.choice x c = λ c. (
       λ s. record { kind_is = refl; choice_is = refl; choice_fits = placed.choice_fits; production_is = placed.production_is; spelled = s },
       λ s. s.spelled,
     ) in
-    subst (IsLeast (SpellsService true 32 x.kind x.choice x)) (sym (L.new_is ∙ ap (λ (l : List ℕ). l ++ L.more) e)) (least_alike alike L.is_least)
+    record { more = L.more; is_least = least_alike alike L.is_least; new_is = L.new_is }
+
+-- what stands behind nothing
+pub appended_to_none : {S : List ℕ → Type 0} {a b : List ℕ} → a ≡ [] → AppendsLeast S a b → IsLeast S b
+appended_to_none {S} e L = subst (IsLeast S) (sym (L.new_is ∙ ap (λ (l : List ℕ). l ++ L.more) e)) L.is_least
 
 -- what the type of a vector says of its octets
 pub octets_held : (octets : List ℕ) → ((k : ℕ) → k < length octets → get_or octets k 0 < 256) → IsOctets octets

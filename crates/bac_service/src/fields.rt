@@ -5,6 +5,7 @@ ghost use Rattle.bac_tag.specs.Heads.{Heads};
 ghost use Rattle.bac_tag.specs.Short.{BeginsShort};
 ghost use Rattle.bac_tag.specs.Spelling.{IsRefusal, Takes, HasMark, AppendsLeast};
 ghost use Rattle.bac_value.specs.Primitives.{OfSize};
+ghost use Rattle.bac_data.specs.Writing.{Extends};
 ghost use Rattle.bac_service.specs.Leads.{context, application};
 ghost use Rattle.bac_service.specs.Fields.{heading, expected_heading, IsHeading, IsField};
 ghost use Rattle.bac_service.specs.FieldLaws.{field_lawful, field_inhabited, application_heading};
@@ -210,7 +211,8 @@ fn write_field<T: Primitive>(
     out: &mut Vec<u8>,
 ) -> Result<(), OutOfMemory>
     requires { IsHeading context T.APP }
-    ensures { OnOk result (AppendsLeast (IsField (heading context T.APP) T.contents value.now) out.old.items out.new.items) }
+    ensures ok { OnOk result (AppendsLeast (IsField (heading context T.APP) T.contents value.now) out.old.items out.new.items) }
+    ensures kept { Extends out.old.items out.new.items }
 {
     let len = value.written_len() as u32;
     out.extend_from_slice(write_head(head_of::<T>(context, len)).as_slice())?;

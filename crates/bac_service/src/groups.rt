@@ -2,6 +2,7 @@
 
 ghost use Rattle.std.specs.Prelude.{◌&&◌, ◌∷◌, [], false, nat_le, IsTrue, OnOk};
 ghost use Rattle.bac_tag.specs.Spelling.{AppendsLeast};
+ghost use Rattle.bac_data.specs.Writing.{Extends};
 ghost use Rattle.bac_service.specs.Leads.{opening, closing, disjoint};
 ghost use Rattle.bac_service.specs.Productions.{Grouped};
 ghost use Rattle.bac_service.specs.ProductionLaws.{group_lawful_sound};
@@ -24,7 +25,8 @@ pub(crate) fn write_group<P: Production, const N: u8>(
     out: &mut Vec<u8>,
 ) -> Result<(), OutOfMemory>
     requires { IsTrue (nat_le N 254 && P.is_sound) }
-    ensures { OnOk result (AppendsLeast (Grouped N P.spells (P.view part.now)) out.old.items out.new.items) }
+    ensures ok { OnOk result (AppendsLeast (Grouped N P.spells (P.view part.now)) out.old.items out.new.items) }
+    ensures kept { Extends out.old.items out.new.items }
 {
     Opening::<N>.write(out)?;
     part.write(out)?;

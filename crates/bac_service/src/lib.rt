@@ -58,7 +58,7 @@ pub use read_property_multiple::ReadPropertyMultiple;
 pub use read_property_multiple_ack::ReadPropertyMultipleAck;
 pub use service::Service;
 pub use service_decoding::{decode_service, decode_service_marked};
-pub use service_encoding::encode_service;
+pub use service_encoding::{append_service, encode_service};
 pub use service_error::ServiceError;
 pub use subscribe_cov::SubscribeCov;
 pub use unsigned16::Unsigned16;

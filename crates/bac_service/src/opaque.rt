@@ -2,6 +2,7 @@
 
 ghost use Rattle.std.specs.Prelude.{◌≡◌, ◌↔◌, IsErrOf, IsNone, IsSome, IfOk, OnOk, true};
 ghost use Rattle.bac_tag.specs.Spelling.{AppendsLeast};
+ghost use Rattle.bac_data.specs.Writing.{Extends};
 ghost use Rattle.bac_service.specs.ServiceTable.{production_of};
 ghost use Rattle.bac_service.specs.ServiceValues.{opaque};
 ghost use Rattle.bac_service.specs.Services.{SpellsSaid, IsPlaced};
@@ -104,6 +105,7 @@ impl Opaque {
     pub(crate) fn write_octets(&self, out: &mut Vec<u8>) -> Result<(), OutOfMemory>
         ensures placed { IsPlaced (opaque self.now.kind self.now.choice self.now.octets) }
         ensures ok { OnOk result (AppendsLeast (SpellsSaid 32 None self.now.octets) out.old.items out.new.items) }
+        ensures kept { Extends out.old.items out.new.items }
     {
         let _choice = self.choice();
         let octets = self.octets();

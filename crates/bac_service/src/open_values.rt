@@ -1,8 +1,10 @@
 //! An open value as a part of a production (clause 20.2).
 
-ghost use Rattle.std.specs.Prelude.{◌∷◌, [], false, true, nat_le};
+ghost use Rattle.std.specs.Prelude.{◌∷◌, [], false, true, nat_le, IsTrue, OnOk};
+ghost use Rattle.bac_tag.specs.Spelling.{AppendsLeast};
 ghost use Rattle.bac_data.specs.OpenValue.{Elements};
 ghost use Rattle.bac_data.specs.Spells.{SpellsOpen};
+ghost use Rattle.bac_data.specs.Writing.{Extends};
 ghost use Rattle.bac_service.specs.Leads.{opening};
 ghost use Rattle.bac_service.specs.OpenValueLaws.{open_lawful, open_inhabited};
 
@@ -14,6 +16,17 @@ use std::alloc::Global;
 /// An open value between tags of this number.
 #[derive(Drop)]
 pub(crate) struct OpenValue<const N: u8>(pub(crate) Any);
+
+/// Appends the least octets of an open value and the tags of this number around it. Where memory is refused nothing
+/// is appended.
+#[inline(always)]
+pub(crate) fn write_open<const N: u8>(value: &Any, out: &mut Vec<u8>) -> Result<(), OutOfMemory>
+    requires { IsTrue (nat_le N 254) }
+    ensures ok { OnOk result (AppendsLeast (SpellsOpen 32 N value.now) out.old.items out.new.items) }
+    ensures kept { Extends out.old.items out.new.items }
+{
+    write_any(value, N, out)
+}
 
 impl<const N: u8> Production for OpenValue<N> {
     ghost Value = { Elements };
@@ -51,7 +64,7 @@ impl<const N: u8> Production for OpenValue<N> {
     }
 
     fn write(&self, out: &mut Vec<u8>) -> Result<(), OutOfMemory> {
-        write_any(&self.0, N, out)
+        write_open::<N>(&self.0, out)
     }
 
     ghost lawful = { λ sound. open_lawful 32 N };

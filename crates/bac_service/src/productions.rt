@@ -2,6 +2,7 @@
 
 ghost use Rattle.std.specs.Prelude.{◌≡◌, ◌≢◌, ◌↔◌, ℕ, Bool, List, take, length, IsTrue, IfOk, IfErr, OnOk, Err};
 ghost use Rattle.bac_tag.specs.Spelling.{IsRefusal, HasMark, AppendsLeast};
+ghost use Rattle.bac_data.specs.Writing.{Extends};
 ghost use Rattle.bac_service.specs.Leads.{Lead};
 ghost use Rattle.bac_service.specs.Productions.{Lawful, IsInhabited, IsLongest, IsReach};
 ghost use Rattle.bac_service.specs.Reasons.{IsPartReason, IsReachReason};
@@ -96,7 +97,8 @@ pub(crate) trait Production: Drop {
     /// Appends the least spelling. Where memory is refused some octets may be there.
     fn write(&self, out: &mut Vec<u8>) -> Result<(), OutOfMemory>
         requires { IsTrue is_sound }
-        ensures { OnOk result (AppendsLeast (spells (view self.now)) out.old.items out.new.items) };
+        ensures ok { OnOk result (AppendsLeast (spells (view self.now)) out.old.items out.new.items) }
+        ensures kept { Extends out.old.items out.new.items };
 
     ghost lawful: { IsTrue is_sound → Lawful spells openers continuers may_be_empty };
 

@@ -8,12 +8,12 @@ use crate::choices::Choice;
 use crate::error_cause::ErrorCause;
 use crate::fields::Field;
 use crate::groups::{Group, write_group};
-use crate::open_values::OpenValue;
+use crate::open_values::{OpenValue, write_open};
 use crate::optionals::{bare, under};
 use crate::productions::Production;
 use crate::records::{Fields, Record};
 use crate::unsigned32::Unsigned32;
-use bac_data::{Any, write_any};
+use bac_data::Any;
 use bac_tag::OutOfMemory;
 use bac_value::Enumerated;
 
@@ -85,7 +85,7 @@ impl Record for PropertyResult {
         Field::<Enumerated, 2>(self.property).write(out)?;
         under::<Unsigned32, 3>(self.index).write(out)?;
         match &self.result {
-            ReadResult::Value(value) => write_any(value, 4, out),
+            ReadResult::Value(value) => write_open::<4>(value, out),
             ReadResult::Error(cause) => {
                 write_group::<Fields<ErrorCause>, 5>(&Fields(*cause), out)
             }

@@ -3,12 +3,12 @@
 ghost use Rattle.bac_service.specs.PropertyValue.{SpellsPropertyValue, property_value_parts};
 
 use crate::fields::Field;
-use crate::open_values::OpenValue;
+use crate::open_values::{OpenValue, write_open};
 use crate::optionals::{bare, under};
 use crate::productions::Production;
 use crate::records::Record;
 use crate::unsigned32::Unsigned32;
-use bac_data::{Any, write_any};
+use bac_data::Any;
 use bac_tag::OutOfMemory;
 use bac_value::{Enumerated, Priority};
 
@@ -61,7 +61,7 @@ impl Record for PropertyValue {
     fn write_fields(&self, out: &mut Vec<u8>) -> Result<(), OutOfMemory> {
         Field::<Enumerated, 0>(self.property).write(out)?;
         under::<Unsigned32, 1>(self.index).write(out)?;
-        write_any(&self.value, 2, out)?;
+        write_open::<2>(&self.value, out)?;
         under::<Priority, 3>(self.priority).write(out)
     }
 

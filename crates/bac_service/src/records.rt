@@ -2,6 +2,7 @@
 
 ghost use Rattle.std.specs.Prelude.{◌↔◌, ℕ, List, IsTrue, OnOk};
 ghost use Rattle.bac_tag.specs.Spelling.{AppendsLeast};
+ghost use Rattle.bac_data.specs.Writing.{Extends};
 ghost use Rattle.bac_service.specs.Productions.{IsRecordOf};
 ghost use Rattle.bac_service.specs.ProductionLaws.{record_lawful};
 ghost use Rattle.bac_service.specs.RecordLaws.{record_inhabited};
@@ -31,7 +32,8 @@ pub(crate) trait Record: Drop {
     /// Appends the least spelling of the fields. Where memory is refused some octets may be there.
     fn write_fields(&self, out: &mut Vec<u8>) -> Result<(), OutOfMemory>
         requires { IsTrue Self.Parts.is_sound }
-        ensures { OnOk result (AppendsLeast (spells (view self.now)) out.old.items out.new.items) };
+        ensures ok { OnOk result (AppendsLeast (spells (view self.now)) out.old.items out.new.items) }
+        ensures kept { Extends out.old.items out.new.items };
 
     ghost of_parts: { IsRecordOf Self.Parts.spells spells };
 }

@@ -1,7 +1,8 @@
 //! Encoding a service.
 
-ghost use Rattle.std.specs.Prelude.{◌≡◌, true, IfOk, OnOk};
+ghost use Rattle.std.specs.Prelude.{◌≡◌, true, IfOk, OnOk, OnErr};
 ghost use Rattle.bac_tag.specs.Spelling.{IsLeast, AppendsLeast};
+ghost use Rattle.bac_data.specs.Writing.{Extends};
 ghost use Rattle.bac_service.specs.ServiceValues.{value_of};
 ghost use Rattle.bac_service.specs.Services.{SpellsSaid, SpellsService, IsPlaced};
 
@@ -12,9 +13,10 @@ use bac_tag::OutOfMemory;
 use std::alloc::Global;
 
 /// Appends the least spelling of a service. Where memory is refused some octets may be there.
-fn append_service(service: &Service, out: &mut Vec<u8>) -> Result<(), OutOfMemory>
+fn append_production(service: &Service, out: &mut Vec<u8>) -> Result<(), OutOfMemory>
     ensures placed { IsPlaced (value_of service.now) }
     ensures ok { OnOk result (AppendsLeast (SpellsSaid 32 (value_of service.now).production (value_of service.now).said) out.old.items out.new.items) }
+    ensures kept { Extends out.old.items out.new.items }
 {
     match service {
         Service::ReadProperty(request) => request.write_fields(out),
@@ -31,6 +33,22 @@ fn append_service(service: &Service, out: &mut Vec<u8>) -> Result<(), OutOfMemor
         Service::WritePropertyMultipleError(error) => error.write_fields(out),
         Service::Opaque(service) => service.write_octets(out),
     }
+}
+
+/// Appends the canonical octets of a service, its least spelling, behind what stands in `out`.
+///
+/// # Errors
+/// `OutOfMemory` where memory is refused. `out` then stays as it was.
+pub fn append_service(service: &Service, out: &mut Vec<u8>) -> Result<(), OutOfMemory>
+    ensures written { OnOk result (AppendsLeast (SpellsService true 32 (value_of service.now).kind (value_of service.now).choice (value_of service.now)) out.old.items out.new.items) }
+    ensures unchanged { OnErr result (out.new.items ≡ out.old.items) }
+{
+    let start = out.len();
+    let written = append_production(service, out);
+    if written.is_err() {
+        out.truncate(start);
+    }
+    written
 }
 
 /// The canonical octets of a service: its least spelling.

@@ -2,6 +2,7 @@
 
 ghost use Rattle.std.specs.Prelude.{◌≡◌, ◌↔◌, IsSome, IfSome, OnOk, true, Some};
 ghost use Rattle.bac_tag.specs.Spelling.{AppendsLeast};
+ghost use Rattle.bac_data.specs.Writing.{Extends};
 ghost use Rattle.bac_service.specs.ErrorCause.{SpellsErrorCause};
 ghost use Rattle.bac_service.specs.ServiceTable.{service_error, production_of};
 ghost use Rattle.bac_service.specs.declared.kind.Kind.TheVariants.{Error};
@@ -88,6 +89,7 @@ impl ServiceError {
     pub(crate) fn write_cause(&self, out: &mut Vec<u8>) -> Result<(), OutOfMemory>
         ensures typed { production_of true Error self.now.choice ≡ Some service_error }
         ensures ok { OnOk result (AppendsLeast (SpellsErrorCause self.now.cause) out.old.items out.new.items) }
+        ensures kept { Extends out.old.items out.new.items }
     {
         self.cause.write_fields(out)
     }

@@ -4,13 +4,13 @@ ghost use Rattle.bac_service.specs.WriteProperty.{SpellsWriteProperty, write_pro
 
 use crate::fields::Field;
 use crate::named::Named;
-use crate::open_values::OpenValue;
+use crate::open_values::{OpenValue, write_open};
 use crate::optionals::{bare, under};
 use crate::productions::Production;
 use crate::records::{Fields, Record};
 use crate::service::Service;
 use crate::unsigned32::Unsigned32;
-use bac_data::{Any, write_any};
+use bac_data::Any;
 use bac_tag::OutOfMemory;
 use bac_value::{Enumerated, ObjectId, Priority};
 
@@ -70,7 +70,7 @@ impl Record for WriteProperty {
         Field::<ObjectId, 0>(self.object).write(out)?;
         Field::<Enumerated, 1>(self.property).write(out)?;
         under::<Unsigned32, 2>(self.index).write(out)?;
-        write_any(&self.value, 3, out)?;
+        write_open::<3>(&self.value, out)?;
         under::<Priority, 4>(self.priority).write(out)
     }
 

@@ -1,4 +1,4 @@
-use Rattle.std.proofs.Common.{◌≡◌, ◌∙◌, ◌+◌, ◌≤◌, ap, ℕ, List, length, sym, subst, take, drop, arith, length-take, length-drop}
+use Rattle.std.proofs.Common.{◌≡◌, ◌≤◌, ℕ, List, length, sym, subst, take, drop, arith, length-drop}
 use Rattle.std.proofs.lemmas.List.{take_rest, length-take-le}
 use Rattle.bac_tag.specs.Heads.{Heads}
 use Rattle.bac_tag.specs.Spelling.{IsLeast, HasMark}

@@ -7,8 +7,8 @@ use Rattle.bac_service.specs.Fields.{heading}
 use Rattle.bac_service.specs.FieldLaws.{appends_field}
 use Rattle.bac_service.proofs.fields.write_field.Goals as goal
 
-pub returns : goal.returns
-returns g c =
+pub returns-clause-ok : goal.returns-clause-ok
+returns-clause-ok g c =
     let laws = g.met.T.Primitive in
     let w = g.T.Primitive.written c.args.value.now in
     let head : c.head_of.result ≡ heading c.args.context g.T.Primitive.APP (length w) = c.head_of.ensures ∙ ap (heading c.args.context g.T.Primitive.APP) c.written_len-len.ensures.len in

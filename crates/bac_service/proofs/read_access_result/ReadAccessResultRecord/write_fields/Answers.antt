@@ -3,8 +3,8 @@ use Rattle.std.proofs.lemmas.Result.{on_ok_weaker}
 use Rattle.bac_service.specs.LeastLaws.{appends_joined, appends_nothing}
 use Rattle.bac_service.proofs.read_access_result.ReadAccessResultRecord.write_fields.Goals as goal
 
-pub returns-in-Some : goal.returns-in-Some
-returns-in-Some c = on_ok_weaker c.write_group.result (λ last. appends_joined c.in_ok-write.ensures (rw c.in-Some.is (rw map-id at last))) c.write_group.ensures
+pub returns-in-Some-clause-ok : goal.returns-in-Some-clause-ok
+returns-in-Some-clause-ok c = on_ok_weaker c.write_group.result (λ last. appends_joined c.in_ok-write.ensures.ok (rw c.in-Some.is (rw map-id at last))) c.write_group.ensures.ok
 
-pub returns-in-None : goal.returns-in-None
-returns-in-None c = appends_joined c.in_ok-write.ensures (rw c.in-None.is (appends_nothing _))
+pub returns-in-None-clause-ok : goal.returns-in-None-clause-ok
+returns-in-None-clause-ok c = appends_joined c.in_ok-write.ensures.ok (rw c.in-None.is (appends_nothing _))
