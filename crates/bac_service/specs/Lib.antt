@@ -16,6 +16,7 @@ pub mod GroupLaws
 pub mod Fields
 pub mod FieldLaws
 pub mod OpenValueLaws
+pub mod HasLeastLaws
 pub mod WholeLaws
 pub mod Unsigned32Laws
 pub mod Unsigned16Laws

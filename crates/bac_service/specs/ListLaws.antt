@@ -1,5 +1,5 @@
 -- Lists, item by item.
-use Rattle.std.specs.Prelude.{◌≡◌, ◌↔◌, ℕ, ◌+◌, ◌≤◌, List, [], ◌∷◌, ◌++◌, length, take, drop, Bool, ◌&&◌, not, IsTrue, Option, None, refl}
+use Rattle.std.specs.Prelude.{◌≡◌, ◌↔◌, ℕ, ◌+◌, ◌-◌, ◌≤◌, ◌<◌, List, [], ◌∷◌, ◌++◌, length, take, drop, Bool, ◌&&◌, not, IsTrue, Option, None, refl}
 use Rattle.bac_tag.specs.declared.refusals.Refusal.{Refusal}
 use Rattle.bac_tag.specs.declared.refusals.Why.TheVariants.{Short}
 use Rattle.bac_tag.specs.Octets.{joined_mark}
@@ -7,13 +7,14 @@ use Rattle.bac_tag.specs.Refusals.{farther_of, behind}
 use Rattle.bac_tag.specs.Spelling.{IsRefusal, HasMark}
 use Rattle.bac_service.specs.Leads.{Lead, disjoint}
 use Rattle.bac_service.specs.Productions.{Items, Lawful, IsInhabited, IsLongest, IsReach}
-use Rattle.bac_service.specs.LongestLaws.{IsSoFar, so_far_start, so_far_end, list_more, take_add}
+use Rattle.bac_service.specs.ProductionLaws.{sound_parts, not_empty}
+use Rattle.bac_service.specs.LongestLaws.{IsSoFar, some_taken, so_far_start, so_far_end, list_more, take_add}
 use Rattle.bac_service.specs.ReachLaws.{IsReachSoFar, reach_start}
 use Rattle.bac_service.specs.RefusalLaws.{farther_is, reach_taken, reach_item, reach_items, reach_so_far}
 use Rattle.bac_service.specs.Reasons.{IsPartReason, IsReachReason, part_trails}
 use Rattle.bac_service.specs.ReadFaults.{EndsOrGoesOn}
 use Rattle.bac_service.specs.LeastLaws.{mark_nothing, mark_item}
-use Rattle.std.proofs.Common.{sym, subst, inl, inr, arith}
+use Rattle.std.proofs.Common.{sym, subst, inl, inr, arith, length-drop}
 use Rattle.std.proofs.lemmas.List.{length-take-le}
 
 pub items_inhabited : {V : Type 0} (S : V → List ℕ → Type 0) → IsInhabited (Items S)
@@ -67,3 +68,11 @@ module _ {V : Type 0} {S : V → List ℕ → Type 0} {os cs : List Lead} {e : B
 
   pub items_found : {r : Refusal} → IsRefusal S (drop p input) r → IsLongest (Items S) input vs p
   items_found h = so_far_end S input vs p H.so_far h.none
+
+  -- an item takes an octet at least, so that less is left behind it
+  pub items_shrink : {v : V} {n : ℕ} → IsLongest S (drop p input) v n → length input - (p + n) < length input - p
+  items_shrink {v} {n} L =
+      let q = sound_parts a (not e) (disjoint os cs) sound in
+      let some = some_taken S os cs (not_empty (law q.0) q.1) (drop p input) v n L in
+      let rest = L.within in
+      omega (arith, some, rest, length-drop p input)

@@ -2,7 +2,7 @@
 use Rattle.std.specs.Prelude.{◌≡◌, ◌↔◌, ℕ, ◌≤◌, List, [], ◌∷◌, ◌++◌, length, take, Bool, ◌⊎◌, IsTrue, Option, Some, None}
 use Rattle.bac_tag.specs.declared.refusals.Refusal.{Refusal}
 use Rattle.bac_tag.specs.declared.refusals.Why.TheVariants.{Short}
-use Rattle.bac_tag.specs.Spelling.{IsFurthest, Joins}
+use Rattle.bac_tag.specs.Spelling.{IsLeast, IsFurthest, Joins}
 use Rattle.bac_data.specs.Spells.{Encloses}
 use Rattle.bac_service.specs.Leads.{Lead, BeginsIn}
 
@@ -48,6 +48,10 @@ pub record IsInhabited {V : Type 0} (spells : V → List ℕ → Type 0) : Type 
   pub value : V
   pub octets : List ℕ
   pub spelled : spells value octets
+
+-- each value that is spelled has a least spelling
+abbrev pub HasLeast : {V : Type 0} → (V → List ℕ → Type 0) → Type 0
+HasLeast {V} spells = (v : V) (b : List ℕ) → spells v b → (c : List ℕ) × IsLeast (spells v) c
 
 -- ---- what a reader tells
 

@@ -12,9 +12,10 @@ use Rattle.bac_tag.specs.Spelling.{IsLeast, AppendsLeast}
 use Rattle.bac_service.specs.declared.kind.Kind.{Kind}
 use Rattle.bac_service.specs.declared.kind.Kind.TheVariants.{Error}
 use Rattle.bac_service.specs.ServiceTable.{ServiceProduction, write_property_multiple_error, cov_notification, service_error, production_of, is_small}
-use Rattle.bac_service.specs.ServiceValues.{SaidBy, Said, ServiceValue, typed, notification_kind, notification_choice}
+use Rattle.bac_service.specs.ServiceValues.{SaidBy, Said, ServiceValue, typed, opaque, notification_kind, notification_choice}
 use Rattle.bac_service.specs.Services.{SpellsBy, SpellsSaid, SpellsService, IsPlaced}
 use Rattle.bac_service.specs.LeastLaws.{least_alike}
+use Rattle.bac_service.specs.Productions.{HasLeast}
 
 -- ---- the rows
 
@@ -126,3 +127,38 @@ module _ (once_by : (p : ServiceProduction) → SpellsOnce (SpellsBy 32 p)) wher
       ap (λ (k : Kind). let z : ServiceValue = record { kind = k; choice = x.choice; production = x.production; said = x.said } in z) (h.kind_is ∙ sym j.kind_is)
       ∙ ap (λ (c : ℕ). let z : ServiceValue = record { kind = y.kind; choice = c; production = x.production; said = x.said } in z) (h.choice_is ∙ sym j.choice_is)
       ∙ joined y.kind y.choice x.production y.production (h.production_is ∙ sym j.production_is) x.said y.said b h.spelled j.spelled
+
+-- ---- only services are spelled
+
+pub spelled_placed : (k : Kind) (c : ℕ) (x : ServiceValue) (b : List ℕ) → SpellsService true 32 k c x b → (x.kind ≡ k) × (x.choice ≡ c) × IsPlaced x
+spelled_placed k c x b h = (
+  h.kind_is,
+  h.choice_is,
+  record { choice_fits = rw h.choice_is h.choice_fits; production_is = h.production_is ∙ ap (λ (k : Kind). production_of true k c) (sym h.kind_is) ∙ ap (λ (c : ℕ). production_of true x.kind c) (sym h.choice_is) },
+)
+
+opaque_by : (k : Kind) (c : ℕ) (p : Option ServiceProduction) (s : Said p) (b : List ℕ) → IsNone p → SpellsSaid 32 p s b
+    → (let x : ServiceValue = record { kind = k; choice = c; production = p; said = s } in (x ≡ opaque k c b) × IsOctets b)
+opaque_by k c None s b e h = (ap (λ (l : List ℕ). opaque k c l) (sym h.0), subst IsOctets (sym h.0) h.1)
+opaque_by k c (Some p) s b e h = absurd (let none : None ≡ Some p = no_row (Some p) e in cc)
+
+pub spelled_opaque : (k : Kind) (c : ℕ) (x : ServiceValue) (b : List ℕ) → SpellsService true 32 k c x b → IsNone x.production → (x ≡ opaque k c b) × IsOctets b
+spelled_opaque k c x b h none =
+    let o = opaque_by x.kind x.choice x.production x.said b none h.spelled in
+    (o.0 ∙ ap (λ (k : Kind). opaque k x.choice b) h.kind_is ∙ ap (λ (c : ℕ). opaque k c b) h.choice_is, o.1)
+
+-- ---- each service that is spelled has a least spelling
+
+module _ (least_by : (p : ServiceProduction) → HasLeast (SpellsBy 32 p)) where
+  said_least : (p : Option ServiceProduction) → HasLeast (SpellsSaid 32 p)
+  said_least (Some p) v b s = least_by p v b s
+  said_least None v b s = (v, record { member = (refl, s.1); least = λ c t. NoGreater-same v c (sym t.0) })
+
+  pub services_least : (k : Kind) (c : ℕ) → HasLeast (SpellsService true 32 k c)
+  services_least k c x b h =
+      let l = said_least x.production x.said b h.spelled in
+      let alike : (d : List ℕ) → SpellsSaid 32 x.production x.said d ↔ SpellsService true 32 k c x d = λ d. (
+        λ s. record { kind_is = h.kind_is; choice_is = h.choice_is; choice_fits = h.choice_fits; production_is = h.production_is; spelled = s },
+        λ s. s.spelled,
+      ) in
+      (l.0, least_alike alike l.1)

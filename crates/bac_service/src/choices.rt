@@ -5,6 +5,7 @@ ghost use Rattle.bac_tag.specs.Spelling.{OneOf};
 ghost use Rattle.bac_service.specs.Leads.{disjoint};
 ghost use Rattle.bac_service.specs.LongestLaws.{either_lawful};
 ghost use Rattle.bac_service.specs.ChoiceLaws.{either_of, either_inhabited};
+ghost use Rattle.bac_service.specs.HasLeastLaws.{choice_least};
 
 use crate::productions::{Front, Production, ReadFault};
 use bac_tag::OutOfMemory;
@@ -71,4 +72,6 @@ impl<A: Production, B: Production> Production for Choice<A, B> {
     ghost lawful = { λ sound. either_lawful A.is_sound B.is_sound A.lawful B.lawful sound };
 
     ghost inhabited = { either_inhabited A.is_sound A.may_be_empty ((B.is_sound && not B.may_be_empty) && disjoint A.openers B.openers) A.inhabited };
+
+    ghost has_least = { choice_least A.spells B.spells A.has_least B.has_least };
 }

@@ -12,6 +12,7 @@ ghost use Rattle.bac_service.specs.FieldLaws.{field_lawful, field_inhabited, app
 ghost use Rattle.bac_service.specs.TagLaws.{number_within};
 ghost use Rattle.bac_service.specs.Reasons.{IsPartReason};
 ghost use Rattle.bac_service.specs.ReadFaults.{IfRefused, EndsOrGoesOn};
+ghost use Rattle.bac_service.specs.HasLeastLaws.{field_least};
 
 use crate::productions::{Front, Production, ReadFault, complete_at};
 use bac_tag::{
@@ -263,6 +264,8 @@ impl<T: Primitive, const N: u8> Production for Field<T, N> {
     ghost lawful = { λ sound. field_lawful T.contents (Some N) T.APP T.one_value };
 
     ghost inhabited = { λ sound. field_inhabited T.contents (Some N) T.APP T.SHORTEST T.LONGEST (record { lengths = T.lengths; each_length = T.each_length }) T.within_limit (number_within N sound) };
+
+    ghost has_least = { field_least T.contents T.is_value T.written (Some N) T.APP T.SHORTEST T.LONGEST T.only_values T.written_contents T.written_least T.lengths T.within_limit.1 };
 }
 
 impl<T: Primitive> Production for ApplicationField<T> {
@@ -301,4 +304,6 @@ impl<T: Primitive> Production for ApplicationField<T> {
     ghost lawful = { λ sound. field_lawful T.contents None T.APP T.one_value };
 
     ghost inhabited = { λ sound. field_inhabited T.contents None T.APP T.SHORTEST T.LONGEST (record { lengths = T.lengths; each_length = T.each_length }) T.within_limit (application_heading T.APP sound) };
+
+    ghost has_least = { field_least T.contents T.is_value T.written None T.APP T.SHORTEST T.LONGEST T.only_values T.written_contents T.written_least T.lengths T.within_limit.1 };
 }

@@ -7,6 +7,7 @@ ghost use Rattle.bac_service.specs.Leads.{opening, closing, disjoint};
 ghost use Rattle.bac_service.specs.Productions.{Grouped};
 ghost use Rattle.bac_service.specs.ProductionLaws.{group_lawful_sound};
 ghost use Rattle.bac_service.specs.GroupLaws.{group_inhabited};
+ghost use Rattle.bac_service.specs.HasLeastLaws.{group_least};
 
 use crate::productions::{Front, Production, ReadFault};
 use crate::tags::{Closing, Opening};
@@ -70,4 +71,6 @@ impl<P: Production, const N: u8> Production for Group<P, N> {
     ghost lawful = { group_lawful_sound N P.is_sound P.lawful };
 
     ghost inhabited = { group_inhabited P.continuers N P.is_sound P.inhabited };
+
+    ghost has_least = { group_least N P.spells P.has_least };
 }

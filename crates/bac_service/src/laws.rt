@@ -1,11 +1,13 @@
 //! Laws of the definitions.
 
-ghost use Rattle.std.specs.Prelude.{◌≡◌, ◌↔◌, ◌⊎◌, ℕ, List, true, false, IsTrue};
+ghost use Rattle.std.specs.Prelude.{◌≡◌, ◌↔◌, ◌⊎◌, ℕ, List, true, false, IsTrue, IsNone};
+ghost use Rattle.bac_tag.specs.Octets.{IsOctets};
 ghost use Rattle.bac_tag.specs.Spelling.{IsLeast, IsViable, IsPartway, OneOf, Joined};
 ghost use Rattle.bac_service.specs.declared.kind.Kind.{Kind};
 ghost use Rattle.bac_service.specs.ServiceTable.{IsUnchanged};
-ghost use Rattle.bac_service.specs.ServiceValues.{ServiceValue};
-ghost use Rattle.bac_service.specs.Services.{SpellsService};
+ghost use Rattle.bac_service.specs.Productions.{HasLeast};
+ghost use Rattle.bac_service.specs.ServiceValues.{ServiceValue, opaque};
+ghost use Rattle.bac_service.specs.Services.{SpellsService, IsPlaced};
 
 use crate::cov_notification::CovNotification;
 use crate::error_cause::ErrorCause;
@@ -26,6 +28,36 @@ use crate::write_property_multiple_error::WritePropertyMultipleError;
 fn parts_have_one_value<P: Production>()
     requires { IsTrue P.is_sound }
     ensures { (v w : P.Value) (b : List ℕ) → P.spells v b → P.spells w b → v ≡ w }
+{}
+
+/// Each value of a part that is spelled has a least spelling.
+fn parts_have_spellings<P: Production>()
+    ensures { HasLeast P.spells }
+{}
+
+/// Each service that is spelled has canonical octets.
+pub fn services_have_canonical_octets()
+    ensures { (kind : Kind) (choice : ℕ) (v : ServiceValue) (b : List ℕ) → SpellsService true 32 kind choice v b → (c : List ℕ) × IsLeast (SpellsService true 32 kind choice v) c }
+{
+    parts_have_spellings::<Fields<ReadProperty>>();
+    parts_have_spellings::<Fields<ReadPropertyAck>>();
+    parts_have_spellings::<Fields<WriteProperty>>();
+    parts_have_spellings::<Vec<ReadAccessSpecification>>();
+    parts_have_spellings::<Vec<ReadAccessResult>>();
+    parts_have_spellings::<Fields<WhoIs>>();
+    parts_have_spellings::<Fields<IAm>>();
+    parts_have_spellings::<Fields<SubscribeCov>>();
+    parts_have_spellings::<Fields<CovNotification>>();
+    parts_have_spellings::<Fields<ErrorCause>>();
+    parts_have_spellings::<Vec<WriteAccessSpecification>>();
+    parts_have_spellings::<Fields<WritePropertyMultipleError>>();
+}
+
+/// Only services are spelled: of this kind and with this choice, which is an octet, with the production that they
+/// name; and where they name none, by nothing but its own octets.
+pub fn only_services_are_spelled()
+    ensures placed { (kind : Kind) (choice : ℕ) (v : ServiceValue) (b : List ℕ) → SpellsService true 32 kind choice v b → (v.kind ≡ kind) × (v.choice ≡ choice) × IsPlaced v }
+    ensures opaque { (kind : Kind) (choice : ℕ) (v : ServiceValue) (b : List ℕ) → SpellsService true 32 kind choice v b → IsNone v.production → (v ≡ opaque kind choice b) × IsOctets b }
 {}
 
 /// No list spells two services of one kind and one choice.

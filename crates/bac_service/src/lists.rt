@@ -5,6 +5,7 @@ ghost use Rattle.bac_service.specs.Leads.{disjoint};
 ghost use Rattle.bac_service.specs.Productions.{Items};
 ghost use Rattle.bac_service.specs.ProductionLaws.{list_lawful, record_lawful};
 ghost use Rattle.bac_service.specs.ListLaws.{items_inhabited};
+ghost use Rattle.bac_service.specs.HasLeastLaws.{items_least, record_least};
 
 use crate::productions::{Front, Production, ReadFault, complete_at};
 use crate::records::{Fields, Record};
@@ -65,4 +66,6 @@ impl<R: Record> Production for Vec<R> {
     ghost lawful = { list_lawful R.Parts.is_sound (λ sound. record_lawful R.of_parts (R.Parts.lawful sound)) };
 
     ghost inhabited = { λ sound. items_inhabited R.spells };
+
+    ghost has_least = { items_least R.spells (record_least R.of_parts R.Parts.has_least) };
 }

@@ -7,6 +7,7 @@ ghost use Rattle.bac_data.specs.Spells.{SpellsOpen};
 ghost use Rattle.bac_data.specs.Writing.{Extends};
 ghost use Rattle.bac_service.specs.Leads.{opening};
 ghost use Rattle.bac_service.specs.OpenValueLaws.{open_lawful, open_inhabited};
+ghost use Rattle.bac_service.specs.HasLeastLaws.{open_value_least};
 
 use crate::productions::{Front, Production, ReadFault, complete_at};
 use bac_data::{Any, read_any_marked, write_any};
@@ -70,4 +71,6 @@ impl<const N: u8> Production for OpenValue<N> {
     ghost lawful = { λ sound. open_lawful 32 N };
 
     ghost inhabited = { open_inhabited 32 N };
+
+    ghost has_least = { open_value_least 32 N };
 }

@@ -5,6 +5,7 @@ ghost use Rattle.std.specs.Option.{option_map};
 ghost use Rattle.bac_service.specs.Productions.{Optional};
 ghost use Rattle.bac_service.specs.ProductionLaws.{option_lawful};
 ghost use Rattle.bac_service.specs.ReachLaws.{option_inhabited};
+ghost use Rattle.bac_service.specs.HasLeastLaws.{option_least};
 
 use crate::fields::Field;
 use crate::productions::{Front, Production, ReadFault};
@@ -60,6 +61,8 @@ impl<P: Production> Production for Option<P> {
     ghost lawful = { option_lawful P.is_sound P.lawful };
 
     ghost inhabited = { λ sound. option_inhabited P.spells };
+
+    ghost has_least = { option_least P.spells P.has_least };
 }
 
 /// What a field holds that may be absent.

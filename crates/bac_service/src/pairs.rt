@@ -5,6 +5,7 @@ ghost use Rattle.bac_tag.specs.Spelling.{Joined};
 ghost use Rattle.bac_service.specs.Leads.{and_where, disjoint};
 ghost use Rattle.bac_service.specs.ProductionLaws.{pair_lawful};
 ghost use Rattle.bac_service.specs.RefusalLaws.{sound_inhabited};
+ghost use Rattle.bac_service.specs.HasLeastLaws.{pair_least};
 
 use crate::productions::{Front, Production, ReadFault};
 use bac_tag::{OutOfMemory, joined_marks};
@@ -54,4 +55,6 @@ impl<A: Production, B: Production> Production for (A, B) {
     ghost lawful = { pair_lawful A.is_sound B.is_sound A.lawful B.lawful };
 
     ghost inhabited = { sound_inhabited A.is_sound B.is_sound (disjoint B.openers A.continuers) A.inhabited B.inhabited };
+
+    ghost has_least = { pair_least A.spells B.spells A.has_least B.has_least };
 }

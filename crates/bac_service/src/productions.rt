@@ -4,7 +4,7 @@ ghost use Rattle.std.specs.Prelude.{◌≡◌, ◌≢◌, ◌↔◌, ℕ, Bool, 
 ghost use Rattle.bac_tag.specs.Spelling.{IsRefusal, HasMark, AppendsLeast};
 ghost use Rattle.bac_data.specs.Writing.{Extends};
 ghost use Rattle.bac_service.specs.Leads.{Lead};
-ghost use Rattle.bac_service.specs.Productions.{Lawful, IsInhabited, IsLongest, IsReach};
+ghost use Rattle.bac_service.specs.Productions.{Lawful, IsInhabited, HasLeast, IsLongest, IsReach};
 ghost use Rattle.bac_service.specs.Reasons.{IsPartReason, IsReachReason};
 ghost use Rattle.bac_service.specs.ReadFaults.{IfRefused, EndsOrGoesOn};
 
@@ -103,4 +103,6 @@ pub(crate) trait Production: Drop {
     ghost lawful: { IsTrue is_sound → Lawful spells openers continuers may_be_empty };
 
     ghost inhabited: { IsTrue is_sound → IsInhabited spells };
+
+    ghost has_least: { HasLeast spells };
 }

@@ -6,6 +6,7 @@ ghost use Rattle.bac_data.specs.Writing.{Extends};
 ghost use Rattle.bac_service.specs.Productions.{IsRecordOf};
 ghost use Rattle.bac_service.specs.ProductionLaws.{record_lawful};
 ghost use Rattle.bac_service.specs.RecordLaws.{record_inhabited};
+ghost use Rattle.bac_service.specs.HasLeastLaws.{record_least};
 
 use crate::productions::{Front, Production, ReadFault};
 use bac_tag::OutOfMemory;
@@ -76,4 +77,6 @@ impl<R: Record> Production for Fields<R> {
     ghost lawful = { λ sound. record_lawful R.of_parts (R.Parts.lawful sound) };
 
     ghost inhabited = { λ sound. record_inhabited R.of_parts (R.Parts.inhabited sound) };
+
+    ghost has_least = { record_least R.of_parts R.Parts.has_least };
 }

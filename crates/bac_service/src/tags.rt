@@ -5,6 +5,7 @@ ghost use Rattle.bac_tag.specs.declared.heads.TagHead.TheVariants.{Open, Close};
 ghost use Rattle.bac_service.specs.Leads.{opening, closing};
 ghost use Rattle.bac_service.specs.ProductionLaws.{Head, head_lawful};
 ghost use Rattle.bac_service.specs.TagLaws.{opening_inhabited, closing_inhabited};
+ghost use Rattle.bac_service.specs.HasLeastLaws.{tag_least};
 
 use crate::productions::{Front, Production, ReadFault, complete_at};
 use bac_tag::{
@@ -68,6 +69,8 @@ impl<const N: u8> Production for Opening<N> {
     ghost lawful = { λ sound. head_lawful (Open N) };
 
     ghost inhabited = { opening_inhabited N };
+
+    ghost has_least = { tag_least (Open N) tt };
 }
 
 impl<const N: u8> Production for Closing<N> {
@@ -117,4 +120,6 @@ impl<const N: u8> Production for Closing<N> {
     ghost lawful = { λ sound. head_lawful (Close N) };
 
     ghost inhabited = { closing_inhabited N };
+
+    ghost has_least = { tag_least (Close N) tt };
 }

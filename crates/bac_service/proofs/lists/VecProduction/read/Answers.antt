@@ -5,11 +5,14 @@ use Rattle.bac_service.specs.Productions.{Items, IsReach}
 use Rattle.bac_service.specs.ReadFaults.{EndsOrGoesOn}
 use Rattle.std.proofs.lemmas.List.{take_rest, map-append}
 use Rattle.bac_service.specs.ProductionLaws.{record_lawful}
-use Rattle.bac_service.specs.ListLaws.{items_start, items_next, items_end, items_ends, items_found}
+use Rattle.bac_service.specs.ListLaws.{items_start, items_shrink, items_next, items_end, items_ends, items_found}
 use Rattle.bac_service.proofs.lists.VecProduction.read.Goals as goal
 
 pub loop-item-init : goal.loop-item-init
 loop-item-init g c = rw c.new-items.ensures.items (items_start g.R.Record.spells c.args.octets.now c.complete_at-reach.result c.complete_at-reach.ensures.place c.complete_at-reach.ensures.short c.complete_at-reach.ensures.reason)
+
+pub loop-item-smaller : goal.loop-item-smaller
+loop-item-smaller g c = items_shrink g.R.Parts.Production.is_sound (λ sound. record_lawful g.met.R.Record.of_parts (g.met.R.Parts.Production.lawful sound)) c.requires c.loop-item.invariant (rw take_rest at c.in-Ok.ensures.found)
 
 pub loop-item-preserved : goal.loop-item-preserved
 loop-item-preserved g c =
