@@ -1,9 +1,9 @@
 //! The events of a walk over an open value, one after another.
 
 ghost use Rattle.std.specs.Prelude.{◌≡◌, length};
-ghost use Rattle.std.specs.Iterator.{YieldsFirstBy, item_count};
+ghost use Rattle.std.specs.Iterator.{item_count};
 ghost use Rattle.bac_data.specs.Nodes.{node_event, nodes_events, IsWithin, IsNode, AreNodes};
-ghost use Rattle.bac_data.specs.Walks.{event_of};
+ghost use Rattle.bac_data.specs.Walks.{event_of, IsPackedStep, GivesStep};
 
 use crate::nodes::Node;
 use bac_value::PrimRef;
@@ -59,7 +59,8 @@ impl<'a> Events<'a> {
 fn step_of(octets: &[u8], node: Node) -> Event<'_>
     requires within { IsWithin (length octets.now) node }
     requires node { IsNode octets.now node }
-    ensures { event_of result ≡ node_event octets.now node }
+    ensures event { event_of result ≡ node_event octets.now node }
+    ensures packed { IsPackedStep result }
 {
     match node {
         Node::Application { number, start, end } => {
@@ -74,7 +75,7 @@ fn step_of(octets: &[u8], node: Node) -> Event<'_>
 impl<'a> Iterator for Events<'a> {
     type Item = Event<'a>;
 
-    ghost next_gives = { YieldsFirstBy event_of (λ walk. walk) };
+    ghost next_gives = { GivesStep };
 
     ghost remaining = { item_count (λ walk. walk) };
 

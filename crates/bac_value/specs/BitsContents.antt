@@ -64,3 +64,9 @@ pub record IsLeastBits (octets : List ℕ) : Type 0 where
 -- the count of unused bits is possible in so many octets
 abbrev pub CountsUnused : ℕ → ℕ → Type 0
 CountsUnused unused size = (unused < 8) × (unused ≤ 8 * (size - 1))
+
+-- The octets hold so many bits and nothing else: they are no more than the bits need, and the bits behind the last one
+-- are zero.
+pub record IsPacked (count : ℕ) (packed : List ℕ) : Type 0 where
+  pub few : length packed ≡ octets_for count
+  pub unused : (k : ℕ) → count ≤ k → k < 8 * length packed → bit_in packed k ≡ false

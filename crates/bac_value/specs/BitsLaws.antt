@@ -14,7 +14,7 @@ use Rattle.bac_tag.specs.Octets.{IsOctets, NoGreater, FirstDifference}
 use Rattle.bac_value.specs.Primitives.{IsBegun, IsHopelessAt}
 use Rattle.bac_tag.specs.OctetsLaws.{octets_below, octets_at, octets_replicate, octets_filled, length-filled, zeros_to, differs_at}
 use Rattle.std.proofs.lemmas.List.{length-replicate}
-use Rattle.bac_value.specs.BitsContents.{bit_in, bits_in, HoldsBits, BitsContents, IsBits, worth, octet_from, octets_for, packed_bits, least_bits, bits_of, IsLeastBits, CountsUnused}
+use Rattle.bac_value.specs.BitsContents.{bit_in, bits_in, HoldsBits, BitsContents, IsBits, worth, octet_from, octets_for, packed_bits, least_bits, bits_of, IsLeastBits, CountsUnused, IsPacked}
 
 pub bits_once : (a b : List Bool) (octets : List ℕ) → BitsContents a octets → BitsContents b octets → a ≡ b
 bits_once a b [] p q = absurd p
@@ -389,3 +389,34 @@ bits_same_length bits [] h = absurd h
 bits_same_length bits (unused ∷ packed) h =
     let same : length (packed_bits bits) ≡ octets_for (length bits) = length-map-range_with_len (λ i. octet_from bits (8 * i)) 0 (octets_for (length bits)) in
     omega (arith, h.sized, h.few, same)
+
+-- ---- what is handed out
+
+-- the octets of bits hold those bits and nothing else
+pub packed_is_packed : (bits : List Bool) → IsPacked (length bits) (packed_bits bits)
+unfolding packed_bits
+packed_is_packed bits =
+    let f : ℕ → ℕ = λ i. octet_from bits (8 * i) in
+    let many : length (map f (range_with_len 0 (octets_for (length bits)))) ≡ octets_for (length bits) = length-map-range_with_len f 0 (octets_for (length bits)) in
+    record {
+      few = many;
+      unused = λ k behind inside.
+          let is : get_or (map f (range_with_len 0 (octets_for (length bits)))) (k / 8) 0 ≡ octet_from bits (8 * (k / 8)) = get_or-map-range_with_len f 0 (octets_for (length bits)) (k / 8) (k / 8) 0 (omega arith) (omega arith) in
+          let back : 8 * (k / 8) + k % 8 ≡ k = omega arith in
+          let bit : bit_at (octet_from bits (8 * (k / 8))) (7 - k % 8) ≡ worth (get_or bits k false) = bit_of_octet bits (8 * (k / 8)) (k % 8) (omega arith) ∙ ap (λ i. worth (get_or bits i false)) back in
+          ap (λ x. bit_at x (7 - k % 8) == 1) is ∙ ap (λ b. b == 1) bit ∙ worth_is (get_or bits k false) ∙ get_or-eq_default bits false behind;
+    }
+
+-- and so do the octets behind the count of written contents
+pub packed_behind_count : (bits : List Bool) (octets : List ℕ) (unused : ℕ) → unused ≡ get_or octets 0 0 → octets ≡ least_bits bits
+    → IsPacked (8 * (length octets - 1) - unused) (take (length octets - 1) (drop 1 octets))
+unfolding least_bits
+packed_behind_count bits [] unused n e = absurd (cc)
+packed_behind_count bits (u ∷ packed) unused n e =
+    let tail : packed ≡ packed_bits bits = ap (drop 1) e in
+    let head : u ≡ 8 * octets_for (length bits) - length bits = ap (λ (l : List ℕ). get_or l 0 0) e in
+    let is = packed_is_packed bits in
+    let rest : suc (length packed) - 1 ≡ length packed = omega arith in
+    let same : take (suc (length packed) - 1) packed ≡ packed_bits bits = ap (λ (k : ℕ). take k packed) rest ∙ take-length packed ∙ tail in
+    let count : 8 * (suc (length packed) - 1) - unused ≡ length bits = omega (arith, n, head, is.few, ap length tail) in
+    rw (same, count) is

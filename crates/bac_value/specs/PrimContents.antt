@@ -3,7 +3,7 @@ use Rattle.std.specs.Prelude.{◌≡◌, ℕ, ◌<◌, ◌≤◌, ◌^◌, ◌-�
 use Rattle.std.specs.Int.{w64}
 use Rattle.bac_value.specs.declared.prim.PrimitiveValue.{PrimitiveValue}
 use Rattle.bac_value.specs.declared.prim.PrimitiveValue.TheVariants.{Null, Boolean, Unsigned, Signed, RealBits, DoubleBits, Octets, Text, Bits, Enumerated, Date, Time, ObjectId}
-use Rattle.bac_value.specs.Primitives.{IsTheList}
+use Rattle.bac_value.specs.Primitives.{IsTheList, IsWritten}
 use Rattle.bac_value.specs.NullContents.{IsNull, null_octets}
 use Rattle.bac_value.specs.BooleanContents.{IsBoolean, boolean_octets}
 use Rattle.bac_value.specs.Numbers.{NumberContents, least_number}
@@ -86,10 +86,8 @@ abbrev pub ContentsOf : ℕ → PrimitiveValue → List ℕ → Type 0
 ContentsOf number prim octets = (application_number prim ≡ number) × PrimContents prim octets
 
 -- what is written of a value of the type with that application number
-pub record IsWrittenOf (number : ℕ) (octets : List ℕ) : Type 0 where
-  pub value : PrimitiveValue
-  pub spelled : ContentsOf number value octets
-  pub is : octets ≡ prim_written value
+abbrev pub IsWrittenOf : ℕ → List ℕ → Type 0
+IsWrittenOf number = IsWritten (ContentsOf number) prim_written
 
 -- reading contents of the type with that application number may want memory: those of the three strings
 abbrev pub MayWantMemory : ℕ → Type 0

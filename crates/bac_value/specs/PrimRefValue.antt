@@ -3,7 +3,7 @@ use Rattle.bac_value.specs.declared.prim.PrimitiveValue.{PrimitiveValue}
 use Rattle.bac_value.specs.declared.prim.PrimitiveValue.TheVariants as prim
 use Rattle.bac_value.specs.declared.prim_ref.PrimRef.{PrimRef}
 use Rattle.bac_value.specs.declared.prim_ref.PrimRef.TheVariants.{Null, Boolean, Unsigned, Signed, RealBits, DoubleBits, Octets, Text, Bits, Enumerated, Date, Time, ObjectId}
-use Rattle.bac_value.specs.BitsContents.{bits_in}
+use Rattle.bac_value.specs.BitsContents.{bits_in, IsPacked}
 
 -- the value that is borrowed
 abbrev pub prim_of : PrimRef → PrimitiveValue
@@ -20,3 +20,8 @@ prim_of (Enumerated value) = prim.Enumerated value
 prim_of (Date value) = prim.Date value
 prim_of (Time value) = prim.Time value
 prim_of (ObjectId value) = prim.ObjectId value
+
+-- the octets of a bit string hold its bits and nothing else
+abbrev pub IsPackedRef : PrimRef → Type 0
+IsPackedRef (Bits count packed) = IsPacked count packed.now
+IsPackedRef _ = Unit {0}

@@ -26,6 +26,12 @@ pub record AreLengths {V : Type 0} (contents : V → List ℕ → Type 0) (short
   pub most : (value : V) (octets : List ℕ) → contents value octets → length octets ≤ longest
   pub each : (size : ℕ) → shortest ≤ size → size ≤ longest → IsBegun contents [] size
 
+-- contents of a value that are the written ones
+pub record IsWritten {V : Type 0} (contents : V → List ℕ → Type 0) (written : V → List ℕ) (octets : List ℕ) : Type 0 where
+  pub value : V
+  pub spelled : contents value octets
+  pub is : octets ≡ written value
+
 -- The octets before the place begin contents of that size, and those with the one at the place begin none.
 abbrev pub IsHopelessAt : {V : Type 0} → (V → List ℕ → Type 0) → List ℕ → ℕ → ℕ → Type 0
 IsHopelessAt contents octets size place =

@@ -1,8 +1,8 @@
 -- One primitive type as one of the thirteen.
-use Rattle.std.proofs.Common.{◌≡◌, ℕ, List, [], ◌≤◌, ◌+◌, ◌++◌, length, take}
+use Rattle.std.proofs.Common.{◌≡◌, ℕ, List, [], ◌≤◌, ◌+◌, ◌++◌, length, take, ◌∙◌, ap}
 use Rattle.bac_value.specs.declared.prim.PrimitiveValue.{PrimitiveValue}
-use Rattle.bac_value.specs.Primitives.{IsBegun, AreLengths, IsHopelessAt}
-use Rattle.bac_value.specs.PrimContents.{ContentsOf}
+use Rattle.bac_value.specs.Primitives.{IsBegun, AreLengths, IsHopelessAt, IsWritten}
+use Rattle.bac_value.specs.PrimContents.{ContentsOf, IsWrittenOf, prim_written}
 
 -- the values of a type, wrapped, are the values that have contents under its application number
 pub record IsVariant {V : Type 0} (number : ℕ) (contents : V → List ℕ → Type 0) (wrapped : V → PrimitiveValue) : Type 0 where
@@ -39,3 +39,10 @@ pub hopeless_into : {V : Type 0} (number : ℕ) (contents : V → List ℕ → T
     → (octets : List ℕ) (size place : ℕ) → IsHopelessAt contents octets size place → IsHopelessAt (ContentsOf number) octets size place
 hopeless_into number contents wrapped v octets size place h =
     (h.0, begun_into number contents wrapped v (take place octets) size h.1, λ begun. h.2 (begun_from number contents wrapped v (take (place + 1) octets) size begun))
+
+-- what is written under its application number is what is written of a value of the type
+pub written_from : {V : Type 0} (number : ℕ) (contents : V → List ℕ → Type 0) (wrapped : V → PrimitiveValue) (written : V → List ℕ) → IsVariant number contents wrapped
+    → ((value : V) → prim_written (wrapped value) ≡ written value) → (octets : List ℕ) → IsWrittenOf number octets → IsWritten contents written octets
+written_from number contents wrapped written v same octets h =
+    let p = v.from h.value octets h.spelled in
+    record { value = p.0; spelled = p.2; is = h.is ∙ ap prim_written p.1 ∙ same p.0 }

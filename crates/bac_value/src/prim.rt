@@ -4,7 +4,7 @@ ghost use Rattle.std.specs.Prelude.{◌≡◌, ◌≢◌, ◌≤◌, ◌++◌, [
 ghost use Rattle.bac_tag.specs.Octets.{FirstDifference};
 ghost use Rattle.bac_value.specs.declared.prim.PrimitiveValue.{PrimitiveValue};
 ghost use Rattle.bac_value.specs.Primitives.{IsBegun, AreLengths, IsHopelessAt, IsContentsReason};
-ghost use Rattle.bac_value.specs.PrimRefValue.{prim_of};
+ghost use Rattle.bac_value.specs.PrimRefValue.{prim_of, IsPackedRef};
 ghost use Rattle.bac_value.specs.PrimContents.{application_number, IsPrim, PrimContents, prim_written, ContentsOf, MayWantMemory};
 
 use crate::bit_string::Bits;
@@ -219,7 +219,8 @@ impl PrimitiveValue {
 
     /// The same value, borrowed.
     pub fn as_prim_ref(&self) -> PrimRef<'_>
-        ensures { prim_of result ≡ self.now }
+        ensures value { prim_of result ≡ self.now }
+        ensures packed { IsPackedRef result }
     {
         match self {
             Self::Null(value) => PrimRef::Null(*value),

@@ -3,7 +3,7 @@
 ghost use Rattle.std.specs.Prelude.{◌≡◌, ◌≤◌};
 ghost use Rattle.bac_value.specs.declared.prim.PrimitiveValue.{PrimitiveValue};
 ghost use Rattle.bac_value.specs.PrimContents.{application_number, ContentsOf, IsWrittenOf};
-ghost use Rattle.bac_value.specs.PrimRefValue.{prim_of};
+ghost use Rattle.bac_value.specs.PrimRefValue.{prim_of, IsPackedRef};
 
 use crate::bit_string::Bits;
 use crate::boolean_value::Boolean;
@@ -57,7 +57,8 @@ impl<'a> PrimRef<'a> {
     pub fn of_contents(number: u8, octets: &'a [u8]) -> PrimRef<'a>
         requires number { number ≤ 12 }
         requires written { IsWrittenOf number octets.now }
-        ensures { (prim : PrimitiveValue) → ContentsOf number prim octets.now → prim_of result ≡ prim }
+        ensures value { (prim : PrimitiveValue) → ContentsOf number prim octets.now → prim_of result ≡ prim }
+        ensures packed { IsPackedRef result }
     {
         match number {
             0 => borrow_variant::<Null>(octets),

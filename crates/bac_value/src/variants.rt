@@ -4,9 +4,9 @@ ghost use Rattle.std.specs.Prelude.{◌≡◌, ◌≢◌, IsTrue, ◌≤◌, ◌
 ghost use Rattle.std.proofs.Common.{refl};
 ghost use Rattle.bac_tag.specs.Octets.{FirstDifference};
 ghost use Rattle.bac_value.specs.declared.prim.PrimitiveValue.{PrimitiveValue};
-ghost use Rattle.bac_value.specs.Primitives.{IsBegun, AreLengths, IsHopelessAt, IsContentsReason};
-ghost use Rattle.bac_value.specs.PrimContents.{prim_written, ContentsOf};
-ghost use Rattle.bac_value.specs.PrimRefValue.{prim_of};
+ghost use Rattle.bac_value.specs.Primitives.{IsBegun, AreLengths, IsHopelessAt, IsContentsReason, IsWritten};
+ghost use Rattle.bac_value.specs.PrimContents.{prim_written, ContentsOf, IsWrittenOf};
+ghost use Rattle.bac_value.specs.PrimRefValue.{prim_of, IsPackedRef};
 ghost use Rattle.bac_value.specs.Variants.{IsVariant};
 ghost use Rattle.bac_value.specs.VariantsOfPrim.{null_variant, boolean_variant, unsigned_variant, signed_variant, real_variant, double_variant, octets_variant, text_variant, bits_variant, enumerated_variant, date_variant, time_variant, object_id_variant};
 
@@ -38,10 +38,11 @@ pub(crate) trait Variant: Primitive {
     fn wrap(self) -> PrimitiveValue
         ensures { result ≡ wrapped self };
 
-    /// The value whose contents these are, borrowed from them.
+    /// The value of which these contents are written, borrowed from them.
     fn borrowed(octets: &[u8]) -> PrimRef<'_>
-        requires { (value : Self) × Self.contents value octets.now }
-        ensures { (value : Self) → Self.contents value octets.now → prim_of result ≡ wrapped value };
+        requires { IsWritten Self.contents Self.written octets.now }
+        ensures value { (value : Self) → Self.contents value octets.now → prim_of result ≡ wrapped value }
+        ensures packed { IsPackedRef result };
 
     /// Appends what is written of the value whose contents these are. Where memory is refused some octets may
     /// be there.
@@ -85,10 +86,11 @@ pub(crate) fn read_variant<T: Variant>(
     Ok(T::read(alloc, octets)?.wrap())
 }
 
-/// The value of this type whose contents these octets are, borrowed from them.
+/// The value of this type of which these contents are written, borrowed from them.
 pub(crate) fn borrow_variant<T: Variant>(octets: &[u8]) -> PrimRef<'_>
-    requires { (prim : PrimitiveValue) × ContentsOf T.APP prim octets.now }
-    ensures { (prim : PrimitiveValue) → ContentsOf T.APP prim octets.now → prim_of result ≡ prim }
+    requires { IsWrittenOf T.APP octets.now }
+    ensures value { (prim : PrimitiveValue) → ContentsOf T.APP prim octets.now → prim_of result ≡ prim }
+    ensures packed { IsPackedRef result }
 {
     T::borrowed(octets)
 }

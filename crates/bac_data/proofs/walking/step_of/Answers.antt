@@ -6,8 +6,8 @@ use Rattle.bac_data.specs.Events.{application}
 use Rattle.bac_data.specs.Nodes.{node_event, IsNode}
 use Rattle.bac_data.proofs.walking.step_of.Goals as goal
 
-pub returns-in-Application : goal.returns-in-Application
-returns-in-Application c =
+pub returns-in-Application-clause-event : goal.returns-in-Application-clause-event
+returns-in-Application-clause-event c =
     let is : IsNode c.args.octets.now (Application c.in-Application.number c.in-Application.start c.in-Application.end) = subst (IsNode c.args.octets.now) c.in-Application.is c.requires.node in
     let w = is.1 in
-    ap application (c.of_contents.ensures w.value w.spelled ∙ sym (prim_of_contents_is c.in-Application.number w.value (slice_range c.args.octets.now c.in-Application.start c.in-Application.end) w.spelled)) ∙ ap (node_event c.args.octets.now) (sym c.in-Application.is)
+    ap application (c.of_contents.ensures.value w.value w.spelled ∙ sym (prim_of_contents_is c.in-Application.number w.value (slice_range c.args.octets.now c.in-Application.start c.in-Application.end) w.spelled)) ∙ ap (node_event c.args.octets.now) (sym c.in-Application.is)
