@@ -6,12 +6,12 @@ use Rattle.bac_tag.specs.Spelling.{IsLeast, Joined}
 use Rattle.bac_data.specs.Spells.{SpellsOpen}
 use Rattle.bac_service.specs.declared.kind.Kind.{Kind}
 use Rattle.bac_service.specs.declared.kind.Kind.TheVariants.{Confirmed, Unconfirmed, ComplexAck, Error}
-use Rattle.bac_service.specs.declared.read_property_ack.ReadPropertyAck.{ReadPropertyAck}
-use Rattle.bac_service.specs.declared.write_property.WriteProperty.{WriteProperty}
-use Rattle.bac_service.specs.declared.property_value.PropertyValue.{PropertyValue}
-use Rattle.bac_service.specs.declared.property_result.ReadResult.{ReadResult}
-use Rattle.bac_service.specs.declared.property_result.ReadResult.TheVariants as result
-use Rattle.bac_service.specs.declared.property_result.PropertyResult.{PropertyResult}
+use Rattle.bac_service.specs.declared.services.read_property_ack.ReadPropertyAck.{ReadPropertyAck}
+use Rattle.bac_service.specs.declared.services.write_property.WriteProperty.{WriteProperty}
+use Rattle.bac_service.specs.declared.services.property_value.PropertyValue.{PropertyValue}
+use Rattle.bac_service.specs.declared.services.property_result.ReadResult.{ReadResult}
+use Rattle.bac_service.specs.declared.services.property_result.ReadResult.TheVariants as result
+use Rattle.bac_service.specs.declared.services.property_result.PropertyResult.{PropertyResult}
 use Rattle.bac_service.specs.Contents.{ObjectField, EnumeratedField, UnsignedField, PriorityField}
 use Rattle.bac_service.specs.Productions.{Optional, Items, Grouped}
 use Rattle.bac_service.specs.ReadPropertyAck.{SpellsReadPropertyAck}

@@ -1,7 +1,7 @@
 -- Error (clause 21): the class and the code, under their application tags.
 use Rattle.std.specs.Prelude.{ℕ, List, refl}
 use Rattle.bac_tag.specs.Spelling.{Joins, Joined}
-use Rattle.bac_service.specs.declared.error_cause.ErrorCause.{ErrorCause}
+use Rattle.bac_service.specs.declared.services.error_cause.ErrorCause.{ErrorCause}
 use Rattle.bac_service.specs.Contents.{ApplicationEnumerated}
 use Rattle.bac_service.specs.Productions.{IsRecordOf}
 

@@ -1,7 +1,7 @@
 -- I-Am (clause 21): the device, the largest APDU that it takes, its segmentation and its vendor, each under the application tag of its type.
 use Rattle.std.specs.Prelude.{ℕ, List, refl}
 use Rattle.bac_tag.specs.Spelling.{Joins, Joined}
-use Rattle.bac_service.specs.declared.i_am.IAm.{IAm}
+use Rattle.bac_service.specs.declared.services.i_am.IAm.{IAm}
 use Rattle.bac_service.specs.Contents.{ApplicationObject, ApplicationUnsigned, ApplicationEnumerated, ApplicationUnsigned16}
 use Rattle.bac_service.specs.Productions.{IsRecordOf}
 

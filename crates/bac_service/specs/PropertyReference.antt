@@ -1,7 +1,7 @@
 -- References to properties (clause 21): [0] the property, [1] the index, which may be absent.
 use Rattle.std.specs.Prelude.{ℕ, List, refl}
 use Rattle.bac_tag.specs.Spelling.{Joins, Joined}
-use Rattle.bac_service.specs.declared.property_reference.PropertyReference.{PropertyReference}
+use Rattle.bac_service.specs.declared.services.property_reference.PropertyReference.{PropertyReference}
 use Rattle.bac_service.specs.Contents.{EnumeratedField, UnsignedField}
 use Rattle.bac_service.specs.Productions.{Optional, IsRecordOf}
 

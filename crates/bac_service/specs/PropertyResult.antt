@@ -6,10 +6,10 @@ use Rattle.bac_data.specs.OpenValue.{Elements}
 use Rattle.bac_data.specs.Spells.{SpellsOpen}
 use Rattle.bac_value.specs.declared.enumeration.Enumerated.{Enumerated}
 use Rattle.bac_service.specs.declared.unsigned32.Unsigned32.{Unsigned32}
-use Rattle.bac_service.specs.declared.error_cause.ErrorCause.{ErrorCause}
-use Rattle.bac_service.specs.declared.property_result.ReadResult.{ReadResult}
-use Rattle.bac_service.specs.declared.property_result.ReadResult.TheVariants.{Value, Error}
-use Rattle.bac_service.specs.declared.property_result.PropertyResult.{PropertyResult}
+use Rattle.bac_service.specs.declared.services.error_cause.ErrorCause.{ErrorCause}
+use Rattle.bac_service.specs.declared.services.property_result.ReadResult.{ReadResult}
+use Rattle.bac_service.specs.declared.services.property_result.ReadResult.TheVariants.{Value, Error}
+use Rattle.bac_service.specs.declared.services.property_result.PropertyResult.{PropertyResult}
 use Rattle.bac_service.specs.Contents.{EnumeratedField, UnsignedField}
 use Rattle.bac_service.specs.ErrorCause.{SpellsErrorCause}
 use Rattle.bac_service.specs.Productions.{Optional, Grouped, IsRecordOf}

@@ -2,7 +2,7 @@
 use Rattle.std.specs.Prelude.{ℕ, List, refl}
 use Rattle.bac_tag.specs.Spelling.{Joins, Joined}
 use Rattle.bac_data.specs.Spells.{SpellsOpen}
-use Rattle.bac_service.specs.declared.property_value.PropertyValue.{PropertyValue}
+use Rattle.bac_service.specs.declared.services.property_value.PropertyValue.{PropertyValue}
 use Rattle.bac_service.specs.Contents.{EnumeratedField, UnsignedField, PriorityField}
 use Rattle.bac_service.specs.Productions.{Optional, IsRecordOf}
 

@@ -3,8 +3,8 @@ use Rattle.std.specs.Prelude.{ℕ, List, Option, refl}
 use Rattle.std.specs.Option.{option_map}
 use Rattle.bac_tag.specs.Spelling.{Joins, Joined}
 use Rattle.bac_value.specs.Identifier.{Identifier}
-use Rattle.bac_service.specs.declared.property_result.PropertyResult.{PropertyResult}
-use Rattle.bac_service.specs.declared.read_access_result.ReadAccessResult.{ReadAccessResult}
+use Rattle.bac_service.specs.declared.services.property_result.PropertyResult.{PropertyResult}
+use Rattle.bac_service.specs.declared.services.read_property_multiple_ack.ReadAccessResult.{ReadAccessResult}
 use Rattle.bac_service.specs.Contents.{ObjectField}
 use Rattle.bac_service.specs.PropertyResult.{SpellsPropertyResult}
 use Rattle.bac_service.specs.Productions.{Optional, Items, Grouped, IsRecordOf}

@@ -2,8 +2,8 @@
 use Rattle.std.specs.Prelude.{ℕ, List, refl}
 use Rattle.bac_tag.specs.Spelling.{Joins, Joined}
 use Rattle.bac_value.specs.Identifier.{Identifier}
-use Rattle.bac_service.specs.declared.property_reference.PropertyReference.{PropertyReference}
-use Rattle.bac_service.specs.declared.read_access_specification.ReadAccessSpecification.{ReadAccessSpecification}
+use Rattle.bac_service.specs.declared.services.property_reference.PropertyReference.{PropertyReference}
+use Rattle.bac_service.specs.declared.services.read_property_multiple.ReadAccessSpecification.{ReadAccessSpecification}
 use Rattle.bac_service.specs.Contents.{ObjectField}
 use Rattle.bac_service.specs.PropertyReference.{SpellsPropertyReference}
 use Rattle.bac_service.specs.Productions.{Items, Grouped, IsRecordOf}

@@ -3,8 +3,8 @@ use Rattle.std.specs.Prelude.{◌≡◌, ℕ}
 use Rattle.bac_tag.specs.declared.refusals.Refusal.{Refusal}
 use Rattle.bac_tag.specs.declared.refusals.Why.TheVariants.{Trailing}
 use Rattle.bac_service.specs.Reasons.{IsReachReason}
-use Rattle.bac_service.specs.declared.productions.ReadFault.{ReadFault}
-use Rattle.bac_service.specs.declared.productions.ReadFault.TheVariants.{OutOfMemory, Refused}
+use Rattle.bac_service.specs.declared.production.ReadFault.{ReadFault}
+use Rattle.bac_service.specs.declared.production.ReadFault.TheVariants.{OutOfMemory, Refused}
 
 -- a fact on the refusal, where the octets are refused
 abbrev pub IfRefused : ReadFault → (Refusal → Type 0) → Type 0

@@ -1,7 +1,7 @@
 -- ReadProperty (clause 21): [0] the object, [1] the property, [2] the index, which may be absent.
 use Rattle.std.specs.Prelude.{ℕ, List, refl}
 use Rattle.bac_tag.specs.Spelling.{Joins, Joined}
-use Rattle.bac_service.specs.declared.read_property.ReadProperty.{ReadProperty}
+use Rattle.bac_service.specs.declared.services.read_property.ReadProperty.{ReadProperty}
 use Rattle.bac_service.specs.Contents.{ObjectField, EnumeratedField, UnsignedField}
 use Rattle.bac_service.specs.Productions.{Optional, IsRecordOf}
 

@@ -2,7 +2,7 @@
 use Rattle.std.specs.Prelude.{ℕ, List, refl}
 use Rattle.bac_tag.specs.Spelling.{Joins, Joined}
 use Rattle.bac_data.specs.Spells.{SpellsOpen}
-use Rattle.bac_service.specs.declared.read_property_ack.ReadPropertyAck.{ReadPropertyAck}
+use Rattle.bac_service.specs.declared.services.read_property_ack.ReadPropertyAck.{ReadPropertyAck}
 use Rattle.bac_service.specs.Contents.{ObjectField, EnumeratedField, UnsignedField}
 use Rattle.bac_service.specs.Productions.{Optional, IsRecordOf}
 

@@ -4,14 +4,14 @@ use Rattle.bac_service.specs.declared.kind.Kind.{Kind}
 use Rattle.bac_service.specs.declared.kind.Kind.TheVariants as kind
 use Rattle.bac_service.specs.declared.service.Service.{Service}
 use Rattle.bac_service.specs.declared.service.Service.TheVariants as held
-use Rattle.bac_service.specs.declared.read_property.ReadProperty.{ReadProperty}
-use Rattle.bac_service.specs.declared.read_property_ack.ReadPropertyAck.{ReadPropertyAck}
-use Rattle.bac_service.specs.declared.write_property.WriteProperty.{WriteProperty}
-use Rattle.bac_service.specs.declared.who_is.WhoIs.{WhoIs}
-use Rattle.bac_service.specs.declared.i_am.IAm.{IAm}
-use Rattle.bac_service.specs.declared.subscribe_cov.SubscribeCov.{SubscribeCov}
-use Rattle.bac_service.specs.declared.error_cause.ErrorCause.{ErrorCause}
-use Rattle.bac_service.specs.declared.write_property_multiple_error.WritePropertyMultipleError.{WritePropertyMultipleError}
+use Rattle.bac_service.specs.declared.services.read_property.ReadProperty.{ReadProperty}
+use Rattle.bac_service.specs.declared.services.read_property_ack.ReadPropertyAck.{ReadPropertyAck}
+use Rattle.bac_service.specs.declared.services.write_property.WriteProperty.{WriteProperty}
+use Rattle.bac_service.specs.declared.services.who_is.WhoIs.{WhoIs}
+use Rattle.bac_service.specs.declared.services.i_am.IAm.{IAm}
+use Rattle.bac_service.specs.declared.services.subscribe_cov.SubscribeCov.{SubscribeCov}
+use Rattle.bac_service.specs.declared.services.error_cause.ErrorCause.{ErrorCause}
+use Rattle.bac_service.specs.declared.services.write_property_multiple_error.WritePropertyMultipleError.{WritePropertyMultipleError}
 use Rattle.bac_service.specs.ReadAccessSpecification.{Specification, specification_of}
 use Rattle.bac_service.specs.ReadAccessResult.{AccessResult, access_result_of}
 use Rattle.bac_service.specs.WriteAccessSpecification.{WriteSpecification, write_specification_of}

@@ -2,8 +2,8 @@
 use Rattle.std.specs.Prelude.{ℕ, List, refl}
 use Rattle.bac_tag.specs.Spelling.{Joins, Joined}
 use Rattle.bac_value.specs.Identifier.{Identifier}
-use Rattle.bac_service.specs.declared.property_value.PropertyValue.{PropertyValue}
-use Rattle.bac_service.specs.declared.write_access_specification.WriteAccessSpecification.{WriteAccessSpecification}
+use Rattle.bac_service.specs.declared.services.property_value.PropertyValue.{PropertyValue}
+use Rattle.bac_service.specs.declared.services.write_property_multiple.WriteAccessSpecification.{WriteAccessSpecification}
 use Rattle.bac_service.specs.Contents.{ObjectField}
 use Rattle.bac_service.specs.PropertyValue.{SpellsPropertyValue}
 use Rattle.bac_service.specs.Productions.{Items, Grouped, IsRecordOf}

@@ -1,7 +1,7 @@
 -- The error of WritePropertyMultiple (clause 21): [0] a group with the class and the code, [1] a group with the first failed write: the object, the property, and the index, which may be absent.
 use Rattle.std.specs.Prelude.{ℕ, List, refl}
 use Rattle.bac_tag.specs.Spelling.{Joins, Joined}
-use Rattle.bac_service.specs.declared.write_property_multiple_error.WritePropertyMultipleError.{WritePropertyMultipleError}
+use Rattle.bac_service.specs.declared.services.write_property_multiple_error.WritePropertyMultipleError.{WritePropertyMultipleError}
 use Rattle.bac_service.specs.ErrorCause.{SpellsErrorCause}
 use Rattle.bac_service.specs.ReadProperty.{SpellsReadProperty}
 use Rattle.bac_service.specs.Productions.{Grouped, IsRecordOf}

@@ -9,20 +9,20 @@ ghost use Rattle.bac_service.specs.Productions.{HasLeast};
 ghost use Rattle.bac_service.specs.ServiceValues.{ServiceValue, opaque};
 ghost use Rattle.bac_service.specs.Services.{SpellsService, IsPlaced};
 
-use crate::cov_notification::CovNotification;
-use crate::error_cause::ErrorCause;
-use crate::i_am::IAm;
-use crate::productions::Production;
-use crate::read_access_result::ReadAccessResult;
-use crate::read_access_specification::ReadAccessSpecification;
-use crate::read_property::ReadProperty;
-use crate::read_property_ack::ReadPropertyAck;
-use crate::records::Fields;
-use crate::subscribe_cov::SubscribeCov;
-use crate::who_is::WhoIs;
-use crate::write_access_specification::WriteAccessSpecification;
-use crate::write_property::WriteProperty;
-use crate::write_property_multiple_error::WritePropertyMultipleError;
+use crate::production::Production;
+use crate::production::record::Fields;
+use crate::services::cov_notification::CovNotification;
+use crate::services::error_cause::ErrorCause;
+use crate::services::i_am::IAm;
+use crate::services::read_property::ReadProperty;
+use crate::services::read_property_ack::ReadPropertyAck;
+use crate::services::read_property_multiple::ReadAccessSpecification;
+use crate::services::read_property_multiple_ack::ReadAccessResult;
+use crate::services::subscribe_cov::SubscribeCov;
+use crate::services::who_is::WhoIs;
+use crate::services::write_property::WriteProperty;
+use crate::services::write_property_multiple::WriteAccessSpecification;
+use crate::services::write_property_multiple_error::WritePropertyMultipleError;
 
 /// No list spells two values of a part.
 fn parts_have_one_value<P: Production>()

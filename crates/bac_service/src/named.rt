@@ -8,16 +8,16 @@ ghost use Rattle.bac_service.specs.Productions.{Items};
 ghost use Rattle.bac_service.specs.ServiceTable.{service_error, production_of, is_small};
 ghost use Rattle.bac_service.specs.ServiceValues.{value_of, notification_kind, notification_choice};
 ghost use Rattle.bac_service.specs.Services.{SpellsService};
-ghost use Rattle.bac_service.specs.ServiceLaws.{IsServiceOf};
+ghost use Rattle.bac_service.specs.laws.ServiceLaws.{IsServiceOf};
 ghost use Rattle.bac_service.specs.Decoded.{IsDecoded};
 
-use crate::cov_notification::CovNotification;
-use crate::decoding::decode;
-use crate::error_cause::ErrorCause;
-use crate::productions::Production;
-use crate::records::{Fields, Record};
+use crate::production::Production;
+use crate::production::decoding::decode;
+use crate::production::record::{Fields, Record};
 use crate::service::Service;
-use crate::service_error::ServiceError;
+use crate::services::cov_notification::CovNotification;
+use crate::services::error_cause::ErrorCause;
+use crate::services::service_error::ServiceError;
 use bac_tag::Refusal;
 use std::alloc::Global;
 

@@ -3,20 +3,20 @@
 ghost use Rattle.std.specs.Prelude.{◌≡◌};
 ghost use Rattle.bac_service.specs.ServiceValues.{value_of};
 
-use crate::cov_notification::CovNotification;
-use crate::i_am::IAm;
 use crate::kind::Kind;
-use crate::opaque::Opaque;
-use crate::read_property::ReadProperty;
-use crate::read_property_ack::ReadPropertyAck;
-use crate::read_property_multiple::ReadPropertyMultiple;
-use crate::read_property_multiple_ack::ReadPropertyMultipleAck;
-use crate::service_error::ServiceError;
-use crate::subscribe_cov::SubscribeCov;
-use crate::who_is::WhoIs;
-use crate::write_property::WriteProperty;
-use crate::write_property_multiple::WritePropertyMultiple;
-use crate::write_property_multiple_error::WritePropertyMultipleError;
+use crate::services::cov_notification::CovNotification;
+use crate::services::i_am::IAm;
+use crate::services::opaque::Opaque;
+use crate::services::read_property::ReadProperty;
+use crate::services::read_property_ack::ReadPropertyAck;
+use crate::services::read_property_multiple::ReadPropertyMultiple;
+use crate::services::read_property_multiple_ack::ReadPropertyMultipleAck;
+use crate::services::service_error::ServiceError;
+use crate::services::subscribe_cov::SubscribeCov;
+use crate::services::who_is::WhoIs;
+use crate::services::write_property::WriteProperty;
+use crate::services::write_property_multiple::WritePropertyMultiple;
+use crate::services::write_property_multiple_error::WritePropertyMultipleError;
 
 /// A service: a typed one, or any other, which means its octets.
 #[derive(Debug, Drop)]

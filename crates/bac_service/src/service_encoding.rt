@@ -6,8 +6,8 @@ ghost use Rattle.bac_data.specs.Writing.{Extends};
 ghost use Rattle.bac_service.specs.ServiceValues.{value_of};
 ghost use Rattle.bac_service.specs.Services.{SpellsSaid, SpellsService, IsPlaced};
 
-use crate::productions::Production;
-use crate::records::Record;
+use crate::production::Production;
+use crate::production::record::Record;
 use crate::service::Service;
 use bac_tag::OutOfMemory;
 use std::alloc::Global;

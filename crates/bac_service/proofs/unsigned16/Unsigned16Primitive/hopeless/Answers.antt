@@ -3,7 +3,7 @@ use Rattle.std.proofs.lemmas.Option.{IfSome_then}
 use Rattle.bac_tag.specs.OctetsLaws.{octets_at}
 use Rattle.bac_value.specs.PrimitivesLaws.{IfNone_then}
 use Rattle.bac_value.specs.NumbersLaws.{number_begun, number_hopeless}
-use Rattle.bac_service.specs.Unsigned16Laws.{unsigned16_number, unsigned16_of}
+use Rattle.bac_service.specs.laws.Unsigned16Laws.{unsigned16_number, unsigned16_of}
 use Rattle.bac_service.proofs.unsigned16.Unsigned16Primitive.hopeless.Goals as goal
 
 pub returns-clause-none : goal.returns-clause-none

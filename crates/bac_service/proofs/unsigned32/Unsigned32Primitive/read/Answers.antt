@@ -2,7 +2,7 @@ use Rattle.std.proofs.Common.{arith, refl, ◌^◌, ◌-◌}
 use Rattle.std.proofs.lemmas.Result.{err_from_is_err_and}
 use Rattle.bac_tag.specs.OctetsLaws.{octets_at}
 use Rattle.bac_value.specs.NumbersLaws.{number_hopeless}
-use Rattle.bac_service.specs.Unsigned32Laws.{unsigned32_number, unsigned32_of}
+use Rattle.bac_service.specs.laws.Unsigned32Laws.{unsigned32_number, unsigned32_of}
 use Rattle.bac_service.proofs.unsigned32.Unsigned32Primitive.read.Goals as goal
 
 pub returns-in_err-read_number-clause-content : goal.returns-in_err-read_number-clause-content

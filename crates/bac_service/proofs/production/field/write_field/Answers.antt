@@ -1,0 +1,16 @@
+use Rattle.std.proofs.Common.{◌∙◌, ◌≡◌, ap, subst, length}
+use Rattle.std.proofs.lemmas.Result.{on_ok_weaker}
+use Rattle.bac_tag.specs.declared.heads.TagHead.{TagHead}
+use Rattle.bac_tag.specs.Spelling.{IsLeast}
+use Rattle.bac_tag.specs.Heads.{Heads}
+use Rattle.bac_service.specs.Fields.{heading}
+use Rattle.bac_service.specs.laws.FieldLaws.{appends_field}
+use Rattle.bac_service.proofs.production.field.write_field.Goals as goal
+
+pub returns-clause-ok : goal.returns-clause-ok
+returns-clause-ok g c =
+    let laws = g.met.T.Primitive in
+    let w = g.T.Primitive.written c.args.value.now in
+    let head : c.head_of.result ≡ heading c.args.context g.T.Primitive.APP (length w) = c.head_of.ensures ∙ ap (heading c.args.context g.T.Primitive.APP) c.written_len-len.ensures.len in
+    on_ok_weaker c.write.result (λ e. appends_field g.T.Primitive.contents c.args.context g.T.Primitive.APP c.args.value.now w c.write_head.result.items _ _ _ (laws.written_contents c.args.value.now c.written_len-len.ensures.value) (laws.written_least c.args.value.now)
+    (subst (λ (h : TagHead). IsLeast (Heads h) c.write_head.result.items) head c.write_head.ensures) (rw c.as_slice.ensures.value at c.in_ok-extend_from_slice.ensures.items) e) c.write.ensures.ok

@@ -1,7 +1,0 @@
-use Rattle.std.proofs.lemmas.List.{map-id}
-use Rattle.std.proofs.lemmas.Result.{on_ok_weaker}
-use Rattle.bac_service.specs.LeastLaws.{appends_joined}
-use Rattle.bac_service.proofs.write_access_specification.WriteAccessSpecificationRecord.write_fields.Goals as goal
-
-pub returns-clause-ok : goal.returns-clause-ok
-returns-clause-ok c = on_ok_weaker c.write_group.result (λ last. appends_joined c.in_ok-write.ensures.ok (rw map-id at last)) c.write_group.ensures.ok

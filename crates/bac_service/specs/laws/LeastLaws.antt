@@ -1,0 +1,93 @@
+-- The least spellings of parts joined, and marks against them.
+use Rattle.std.specs.Prelude.{◌≡◌, ◌↔◌, ℕ, ◌+◌, ◌≤◌, List, [], ◌∷◌, ◌++◌, length, take, drop, Option, None, refl}
+use Rattle.std.proofs.Common.{sym, ◌∙◌, ap, subst, append_assoc}
+use Rattle.std.proofs.lemmas.List.{append-nil, length-take-le}
+use Rattle.bac_tag.specs.Octets.{NoGreater, joined_mark}
+use Rattle.bac_tag.specs.OctetsLaws.{NoGreater-append, NoGreater-same, mark-append}
+use Rattle.bac_tag.specs.Spelling.{IsLeast, Joins, HasMark, AppendsLeast}
+use Rattle.bac_data.specs.Writing.{Appends}
+use Rattle.bac_service.specs.Productions.{Items}
+use Rattle.bac_service.specs.laws.LongestLaws.{take_add}
+
+-- ---- the least list
+
+pub least_joined : {P Q : List ℕ → Type 0} {a b : List ℕ} → IsLeast P a → IsLeast Q b → IsLeast (Joins P Q) (a ++ b)
+least_joined {P} {Q} {a} {b} L M = record {
+  member = record { front = a; back = b; first = L.member; second = M.member; octets = refl };
+  least = λ c j. subst (NoGreater (a ++ b)) (sym j.octets) (NoGreater-append a j.front b j.back (L.least j.front j.first) (M.least j.back j.second));
+}
+
+-- sets of the same lists have the same least one
+pub least_alike : {P Q : List ℕ → Type 0} {a : List ℕ} → ((b : List ℕ) → P b ↔ Q b) → IsLeast P a → IsLeast Q a
+least_alike {P} {Q} {a} same L = record { member = (same a).0 L.member; least = λ c q. L.least c ((same c).1 q) }
+
+pub least_nothing : IsLeast (λ (l : List ℕ). l ≡ []) []
+least_nothing = record { member = refl; least = λ c e. NoGreater-same [] c (sym e) }
+
+-- one item more is behind the others
+items_split : {V : Type 0} (S : V → List ℕ → Type 0) (vs : List V) (v : V) (c : List ℕ) → Items S (vs ++ v ∷ []) c → Joins (Items S vs) (S v) c
+items_split S [] v c m = record { front = []; back = c; first = refl; second = subst (S v) (sym (m.octets ∙ ap (λ (l : List ℕ). m.front ++ l) m.second ∙ append-nil m.front)) m.first; octets = refl }
+items_split S (w ∷ vs) v c m =
+    let r = items_split S vs v m.back m.second in
+    record {
+      front = m.front ++ r.front;
+      back = r.back;
+      first = record { front = m.front; back = r.front; first = m.first; second = r.first; octets = refl };
+      second = r.second;
+      octets = m.octets ∙ ap (λ (l : List ℕ). m.front ++ l) r.octets ∙ sym (append_assoc m.front r.front r.back);
+    }
+
+items_more : {V : Type 0} (S : V → List ℕ → Type 0) (vs : List V) (v : V) (c : List ℕ) → Joins (Items S vs) (S v) c → Items S (vs ++ v ∷ []) c
+items_more S [] v c j = record { front = c; back = []; first = subst (S v) (sym (j.octets ∙ ap (λ (l : List ℕ). l ++ j.back) j.first)) j.second; second = refl; octets = sym (append-nil c) }
+items_more S (w ∷ vs) v c j =
+    let i = j.first in
+    record {
+      front = i.front;
+      back = i.back ++ j.back;
+      first = i.first;
+      second = items_more S vs v (i.back ++ j.back) (record { front = i.back; back = j.back; first = i.second; second = j.second; octets = refl });
+      octets = j.octets ∙ ap (λ (l : List ℕ). l ++ j.back) i.octets ∙ append_assoc i.front i.back j.back;
+    }
+
+items_alike : {V : Type 0} (S : V → List ℕ → Type 0) (vs : List V) (v : V) (c : List ℕ) → Joins (Items S vs) (S v) c ↔ Items S (vs ++ v ∷ []) c
+items_alike S vs v c = (items_more S vs v c, items_split S vs v c)
+
+pub least_item : {V : Type 0} (S : V → List ℕ → Type 0) (vs : List V) (v : V) {a b : List ℕ} → IsLeast (Items S vs) a → IsLeast (S v) b → IsLeast (Items S (vs ++ v ∷ [])) (a ++ b)
+least_item S vs v L M = least_alike (items_alike S vs v) (least_joined L M)
+
+-- ---- what is appended
+
+pub appends_joined : {P Q : List ℕ → Type 0} {a b c : List ℕ} → AppendsLeast P a b → AppendsLeast Q b c → AppendsLeast (Joins P Q) a c
+appends_joined {P} {Q} {a} L M = record { more = L.more ++ M.more; is_least = least_joined L.is_least M.is_least; new_is = M.new_is ∙ ap (λ (l : List ℕ). l ++ M.more) L.new_is ∙ append_assoc a L.more M.more }
+
+pub appends_least : {P : List ℕ → Type 0} {a b : List ℕ} → Appends (IsLeast P) a b → AppendsLeast P a b
+appends_least h = record { more = h.0; is_least = h.1; new_is = h.2 }
+
+pub appends_nothing : (a : List ℕ) → AppendsLeast (λ (l : List ℕ). l ≡ []) a a
+appends_nothing a = record { more = []; is_least = least_nothing; new_is = sym (append-nil a) }
+
+pub appends_item : {V : Type 0} (S : V → List ℕ → Type 0) (vs : List V) (v : V) {a b c : List ℕ} → AppendsLeast (Items S vs) a b → AppendsLeast (S v) b c → AppendsLeast (Items S (vs ++ v ∷ [])) a c
+appends_item S vs v {a} L M = record { more = L.more ++ M.more; is_least = least_item S vs v L.is_least M.is_least; new_is = M.new_is ∙ ap (λ (l : List ℕ). l ++ M.more) L.new_is ∙ append_assoc a L.more M.more }
+
+pub appends_alike : {P Q : List ℕ → Type 0} {a b : List ℕ} → ((c : List ℕ) → P c ↔ Q c) → AppendsLeast P a b → AppendsLeast Q a b
+appends_alike same L = record { more = L.more; is_least = least_alike same L.is_least; new_is = L.new_is }
+
+-- ---- marks
+
+pub mark_joined : {P Q : List ℕ → Type 0} {a b : List ℕ} {m o : Option ℕ} → HasMark P a m → HasMark Q b o → HasMark (Joins P Q) (a ++ b) (joined_mark m (length a) o)
+mark_joined {P} {Q} {a} {b} {m} {o} D E = record { least = D.least ++ E.least; is_least = least_joined D.is_least E.is_least; is_mark = mark-append a b D.least E.least m o D.is_mark E.is_mark }
+
+pub mark_nothing : HasMark (λ (l : List ℕ). l ≡ []) [] None
+mark_nothing = record { least = []; is_least = least_nothing; is_mark = refl }
+
+pub mark_item : {V : Type 0} (S : V → List ℕ → Type 0) (vs : List V) (v : V) {a b : List ℕ} {m o : Option ℕ} → HasMark (Items S vs) a m → HasMark (S v) b o → HasMark (Items S (vs ++ v ∷ [])) (a ++ b) (joined_mark m (length a) o)
+mark_item S vs v {a} {b} {m} {o} D E = record { least = D.least ++ E.least; is_least = least_item S vs v D.is_least E.is_least; is_mark = mark-append a b D.least E.least m o D.is_mark E.is_mark }
+
+pub mark_alike : {P Q : List ℕ → Type 0} {a : List ℕ} {m : Option ℕ} → ((b : List ℕ) → P b ↔ Q b) → HasMark P a m → HasMark Q a m
+mark_alike same D = record { least = D.least; is_least = least_alike same D.is_least; is_mark = D.is_mark }
+
+-- the marks of two parts at the front of an input
+pub mark_both : {P Q : List ℕ → Type 0} {m o : Option ℕ} (input : List ℕ) (n k : ℕ) (r : Option ℕ) → n ≤ length input → HasMark P (take n input) m → HasMark Q (take k (drop n input)) o → r ≡ joined_mark m n o → HasMark (Joins P Q) (take (n + k) input) r
+mark_both {P} {Q} {m} {o} input n k r within D E e =
+    let joined = mark_joined D E in
+    rw (e, take_add n k input within) (subst (λ (i : ℕ). HasMark (Joins P Q) (take n input ++ take k (drop n input)) (joined_mark m i o)) (length-take-le n input within) joined)

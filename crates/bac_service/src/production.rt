@@ -1,0 +1,119 @@
+//! The parts of a production (clause 21): what each is spelled by, how it is read and how it is written.
+
+ghost use Rattle.std.specs.Prelude.{◌≡◌, ◌≢◌, ◌↔◌, ℕ, Bool, List, take, length, IsTrue, IfOk, IfErr, OnOk, Err};
+ghost use Rattle.bac_tag.specs.Spelling.{IsRefusal, HasMark, AppendsLeast};
+ghost use Rattle.bac_data.specs.Writing.{Extends};
+ghost use Rattle.bac_service.specs.Leads.{Lead};
+ghost use Rattle.bac_service.specs.Productions.{Lawful, IsInhabited, HasLeast, IsLongest, IsReach};
+ghost use Rattle.bac_service.specs.Reasons.{IsPartReason, IsReachReason};
+ghost use Rattle.bac_service.specs.ReadFaults.{IfRefused, EndsOrGoesOn};
+
+pub(crate) mod choice;
+pub(crate) mod decoding;
+pub(crate) mod field;
+pub(crate) mod group;
+pub(crate) mod list;
+pub(crate) mod open_value;
+pub(crate) mod option;
+pub(crate) mod pair;
+pub(crate) mod record;
+pub(crate) mod tag;
+
+use bac_tag::{OutOfMemory, Refusal, Why};
+use std::alloc::{AllocFailed, Global};
+
+/// Why nothing was read.
+#[derive(Clone, Copy, Debug, PartialEq, Eq)]
+pub(crate) enum ReadFault {
+    /// Memory was refused.
+    OutOfMemory,
+    /// No front of the octets is a spelling.
+    Refused(Refusal),
+}
+
+impl<T: Drop> From<AllocFailed<T>> for ReadFault {
+    ghost use Rattle.bac_service.specs.declared.production.ReadFault.TheVariants.{OutOfMemory};
+
+    ghost from_gives = { λ _ fault. fault ≡ OutOfMemory };
+
+    fn from(_failed: AllocFailed<T>) -> ReadFault {
+        ReadFault::OutOfMemory
+    }
+}
+
+/// What stands at the front of octets.
+#[derive(Drop)]
+pub(crate) struct Front<T> {
+    /// What the octets spell.
+    pub(crate) value: T,
+    /// How many octets it takes.
+    pub(crate) taken: usize,
+    /// The first of them that differs from the canonical ones.
+    pub(crate) mark: Option<usize>,
+    /// The place of the first octet with which no spelling begins, and why.
+    pub(crate) reach: Refusal,
+}
+
+/// How far octets may be spelled of which so many are a whole spelling, and no more can be: the rest trails.
+pub(crate) fn complete_at(octets: &[u8], taken: usize) -> Refusal
+    ensures place { result.place ≡ taken }
+    ensures short { (result.why ≡ Why.Short) ↔ (taken ≡ length octets.now) }
+    ensures reason { IsReachReason result.why }
+{
+    let why = if taken == octets.len() {
+        Why::Short
+    } else {
+        Why::Trailing
+    };
+    Refusal { place: taken, why }
+}
+
+/// A part of a production.
+pub(crate) trait Production: Drop {
+    /// The values that are spelled.
+    ghost Value: { Type 0 };
+
+    /// The value of what the code holds.
+    ghost view: { Self → Value };
+
+    /// The lists that spell a value.
+    ghost spells: { Value → List ℕ → Type 0 };
+
+    /// What a spelling begins with.
+    ghost openers: { List Lead };
+
+    /// With what a spelling goes on where a shorter one ends.
+    ghost continuers: { List Lead };
+
+    /// Some value is spelled by no octets.
+    ghost may_be_empty: { Bool };
+
+    /// The next head tells what stands next.
+    ghost is_sound: { Bool };
+
+    /// Reading may want memory.
+    ghost wants_memory: { Bool };
+
+    /// Reads the longest front of the octets that spells a value.
+    fn read(alloc: Global, octets: &[u8]) -> Result<Front<Self>, ReadFault>
+        requires { IsTrue is_sound }
+        ensures found { IfOk result (λ front. IsLongest spells octets.now (view front.value) front.taken) }
+        ensures mark { IfOk result (λ front. HasMark (spells (view front.value)) (take front.taken octets.now) front.mark) }
+        ensures reach { IfOk result (λ front. IsReach spells octets.now front.reach) }
+        ensures trailing { IfOk result (λ front. EndsOrGoesOn front.taken front.reach) }
+        ensures refused { IfErr result (λ fault. IfRefused fault (IsRefusal spells octets.now)) }
+        ensures reasons { IfErr result (λ fault. IfRefused fault (λ refusal. IsPartReason refusal.why)) }
+        ensures memory { result ≡ Err ReadFault.OutOfMemory → IsTrue wants_memory };
+
+    /// Appends the least spelling. Where memory is refused some octets may be there.
+    fn write(&self, out: &mut Vec<u8>) -> Result<(), OutOfMemory>
+        requires { IsTrue is_sound }
+        ensures ok { OnOk result (AppendsLeast (spells (view self.now)) out.old.items out.new.items) }
+        ensures kept { Extends out.old.items out.new.items };
+
+    ghost lawful: { IsTrue is_sound → Lawful spells openers continuers may_be_empty };
+
+    ghost inhabited: { IsTrue is_sound → IsInhabited spells };
+
+    ghost has_least: { HasLeast spells };
+}

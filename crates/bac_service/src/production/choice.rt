@@ -1,0 +1,77 @@
+//! One part or another.
+
+ghost use Rattle.std.specs.Prelude.{◌&&◌, ◌||◌, ◌++◌, ◌⊎◌, not, false};
+ghost use Rattle.bac_tag.specs.Spelling.{OneOf};
+ghost use Rattle.bac_service.specs.Leads.{disjoint};
+ghost use Rattle.bac_service.specs.laws.LongestLaws.{either_lawful};
+ghost use Rattle.bac_service.specs.laws.ChoiceLaws.{either_of, either_inhabited};
+ghost use Rattle.bac_service.specs.laws.HasLeastLaws.{choice_least};
+
+use crate::production::{Front, Production, ReadFault};
+use bac_tag::OutOfMemory;
+use std::alloc::Global;
+
+/// The one or the other, as the first head says.
+#[derive(Drop)]
+pub(crate) enum Choice<A, B> {
+    /// The part that is tried first.
+    First(A),
+    /// The part that is read where the first is not there.
+    Second(B),
+}
+
+impl<A: Production, B: Production> Production for Choice<A, B> {
+    ghost Value = { A.Value ⊎ B.Value };
+
+    ghost view = { either_of A.view B.view };
+
+    ghost spells = { OneOf A.spells B.spells };
+
+    ghost openers = { A.openers ++ B.openers };
+
+    ghost continuers = { A.continuers ++ B.continuers };
+
+    ghost may_be_empty = { false };
+
+    ghost is_sound = { (A.is_sound && not A.may_be_empty) && ((B.is_sound && not B.may_be_empty) && disjoint A.openers B.openers) };
+
+    ghost wants_memory = { A.wants_memory || B.wants_memory };
+
+    fn read(alloc: Global, octets: &[u8]) -> Result<Front<Choice<A, B>>, ReadFault> {
+        let refused = match A::read(alloc, octets) {
+            Ok(front) => {
+                return Ok(Front {
+                    value: Choice::First(front.value),
+                    taken: front.taken,
+                    mark: front.mark,
+                    reach: front.reach,
+                });
+            }
+            Err(ReadFault::Refused(refusal)) => refusal,
+            Err(ReadFault::OutOfMemory) => return Err(ReadFault::OutOfMemory),
+        };
+        match B::read(alloc, octets) {
+            Ok(front) => Ok(Front {
+                value: Choice::Second(front.value),
+                taken: front.taken,
+                mark: front.mark,
+                reach: front.reach.farther(refused),
+            }),
+            Err(ReadFault::Refused(refusal)) => Err(ReadFault::Refused(refused.farther(refusal))),
+            Err(ReadFault::OutOfMemory) => Err(ReadFault::OutOfMemory),
+        }
+    }
+
+    fn write(&self, out: &mut Vec<u8>) -> Result<(), OutOfMemory> {
+        match self {
+            Choice::First(part) => part.write(out),
+            Choice::Second(part) => part.write(out),
+        }
+    }
+
+    ghost lawful = { λ sound. either_lawful A.is_sound B.is_sound A.lawful B.lawful sound };
+
+    ghost inhabited = { either_inhabited A.is_sound A.may_be_empty ((B.is_sound && not B.may_be_empty) && disjoint A.openers B.openers) A.inhabited };
+
+    ghost has_least = { choice_least A.spells B.spells A.has_least B.has_least };
+}

@@ -1,0 +1,47 @@
+//! Decoding a value that takes all the octets.
+
+ghost use Rattle.std.specs.Prelude.{◌≡◌, ◌≢◌, IsTrue, IfOk, IfErr};
+ghost use Rattle.bac_tag.specs.Spelling.{HasMark, IsWholeRefusal};
+ghost use Rattle.bac_service.specs.Reasons.{IsServiceReason};
+
+use crate::production::{Production, ReadFault};
+use bac_tag::{Refusal, Why};
+use std::alloc::Global;
+
+/// The value that all the octets spell, and the first of them that differs from the canonical ones.
+///
+/// # Errors
+/// At the first octet with which no spelling begins; `Trailing` where those in front of it are one; `Short` where
+/// all of them begin one. `OutOfMemory` at 0 where memory is refused.
+pub(crate) fn decode<P: Production>(
+    alloc: Global,
+    octets: &[u8],
+) -> Result<(P, Option<usize>), Refusal>
+    requires { IsTrue P.is_sound }
+    ensures found { IfOk result (λ found. P.spells (P.view found.0) octets.now) }
+    ensures mark { IfOk result (λ found. HasMark (P.spells (P.view found.0)) octets.now found.1) }
+    ensures refused { IfErr result (λ refusal. refusal.why ≢ Why.OutOfMemory → IsWholeRefusal P.spells octets.now refusal) }
+    ensures memory { IfErr result (λ refusal. refusal.why ≡ Why.OutOfMemory → (refusal.place ≡ 0) × IsTrue P.wants_memory) }
+    ensures reasons { IfErr result (λ refusal. IsServiceReason refusal.why) }
+{
+    let front = match P::read(alloc, octets) {
+        Ok(front) => front,
+        Err(ReadFault::Refused(refusal)) => return Err(refusal),
+        Err(ReadFault::OutOfMemory) => {
+            return Err(Refusal {
+                place: 0,
+                why: Why::OutOfMemory,
+            });
+        }
+    };
+    if front.taken == octets.len() {
+        return Ok((front.value, front.mark));
+    }
+    if front.reach.place == front.taken {
+        return Err(Refusal {
+            place: front.taken,
+            why: Why::Trailing,
+        });
+    }
+    Err(front.reach)
+}

@@ -1,0 +1,309 @@
+//! Fields of a production: contents under a head (clause 21).
+
+ghost use Rattle.std.specs.Prelude.{◌≡◌, ◌≢◌, ◌↔◌, ◌≤◌, ◌&&◌, ◌∷◌, ◌++◌, ◌^◌, [], false, not, nat_le, nat_eq, Some, None, Err, IsTrue, IfSome, IfOk, IfErr, OnOk, length, take};
+ghost use Rattle.bac_tag.specs.Heads.{Heads};
+ghost use Rattle.bac_tag.specs.Short.{BeginsShort};
+ghost use Rattle.bac_tag.specs.Spelling.{IsRefusal, Takes, HasMark, AppendsLeast};
+ghost use Rattle.bac_value.specs.Primitives.{OfSize};
+ghost use Rattle.bac_data.specs.Writing.{Extends};
+ghost use Rattle.bac_service.specs.Leads.{context, application};
+ghost use Rattle.bac_service.specs.Fields.{heading, expected_heading, IsHeading, IsField};
+ghost use Rattle.bac_service.specs.laws.FieldLaws.{field_lawful, field_inhabited, application_heading};
+ghost use Rattle.bac_service.specs.laws.TagLaws.{number_within};
+ghost use Rattle.bac_service.specs.Reasons.{IsPartReason};
+ghost use Rattle.bac_service.specs.ReadFaults.{IfRefused, EndsOrGoesOn};
+ghost use Rattle.bac_service.specs.laws.HasLeastLaws.{field_least};
+
+use crate::production::{Front, Production, ReadFault, complete_at};
+use bac_tag::{
+    Expected, OutOfMemory, Refusal, TagHead, Why, joined_marks, mark_read_head, read_expected,
+    short_len, write_head,
+};
+use bac_value::Primitive;
+use std::alloc::Global;
+
+/// Reads contents of so many octets at the front of the octets.
+#[inline(always)]
+fn read_contents<T: Primitive>(alloc: Global, octets: &[u8], size: usize) -> Result<T, ReadFault>
+    requires size { (T.SHORTEST ≤ size) × (size ≤ T.LONGEST) }
+    ensures found { IfOk result (λ value. Takes (OfSize T.contents size) octets.now (value, size)) }
+    ensures refused { IfErr result (λ fault. IfRefused fault (IsRefusal (OfSize T.contents size) octets.now)) }
+    ensures reasons { IfErr result (λ fault. IfRefused fault (λ refusal. IsPartReason refusal.why)) }
+    ensures memory { result ≡ Err ReadFault.OutOfMemory → IsTrue T.wants_memory }
+{
+    if octets.len() < size {
+        let refusal = match T::hopeless(octets, size) {
+            Some(place) => Refusal {
+                place,
+                why: Why::Content,
+            },
+            None => Refusal {
+                place: octets.len(),
+                why: Why::Short,
+            },
+        };
+        return Err(ReadFault::Refused(refusal));
+    }
+    match T::read(alloc, &octets[..size]) {
+        Ok(value) => Ok(value),
+        Err(refusal) => {
+            if refusal.why == Why::OutOfMemory {
+                Err(ReadFault::OutOfMemory)
+            } else {
+                Err(ReadFault::Refused(refusal))
+            }
+        }
+    }
+}
+
+/// The head of a field: of context class with this number, or of application class with that of its type.
+#[inline(always)]
+fn head_of<T: Primitive>(context: Option<u8>, len: u32) -> TagHead
+    ensures { result ≡ heading context T.APP len }
+{
+    match context {
+        Some(number) => TagHead::Ctx { number, len },
+        None => TagHead::App {
+            number: T::APP,
+            len,
+        },
+    }
+}
+
+/// Such heads, with the lengths that contents of the type have.
+#[inline(always)]
+fn expected_head<T: Primitive>(context: Option<u8>) -> Expected
+    ensures { result ≡ expected_heading context T.APP T.SHORTEST T.LONGEST }
+{
+    let (least, most) = (T::SHORTEST as u32, T::LONGEST as u32);
+    match context {
+        Some(number) => Expected::Ctx {
+            number: Some(number),
+            least,
+            most,
+        },
+        None => Expected::App {
+            number: T::APP,
+            least,
+            most,
+        },
+    }
+}
+
+/// The mark of a field, of which the head has these octets and the contents those.
+#[inline(always)]
+fn mark_of<T: Primitive>(
+    head: &[u8],
+    value: &T,
+    context: Option<u8>,
+    contents: &[u8],
+) -> Option<usize>
+    requires heading { IsHeading context T.APP }
+    requires spelled { T.contents value.now contents.now }
+    requires headed { Heads (heading context T.APP (length contents.now)) head.now }
+    ensures { HasMark (IsField (heading context T.APP) T.contents value.now) (head.now ++ contents.now) result }
+{
+    let read = head_of::<T>(context, contents.len() as u32);
+    let written = head_of::<T>(context, value.written_len() as u32);
+    let mark = mark_read_head(head, read, written);
+    joined_marks(mark, head.len(), value.mark(contents))
+}
+
+/// The length of the head of a field at the front of the octets, where that is the least one and has one octet.
+#[inline(always)]
+fn short_size<T: Primitive>(octets: &[u8], context: Option<u8>) -> Option<usize>
+    requires { IsHeading context T.APP }
+    ensures { IfSome result (λ size. BeginsShort (heading context T.APP size) octets.now) }
+{
+    match context {
+        Some(number) => short_len(octets, true, number),
+        None => short_len(octets, false, T::APP),
+    }
+}
+
+/// Reads the field of which the head at the front is the least one and has one octet, where the contents say nothing
+/// against it.
+#[inline(always)]
+fn read_short_field<T: Primitive>(
+    alloc: Global,
+    octets: &[u8],
+    context: Option<u8>,
+    size: usize,
+) -> Option<Front<T>>
+    requires heading { IsHeading context T.APP }
+    requires head { BeginsShort (heading context T.APP size) octets.now }
+    ensures found { IfSome result (λ front. Takes (IsField (heading context T.APP) T.contents) octets.now (front.value, front.taken)) }
+    ensures mark { IfSome result (λ front. HasMark (IsField (heading context T.APP) T.contents front.value) (take front.taken octets.now) front.mark) }
+    ensures place { IfSome result (λ front. front.reach.place ≡ front.taken) }
+    ensures short { IfSome result (λ front. (front.reach.why ≡ Why.Short) ↔ (front.taken ≡ length octets.now)) }
+    ensures trailing { IfSome result (λ front. EndsOrGoesOn front.taken front.reach) }
+{
+    let rest = &octets[1..];
+    if size > rest.len() {
+        return None;
+    }
+    let contents = &rest[..size];
+    let Ok(value) = T::read(alloc, contents) else {
+        return None;
+    };
+    let mark = match value.mark(contents) {
+        None => None,
+        Some(_) => mark_of(&octets[..1], &value, context, contents),
+    };
+    Some(Front {
+        value,
+        taken: 1 + size,
+        mark,
+        reach: complete_at(octets, 1 + size),
+    })
+}
+
+/// Reads the field with such a head at the front of the octets.
+#[inline(always)]
+fn read_field<T: Primitive>(
+    alloc: Global,
+    octets: &[u8],
+    context: Option<u8>,
+) -> Result<Front<T>, ReadFault>
+    requires { IsHeading context T.APP }
+    ensures found { IfOk result (λ front. Takes (IsField (heading context T.APP) T.contents) octets.now (front.value, front.taken)) }
+    ensures mark { IfOk result (λ front. HasMark (IsField (heading context T.APP) T.contents front.value) (take front.taken octets.now) front.mark) }
+    ensures place { IfOk result (λ front. front.reach.place ≡ front.taken) }
+    ensures short { IfOk result (λ front. (front.reach.why ≡ Why.Short) ↔ (front.taken ≡ length octets.now)) }
+    ensures trailing { IfOk result (λ front. EndsOrGoesOn front.taken front.reach) }
+    ensures refused { IfErr result (λ fault. IfRefused fault (IsRefusal (IsField (heading context T.APP) T.contents) octets.now)) }
+    ensures reasons { IfErr result (λ fault. IfRefused fault (λ refusal. IsPartReason refusal.why)) }
+    ensures memory { result ≡ Err ReadFault.OutOfMemory → IsTrue T.wants_memory }
+{
+    if let Some(size) = short_size::<T>(octets, context) {
+        if let Some(front) = read_short_field(alloc, octets, context, size) {
+            return Ok(front);
+        }
+    }
+    let (head, start) = match read_expected(octets, expected_head::<T>(context)) {
+        Ok(found) => found,
+        Err(refusal) => return Err(ReadFault::Refused(refusal)),
+    };
+    let (TagHead::Ctx { len, .. } | TagHead::App { len, .. }) = head else {
+        unreachable!()
+    };
+    let size = len as usize;
+    let rest = &octets[start..];
+    match read_contents::<T>(alloc, rest, size) {
+        Ok(value) => {
+            let mark = mark_of(&octets[..start], &value, context, &rest[..size]);
+            Ok(Front {
+                value,
+                taken: start + size,
+                mark,
+                reach: complete_at(octets, start + size),
+            })
+        }
+        Err(ReadFault::Refused(refusal)) => Err(ReadFault::Refused(refusal.behind(start))),
+        Err(ReadFault::OutOfMemory) => Err(ReadFault::OutOfMemory),
+    }
+}
+
+/// Appends the least octets of a field. Where memory is refused some octets may be there.
+#[inline(always)]
+fn write_field<T: Primitive>(
+    value: &T,
+    context: Option<u8>,
+    out: &mut Vec<u8>,
+) -> Result<(), OutOfMemory>
+    requires { IsHeading context T.APP }
+    ensures ok { OnOk result (AppendsLeast (IsField (heading context T.APP) T.contents value.now) out.old.items out.new.items) }
+    ensures kept { Extends out.old.items out.new.items }
+{
+    let len = value.written_len() as u32;
+    out.extend_from_slice(write_head(head_of::<T>(context, len)).as_slice())?;
+    value.write(out)
+}
+
+/// Contents under a context head with this number.
+#[derive(Drop)]
+pub(crate) struct Field<T, const N: u8>(pub(crate) T);
+
+/// Contents under the application head of their type.
+#[derive(Drop)]
+pub(crate) struct ApplicationField<T>(pub(crate) T);
+
+impl<T: Primitive, const N: u8> Production for Field<T, N> {
+    ghost Value = { T };
+
+    ghost view = { λ field. field.0 };
+
+    ghost spells = { IsField (heading (Some N) T.APP) T.contents };
+
+    ghost openers = { context N ∷ [] };
+
+    ghost continuers = { [] };
+
+    ghost may_be_empty = { false };
+
+    ghost is_sound = { nat_le N 254 };
+
+    ghost wants_memory = { T.wants_memory };
+
+    #[inline(always)]
+    fn read(alloc: Global, octets: &[u8]) -> Result<Front<Field<T, N>>, ReadFault> {
+        let front = read_field::<T>(alloc, octets, Some(N))?;
+        Ok(Front {
+            value: Field(front.value),
+            taken: front.taken,
+            mark: front.mark,
+            reach: front.reach,
+        })
+    }
+
+    #[inline(always)]
+    fn write(&self, out: &mut Vec<u8>) -> Result<(), OutOfMemory> {
+        write_field(&self.0, Some(N), out)
+    }
+
+    ghost lawful = { λ sound. field_lawful T.contents (Some N) T.APP T.one_value };
+
+    ghost inhabited = { λ sound. field_inhabited T.contents (Some N) T.APP T.SHORTEST T.LONGEST (record { lengths = T.lengths; each_length = T.each_length }) T.within_limit (number_within N sound) };
+
+    ghost has_least = { field_least T.contents T.is_value T.written (Some N) T.APP T.SHORTEST T.LONGEST T.only_values T.written_contents T.written_least T.lengths T.within_limit.1 };
+}
+
+impl<T: Primitive> Production for ApplicationField<T> {
+    ghost Value = { T };
+
+    ghost view = { λ field. field.0 };
+
+    ghost spells = { IsField (heading None T.APP) T.contents };
+
+    ghost openers = { application T.APP ∷ [] };
+
+    ghost continuers = { [] };
+
+    ghost may_be_empty = { false };
+
+    ghost is_sound = { nat_le T.APP 12 && not (nat_eq T.APP 1) };
+
+    ghost wants_memory = { T.wants_memory };
+
+    #[inline(always)]
+    fn read(alloc: Global, octets: &[u8]) -> Result<Front<ApplicationField<T>>, ReadFault> {
+        let front = read_field::<T>(alloc, octets, None)?;
+        Ok(Front {
+            value: ApplicationField(front.value),
+            taken: front.taken,
+            mark: front.mark,
+            reach: front.reach,
+        })
+    }
+
+    #[inline(always)]
+    fn write(&self, out: &mut Vec<u8>) -> Result<(), OutOfMemory> {
+        write_field(&self.0, None, out)
+    }
+
+    ghost lawful = { λ sound. field_lawful T.contents None T.APP T.one_value };
+
+    ghost inhabited = { λ sound. field_inhabited T.contents None T.APP T.SHORTEST T.LONGEST (record { lengths = T.lengths; each_length = T.each_length }) T.within_limit (application_heading T.APP sound) };
+
+    ghost has_least = { field_least T.contents T.is_value T.written None T.APP T.SHORTEST T.LONGEST T.only_values T.written_contents T.written_least T.lengths T.within_limit.1 };
+}

@@ -1,0 +1,76 @@
+//! A group (clause 20.2.1.3.2).
+
+ghost use Rattle.std.specs.Prelude.{◌&&◌, ◌∷◌, [], false, nat_le, IsTrue, OnOk};
+ghost use Rattle.bac_tag.specs.Spelling.{AppendsLeast};
+ghost use Rattle.bac_data.specs.Writing.{Extends};
+ghost use Rattle.bac_service.specs.Leads.{opening, closing, disjoint};
+ghost use Rattle.bac_service.specs.Productions.{Grouped};
+ghost use Rattle.bac_service.specs.laws.ProductionLaws.{group_lawful_sound};
+ghost use Rattle.bac_service.specs.laws.GroupLaws.{group_inhabited};
+ghost use Rattle.bac_service.specs.laws.HasLeastLaws.{group_least};
+
+use crate::production::tag::{Closing, Opening};
+use crate::production::{Front, Production, ReadFault};
+use bac_tag::{OutOfMemory, TagHead, write_head};
+use std::alloc::Global;
+
+/// A part between an opening and a closing tag of one number.
+#[derive(Drop)]
+pub(crate) struct Group<P, const N: u8>(pub(crate) P);
+
+/// Appends the least octets of a part and the tags of this number around it. Where memory is refused some octets
+/// may be there.
+#[inline(always)]
+pub(crate) fn write_group<P: Production, const N: u8>(
+    part: &P,
+    out: &mut Vec<u8>,
+) -> Result<(), OutOfMemory>
+    requires { IsTrue (nat_le N 254 && P.is_sound) }
+    ensures ok { OnOk result (AppendsLeast (Grouped N P.spells (P.view part.now)) out.old.items out.new.items) }
+    ensures kept { Extends out.old.items out.new.items }
+{
+    Opening::<N>.write(out)?;
+    part.write(out)?;
+    Closing::<N>.write(out)
+}
+
+impl<P: Production, const N: u8> Production for Group<P, N> {
+    ghost Value = { P.Value };
+
+    ghost view = { λ group. P.view group.0 };
+
+    ghost spells = { Grouped N P.spells };
+
+    ghost openers = { opening N ∷ [] };
+
+    ghost continuers = { [] };
+
+    ghost may_be_empty = { false };
+
+    ghost is_sound = { nat_le N 254 && (P.is_sound && disjoint (closing N ∷ []) P.continuers) };
+
+    ghost wants_memory = { P.wants_memory };
+
+    #[inline(always)]
+    fn read(alloc: Global, octets: &[u8]) -> Result<Front<Group<P, N>>, ReadFault> {
+        let front = <(Opening<N>, (P, Closing<N>))>::read(alloc, octets)?;
+        let (_, (part, _)) = front.value;
+        Ok(Front {
+            value: Group(part),
+            taken: front.taken,
+            mark: front.mark,
+            reach: front.reach,
+        })
+    }
+
+    #[inline(always)]
+    fn write(&self, out: &mut Vec<u8>) -> Result<(), OutOfMemory> {
+        write_group::<P, N>(&self.0, out)
+    }
+
+    ghost lawful = { group_lawful_sound N P.is_sound P.lawful };
+
+    ghost inhabited = { group_inhabited P.continuers N P.is_sound P.inhabited };
+
+    ghost has_least = { group_least N P.spells P.has_least };
+}

@@ -1,0 +1,71 @@
+//! A list.
+
+ghost use Rattle.std.specs.Prelude.{◌&&◌, ◌++◌, not, true, List, map};
+ghost use Rattle.bac_service.specs.Leads.{disjoint};
+ghost use Rattle.bac_service.specs.Productions.{Items};
+ghost use Rattle.bac_service.specs.laws.ProductionLaws.{list_lawful, record_lawful};
+ghost use Rattle.bac_service.specs.laws.ListLaws.{items_inhabited};
+ghost use Rattle.bac_service.specs.laws.HasLeastLaws.{items_least, record_least};
+
+use crate::production::record::{Fields, Record};
+use crate::production::{Front, Production, ReadFault, complete_at};
+use bac_tag::{OutOfMemory, joined_marks};
+use std::alloc::Global;
+
+/// Records one behind the other; the list ends where no further one can be read.
+impl<R: Record> Production for Vec<R> {
+    ghost Value = { List R.Value };
+
+    ghost view = { λ items. map R.view items.items };
+
+    ghost spells = { Items R.spells };
+
+    ghost openers = { R.Parts.openers };
+
+    ghost continuers = { R.Parts.openers ++ R.Parts.continuers };
+
+    ghost may_be_empty = { true };
+
+    ghost is_sound = { R.Parts.is_sound && (not R.Parts.may_be_empty && disjoint R.Parts.openers R.Parts.continuers) };
+
+    ghost wants_memory = { true };
+
+    fn read(alloc: Global, octets: &[u8]) -> Result<Front<Vec<R>>, ReadFault> {
+        let mut items = Vec::new(alloc);
+        let mut taken = 0;
+        let mut mark = None;
+        let mut reach = complete_at(octets, 0);
+        loop {
+            match Fields::<R>::read(alloc, &octets[taken..]) {
+                Ok(item) => {
+                    mark = joined_marks(mark, taken, item.mark);
+                    reach = item.reach.behind(taken).farther(reach);
+                    taken += item.taken;
+                    items.push(item.value.0)?;
+                }
+                Err(ReadFault::Refused(refusal)) => {
+                    return Ok(Front {
+                        value: items,
+                        taken,
+                        mark,
+                        reach: refusal.behind(taken).farther(reach),
+                    });
+                }
+                Err(ReadFault::OutOfMemory) => return Err(ReadFault::OutOfMemory),
+            }
+        }
+    }
+
+    fn write(&self, out: &mut Vec<u8>) -> Result<(), OutOfMemory> {
+        for item in self {
+            item.write_fields(out)?;
+        }
+        Ok(())
+    }
+
+    ghost lawful = { list_lawful R.Parts.is_sound (λ sound. record_lawful R.of_parts (R.Parts.lawful sound)) };
+
+    ghost inhabited = { λ sound. items_inhabited R.spells };
+
+    ghost has_least = { items_least R.spells (record_least R.of_parts R.Parts.has_least) };
+}

@@ -1,0 +1,98 @@
+//! An optional part.
+
+ghost use Rattle.std.specs.Prelude.{◌≡◌, ◌&&◌, ◌++◌, not, true, Option};
+ghost use Rattle.std.specs.Option.{option_map};
+ghost use Rattle.bac_service.specs.Productions.{Optional};
+ghost use Rattle.bac_service.specs.laws.ProductionLaws.{option_lawful};
+ghost use Rattle.bac_service.specs.laws.ReachLaws.{option_inhabited};
+ghost use Rattle.bac_service.specs.laws.HasLeastLaws.{option_least};
+
+use crate::production::field::Field;
+use crate::production::{Front, Production, ReadFault};
+use bac_tag::OutOfMemory;
+use bac_value::{Boolean, Primitive};
+use std::alloc::Global;
+
+/// Where no front is a spelling, the part is absent.
+impl<P: Production> Production for Option<P> {
+    ghost Value = { Option P.Value };
+
+    ghost view = { option_map P.view };
+
+    ghost spells = { Optional P.spells };
+
+    ghost openers = { P.openers };
+
+    ghost continuers = { P.openers ++ P.continuers };
+
+    ghost may_be_empty = { true };
+
+    ghost is_sound = { P.is_sound && not P.may_be_empty };
+
+    ghost wants_memory = { P.wants_memory };
+
+    #[inline(always)]
+    fn read(alloc: Global, octets: &[u8]) -> Result<Front<Option<P>>, ReadFault> {
+        match P::read(alloc, octets) {
+            Ok(front) => Ok(Front {
+                value: Some(front.value),
+                taken: front.taken,
+                mark: front.mark,
+                reach: front.reach,
+            }),
+            Err(ReadFault::Refused(reach)) => Ok(Front {
+                value: None,
+                taken: 0,
+                mark: None,
+                reach,
+            }),
+            Err(ReadFault::OutOfMemory) => Err(ReadFault::OutOfMemory),
+        }
+    }
+
+    #[inline(always)]
+    fn write(&self, out: &mut Vec<u8>) -> Result<(), OutOfMemory> {
+        match self {
+            Some(part) => part.write(out),
+            None => Ok(()),
+        }
+    }
+
+    ghost lawful = { option_lawful P.is_sound P.lawful };
+
+    ghost inhabited = { λ sound. option_inhabited P.spells };
+
+    ghost has_least = { option_least P.spells P.has_least };
+}
+
+/// What a field holds that may be absent.
+#[inline(always)]
+pub(crate) fn bare<T: Primitive, const N: u8>(field: Option<Field<T, N>>) -> Option<T>
+    ensures { result ≡ option_map (λ field. field.0) field }
+{
+    Some(field?.0)
+}
+
+/// The field of a value that may be absent.
+#[inline(always)]
+pub(crate) fn under<T: Primitive, const N: u8>(value: Option<T>) -> Option<Field<T, N>>
+    ensures { option_map (λ field. field.0) result ≡ value }
+{
+    Some(Field(value?))
+}
+
+/// The bit of a Boolean that may be absent.
+#[inline(always)]
+pub(crate) fn bit_of(value: Option<Boolean>) -> Option<bool>
+    ensures { result ≡ option_map (λ value. value.0) value }
+{
+    value.map(|value| value.0)
+}
+
+/// The Boolean of a bit that may be absent.
+#[inline(always)]
+pub(crate) fn boolean_of(bit: Option<bool>) -> Option<Boolean>
+    ensures { option_map (λ value. value.0) result ≡ bit }
+{
+    bit.map(Boolean)
+}

@@ -1,0 +1,60 @@
+//! One part behind the other.
+
+ghost use Rattle.std.specs.Prelude.{◌&&◌, ◌||◌};
+ghost use Rattle.bac_tag.specs.Spelling.{Joined};
+ghost use Rattle.bac_service.specs.Leads.{and_where, disjoint};
+ghost use Rattle.bac_service.specs.laws.ProductionLaws.{pair_lawful};
+ghost use Rattle.bac_service.specs.laws.RefusalLaws.{sound_inhabited};
+ghost use Rattle.bac_service.specs.laws.HasLeastLaws.{pair_least};
+
+use crate::production::{Front, Production, ReadFault};
+use bac_tag::{OutOfMemory, joined_marks};
+use std::alloc::Global;
+
+impl<A: Production, B: Production> Production for (A, B) {
+    ghost Value = { A.Value × B.Value };
+
+    ghost view = { λ pair. (A.view pair.0, B.view pair.1) };
+
+    ghost spells = { Joined A.spells B.spells };
+
+    ghost openers = { and_where A.may_be_empty A.openers B.openers };
+
+    ghost continuers = { and_where B.may_be_empty B.continuers A.continuers };
+
+    ghost may_be_empty = { A.may_be_empty && B.may_be_empty };
+
+    ghost is_sound = { A.is_sound && (B.is_sound && disjoint B.openers A.continuers) };
+
+    ghost wants_memory = { A.wants_memory || B.wants_memory };
+
+    #[inline(always)]
+    fn read(alloc: Global, octets: &[u8]) -> Result<Front<(A, B)>, ReadFault> {
+        let first = A::read(alloc, octets)?;
+        let taken = first.taken;
+        match B::read(alloc, &octets[taken..]) {
+            Ok(second) => Ok(Front {
+                value: (first.value, second.value),
+                taken: taken + second.taken,
+                mark: joined_marks(first.mark, taken, second.mark),
+                reach: second.reach.behind(taken).farther(first.reach),
+            }),
+            Err(ReadFault::Refused(refusal)) => Err(ReadFault::Refused(
+                refusal.behind(taken).farther(first.reach),
+            )),
+            Err(ReadFault::OutOfMemory) => Err(ReadFault::OutOfMemory),
+        }
+    }
+
+    #[inline(always)]
+    fn write(&self, out: &mut Vec<u8>) -> Result<(), OutOfMemory> {
+        self.0.write(out)?;
+        self.1.write(out)
+    }
+
+    ghost lawful = { pair_lawful A.is_sound B.is_sound A.lawful B.lawful };
+
+    ghost inhabited = { sound_inhabited A.is_sound B.is_sound (disjoint B.openers A.continuers) A.inhabited B.inhabited };
+
+    ghost has_least = { pair_least A.spells B.spells A.has_least B.has_least };
+}

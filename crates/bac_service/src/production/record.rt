@@ -1,0 +1,82 @@
+//! A struct whose fields stand one behind the other.
+
+ghost use Rattle.std.specs.Prelude.{◌↔◌, ℕ, List, IsTrue, OnOk};
+ghost use Rattle.bac_tag.specs.Spelling.{AppendsLeast};
+ghost use Rattle.bac_data.specs.Writing.{Extends};
+ghost use Rattle.bac_service.specs.Productions.{IsRecordOf};
+ghost use Rattle.bac_service.specs.laws.ProductionLaws.{record_lawful};
+ghost use Rattle.bac_service.specs.laws.RecordLaws.{record_inhabited};
+ghost use Rattle.bac_service.specs.laws.HasLeastLaws.{record_least};
+
+use crate::production::{Front, Production, ReadFault};
+use bac_tag::OutOfMemory;
+use std::alloc::Global;
+
+/// A struct that is spelled as its fields are.
+pub(crate) trait Record: Drop {
+    /// Its fields, one behind the other.
+    type Parts: Production;
+
+    /// The values that are spelled.
+    ghost Value: { Type 0 };
+
+    /// The value of what the code holds.
+    ghost view: { Self → Value };
+
+    /// The lists that spell a value.
+    ghost spells: { Value → List ℕ → Type 0 };
+
+    /// Puts the fields together.
+    fn from_parts(parts: Self::Parts) -> Self
+        ensures { (b : List ℕ) → Self.Parts.spells (Self.Parts.view parts) b ↔ spells (view result) b };
+
+    /// Appends the least spelling of the fields. Where memory is refused some octets may be there.
+    fn write_fields(&self, out: &mut Vec<u8>) -> Result<(), OutOfMemory>
+        requires { IsTrue Self.Parts.is_sound }
+        ensures ok { OnOk result (AppendsLeast (spells (view self.now)) out.old.items out.new.items) }
+        ensures kept { Extends out.old.items out.new.items };
+
+    ghost of_parts: { IsRecordOf Self.Parts.spells spells };
+}
+
+/// A record as a part of a production.
+#[derive(Drop)]
+pub(crate) struct Fields<R>(pub(crate) R);
+
+impl<R: Record> Production for Fields<R> {
+    ghost Value = { R.Value };
+
+    ghost view = { λ fields. R.view fields.0 };
+
+    ghost spells = { R.spells };
+
+    ghost openers = { R.Parts.openers };
+
+    ghost continuers = { R.Parts.continuers };
+
+    ghost may_be_empty = { R.Parts.may_be_empty };
+
+    ghost is_sound = { R.Parts.is_sound };
+
+    ghost wants_memory = { R.Parts.wants_memory };
+
+    fn read(alloc: Global, octets: &[u8]) -> Result<Front<Fields<R>>, ReadFault> {
+        let front = R::Parts::read(alloc, octets)?;
+        Ok(Front {
+            value: Fields(R::from_parts(front.value)),
+            taken: front.taken,
+            mark: front.mark,
+            reach: front.reach,
+        })
+    }
+
+    fn write(&self, out: &mut Vec<u8>) -> Result<(), OutOfMemory> {
+        self.0.write_fields(out)
+    }
+
+    ghost lawful = { λ sound. record_lawful R.of_parts (R.Parts.lawful sound) };
+
+    ghost inhabited = { λ sound. record_inhabited R.of_parts (R.Parts.inhabited sound) };
+
+    ghost has_least = { record_least R.of_parts R.Parts.has_least };
+}

@@ -1,0 +1,125 @@
+//! Opening and closing tags (clause 20.2.1.3.2).
+
+ghost use Rattle.std.specs.Prelude.{◌∷◌, [], false, nat_le};
+ghost use Rattle.bac_tag.specs.declared.heads.TagHead.TheVariants.{Open, Close};
+ghost use Rattle.bac_service.specs.Leads.{opening, closing};
+ghost use Rattle.bac_service.specs.laws.ProductionLaws.{Head, head_lawful};
+ghost use Rattle.bac_service.specs.laws.TagLaws.{opening_inhabited, closing_inhabited};
+ghost use Rattle.bac_service.specs.laws.HasLeastLaws.{tag_least};
+
+use crate::production::{Front, Production, ReadFault, complete_at};
+use bac_tag::{
+    Expected, OutOfMemory, TagHead, is_short_closing, is_short_opening, mark_read_head,
+    read_expected, write_head,
+};
+use std::alloc::Global;
+
+/// An opening tag.
+#[derive(Drop)]
+pub(crate) struct Opening<const N: u8>;
+
+/// A closing tag.
+#[derive(Drop)]
+pub(crate) struct Closing<const N: u8>;
+
+impl<const N: u8> Production for Opening<N> {
+    ghost Value = { Unit {0} };
+
+    ghost view = { λ tag. tt };
+
+    ghost spells = { Head (Open N) };
+
+    ghost openers = { opening N ∷ [] };
+
+    ghost continuers = { [] };
+
+    ghost may_be_empty = { false };
+
+    ghost is_sound = { nat_le N 254 };
+
+    ghost wants_memory = { false };
+
+    #[inline(always)]
+    fn read(_alloc: Global, octets: &[u8]) -> Result<Front<Opening<N>>, ReadFault> {
+        if is_short_opening(octets, N) {
+            return Ok(Front {
+                value: Opening,
+                taken: 1,
+                mark: None,
+                reach: complete_at(octets, 1),
+            });
+        }
+        match read_expected(octets, Expected::Open(Some(N))) {
+            Ok((tag, taken)) => Ok(Front {
+                value: Opening,
+                taken,
+                mark: mark_read_head(&octets[..taken], tag, TagHead::Open(N)),
+                reach: complete_at(octets, taken),
+            }),
+            Err(refusal) => Err(ReadFault::Refused(refusal)),
+        }
+    }
+
+    #[inline(always)]
+    fn write(&self, out: &mut Vec<u8>) -> Result<(), OutOfMemory> {
+        out.extend_from_slice(write_head(TagHead::Open(N)).as_slice())?;
+        Ok(())
+    }
+
+    ghost lawful = { λ sound. head_lawful (Open N) };
+
+    ghost inhabited = { opening_inhabited N };
+
+    ghost has_least = { tag_least (Open N) tt };
+}
+
+impl<const N: u8> Production for Closing<N> {
+    ghost Value = { Unit {0} };
+
+    ghost view = { λ tag. tt };
+
+    ghost spells = { Head (Close N) };
+
+    ghost openers = { closing N ∷ [] };
+
+    ghost continuers = { [] };
+
+    ghost may_be_empty = { false };
+
+    ghost is_sound = { nat_le N 254 };
+
+    ghost wants_memory = { false };
+
+    #[inline(always)]
+    fn read(_alloc: Global, octets: &[u8]) -> Result<Front<Closing<N>>, ReadFault> {
+        if is_short_closing(octets, N) {
+            return Ok(Front {
+                value: Closing,
+                taken: 1,
+                mark: None,
+                reach: complete_at(octets, 1),
+            });
+        }
+        match read_expected(octets, Expected::Close(Some(N))) {
+            Ok((tag, taken)) => Ok(Front {
+                value: Closing,
+                taken,
+                mark: mark_read_head(&octets[..taken], tag, TagHead::Close(N)),
+                reach: complete_at(octets, taken),
+            }),
+            Err(refusal) => Err(ReadFault::Refused(refusal)),
+        }
+    }
+
+    #[inline(always)]
+    fn write(&self, out: &mut Vec<u8>) -> Result<(), OutOfMemory> {
+        out.extend_from_slice(write_head(TagHead::Close(N)).as_slice())?;
+        Ok(())
+    }
+
+    ghost lawful = { λ sound. head_lawful (Close N) };
+
+    ghost inhabited = { closing_inhabited N };
+
+    ghost has_least = { tag_least (Close N) tt };
+}

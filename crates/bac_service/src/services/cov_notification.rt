@@ -1,0 +1,79 @@
+//! ConfirmedCOVNotification and UnconfirmedCOVNotification (clauses 13.6, 13.7 and 21).
+
+ghost use Rattle.bac_service.specs.CovNotification.{SpellsNotification, notification_parts};
+
+use crate::production::Production;
+use crate::production::field::Field;
+use crate::production::group::{Group, write_group};
+use crate::production::record::Record;
+use crate::services::property_value::PropertyValue;
+use crate::unsigned32::Unsigned32;
+use bac_tag::OutOfMemory;
+use bac_value::ObjectId;
+
+/// The values of an object that changed.
+///
+/// Octets (clause 21): `[0]` subscriber process identifier, `[1]` initiating device identifier, `[2]` monitored
+/// object identifier, `[3]` time remaining, `[4] {` list of values `}`. They are the same for both services.
+#[derive(Debug, Drop)]
+pub struct CovNotification {
+    /// Whether the notification wants an answer.
+    pub confirmed: bool,
+    /// The process of the subscriber for which the notification is.
+    pub process_identifier: Unsigned32,
+    /// The device that notifies.
+    pub device: ObjectId,
+    /// The object that is watched.
+    pub object: ObjectId,
+    /// For how many seconds the subscription goes on; 0 where it has no end.
+    pub time_remaining: Unsigned32,
+    /// The values of the object, in their order. There may be none.
+    pub values: Vec<PropertyValue>,
+}
+
+/// Its fields.
+type Parts = (
+    Field<Unsigned32, 0>,
+    (
+        Field<ObjectId, 1>,
+        (
+            Field<ObjectId, 2>,
+            (Field<Unsigned32, 3>, Group<Vec<PropertyValue>, 4>),
+        ),
+    ),
+);
+
+impl Record for CovNotification {
+    ghost use Rattle.bac_service.specs.CovNotification.{Notification, notification_of};
+
+    type Parts = Parts;
+
+    ghost Value = { Notification };
+
+    ghost view = { notification_of };
+
+    ghost spells = { SpellsNotification 32 };
+
+    /// Leaves `confirmed` false: the octets do not tell it. `decode_notification` puts it in, by the service choice.
+    fn from_parts(parts: Parts) -> CovNotification {
+        let (process_identifier, (device, (object, (time_remaining, values)))) = parts;
+        CovNotification {
+            confirmed: false,
+            process_identifier: process_identifier.0,
+            device: device.0,
+            object: object.0,
+            time_remaining: time_remaining.0,
+            values: values.0,
+        }
+    }
+
+    fn write_fields(&self, out: &mut Vec<u8>) -> Result<(), OutOfMemory> {
+        Field::<Unsigned32, 0>(self.process_identifier).write(out)?;
+        Field::<ObjectId, 1>(self.device).write(out)?;
+        Field::<ObjectId, 2>(self.object).write(out)?;
+        Field::<Unsigned32, 3>(self.time_remaining).write(out)?;
+        write_group::<Vec<PropertyValue>, 4>(&self.values, out)
+    }
+
+    ghost of_parts = { notification_parts 32 };
+}

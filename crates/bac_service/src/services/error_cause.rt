@@ -1,0 +1,51 @@
+//! Error (clause 21).
+
+ghost use Rattle.bac_service.specs.ErrorCause.{SpellsErrorCause, error_cause_parts};
+
+use crate::production::Production;
+use crate::production::field::ApplicationField;
+use crate::production::record::Record;
+use bac_tag::OutOfMemory;
+use bac_value::Enumerated;
+
+/// Why a request, or the reading of one property, failed (clause 18).
+///
+/// Octets (clause 21), each part under the application tag of its type: error class (Enumerated), error code
+/// (Enumerated).
+#[derive(Clone, Copy, Debug, PartialEq, Eq)]
+pub struct ErrorCause {
+    /// What the error has to do with, as a device, an object or a property. Any class is kept.
+    pub class: Enumerated,
+    /// What went wrong. Any code is kept.
+    pub code: Enumerated,
+}
+
+/// Its fields.
+type Parts = (ApplicationField<Enumerated>, ApplicationField<Enumerated>);
+
+impl Record for ErrorCause {
+    ghost use Rattle.bac_service.specs.declared.services.error_cause.ErrorCause.{ErrorCause};
+
+    type Parts = Parts;
+
+    ghost Value = { ErrorCause };
+
+    ghost view = { λ cause. cause };
+
+    ghost spells = { SpellsErrorCause };
+
+    fn from_parts(parts: Parts) -> ErrorCause {
+        let (class, code) = parts;
+        ErrorCause {
+            class: class.0,
+            code: code.0,
+        }
+    }
+
+    fn write_fields(&self, out: &mut Vec<u8>) -> Result<(), OutOfMemory> {
+        ApplicationField(self.class).write(out)?;
+        ApplicationField(self.code).write(out)
+    }
+
+    ghost of_parts = { error_cause_parts };
+}

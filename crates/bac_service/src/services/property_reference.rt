@@ -1,0 +1,52 @@
+//! References to properties (BACnetPropertyReference, clause 21).
+
+ghost use Rattle.bac_service.specs.PropertyReference.{SpellsPropertyReference, property_reference_parts};
+
+use crate::production::Production;
+use crate::production::field::Field;
+use crate::production::option::{bare, under};
+use crate::production::record::Record;
+use crate::unsigned32::Unsigned32;
+use bac_tag::OutOfMemory;
+use bac_value::Enumerated;
+
+/// A property of an object, or one element of it.
+///
+/// Octets (clause 21): `[0]` property identifier, `[1]` array index (optional).
+#[derive(Clone, Copy, Debug, PartialEq, Eq)]
+pub struct PropertyReference {
+    /// The identifier of the property.
+    pub property: Enumerated,
+    /// The index of the element, where the property is an array.
+    pub index: Option<Unsigned32>,
+}
+
+/// Its fields.
+type Parts = (Field<Enumerated, 0>, Option<Field<Unsigned32, 1>>);
+
+impl Record for PropertyReference {
+    ghost use Rattle.bac_service.specs.declared.services.property_reference.PropertyReference.{PropertyReference};
+
+    type Parts = Parts;
+
+    ghost Value = { PropertyReference };
+
+    ghost view = { λ reference. reference };
+
+    ghost spells = { SpellsPropertyReference };
+
+    fn from_parts(parts: Parts) -> PropertyReference {
+        let (property, index) = parts;
+        PropertyReference {
+            property: property.0,
+            index: bare(index),
+        }
+    }
+
+    fn write_fields(&self, out: &mut Vec<u8>) -> Result<(), OutOfMemory> {
+        Field::<Enumerated, 0>(self.property).write(out)?;
+        under::<Unsigned32, 1>(self.index).write(out)
+    }
+
+    ghost of_parts = { property_reference_parts };
+}

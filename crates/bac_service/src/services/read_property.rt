@@ -1,0 +1,84 @@
+//! ReadProperty (clauses 15.5 and 21).
+
+ghost use Rattle.std.specs.Prelude.{◌≡◌};
+ghost use Rattle.bac_service.specs.ReadProperty.{SpellsReadProperty, read_property_parts};
+
+use crate::named::Named;
+use crate::production::Production;
+use crate::production::field::Field;
+use crate::production::option::{bare, under};
+use crate::production::record::{Fields, Record};
+use crate::service::Service;
+use crate::unsigned32::Unsigned32;
+use bac_tag::OutOfMemory;
+use bac_value::{Enumerated, ObjectId};
+
+/// A request for one property of an object, or for one element of it.
+///
+/// Octets (clause 21): `[0]` object identifier, `[1]` property identifier, `[2]` array index (optional).
+#[derive(Clone, Copy, Debug, PartialEq, Eq)]
+pub struct ReadProperty {
+    /// The object that has the property.
+    pub object: ObjectId,
+    /// The identifier of the property.
+    pub property: Enumerated,
+    /// The index of the element, where the property is an array.
+    pub index: Option<Unsigned32>,
+}
+
+/// Its fields.
+type Parts = (
+    Field<ObjectId, 0>,
+    (Field<Enumerated, 1>, Option<Field<Unsigned32, 2>>),
+);
+
+impl Record for ReadProperty {
+    ghost use Rattle.bac_service.specs.declared.services.read_property.ReadProperty.{ReadProperty};
+
+    type Parts = Parts;
+
+    ghost Value = { ReadProperty };
+
+    ghost view = { λ request. request };
+
+    ghost spells = { SpellsReadProperty };
+
+    fn from_parts(parts: Parts) -> ReadProperty {
+        let (object, (property, index)) = parts;
+        ReadProperty {
+            object: object.0,
+            property: property.0,
+            index: bare(index),
+        }
+    }
+
+    fn write_fields(&self, out: &mut Vec<u8>) -> Result<(), OutOfMemory> {
+        Field::<ObjectId, 0>(self.object).write(out)?;
+        Field::<Enumerated, 1>(self.property).write(out)?;
+        under::<Unsigned32, 2>(self.index).write(out)
+    }
+
+    ghost of_parts = { read_property_parts };
+}
+
+impl Named for ReadProperty {
+    ghost use Rattle.std.specs.Prelude.{refl};
+    ghost use Rattle.std.proofs.Common.{lit<};
+    ghost use Rattle.bac_service.specs.declared.kind.Kind.TheVariants.{Confirmed};
+    ghost use Rattle.bac_service.specs.ServiceTable.{read_property};
+    ghost use Rattle.bac_service.specs.laws.ServiceLaws.{serves, never};
+
+    type Part = Fields<ReadProperty>;
+
+    ghost kind = { Confirmed };
+
+    ghost choice = { 12 };
+
+    fn into_service(part: Fields<ReadProperty>) -> Service {
+        Service::ReadProperty(part.0)
+    }
+
+    ghost named = { serves Confirmed 12 read_property (lit< tt) refl };
+
+    ghost memory = { never };
+}

@@ -1,0 +1,96 @@
+//! Errors of typed services (Error, clause 21).
+
+ghost use Rattle.std.specs.Prelude.{◌≡◌, ◌↔◌, IsSome, IfSome, OnOk, true, Some};
+ghost use Rattle.bac_tag.specs.Spelling.{AppendsLeast};
+ghost use Rattle.bac_data.specs.Writing.{Extends};
+ghost use Rattle.bac_service.specs.ErrorCause.{SpellsErrorCause};
+ghost use Rattle.bac_service.specs.ServiceTable.{service_error, production_of};
+ghost use Rattle.bac_service.specs.declared.kind.Kind.TheVariants.{Error};
+
+use crate::kind::has_cause;
+use crate::production::record::Record;
+use crate::services::error_cause::ErrorCause;
+use bac_tag::OutOfMemory;
+use bac_value::Enumerated;
+use std::marker::Model;
+
+/// Why a request of one of the typed confirmed services failed.
+///
+/// Octets (clause 21): those of its [`ErrorCause`]. The choice stands in front of them, in the header of the
+/// APDU.
+#[derive(Clone, Copy, Debug, PartialEq, Eq)]
+pub struct ServiceError {
+    choice: u8,
+    cause: ErrorCause,
+}
+
+impl Model for ServiceError {
+    ghost use Rattle.std.specs.Prelude.{◌≡◌, true, Some};
+    ghost use Rattle.bac_service.specs.ErrorValues.{ErrorValue};
+    ghost use Rattle.bac_service.specs.ServiceTable.{service_error, production_of};
+    ghost use Rattle.bac_service.specs.declared.kind.Kind.TheVariants.{Error};
+
+    ghost Value = { ErrorValue };
+
+    ghost view = { λ error. record { choice = error.choice; cause = error.cause } };
+
+    ghost invariant = { λ error. production_of true Error error.choice ≡ Some service_error };
+
+    ghost inverse = { λ value. record { choice = value.choice; cause = value.cause } };
+}
+
+impl ServiceError {
+    /// The error of the service with this choice, which is 1, 5, 12, 14 or 15, with a class and a code.
+    pub fn new(choice: u8, class: u32, code: u32) -> Option<ServiceError>
+        ensures some { IsSome result ↔ (production_of true Error choice ≡ Some service_error) }
+        ensures value { IfSome result (λ error. error ≡ record { choice = choice; cause = record { class = record { 0 = class }; code = record { 0 = code } } }) }
+    {
+        if !has_cause(choice) {
+            return None;
+        }
+        let cause = ErrorCause {
+            class: Enumerated(class),
+            code: Enumerated(code),
+        };
+        Some(ServiceError { choice, cause })
+    }
+
+    /// The error of the service with this choice, which is typed.
+    pub(crate) fn of(choice: u8, cause: ErrorCause) -> ServiceError
+        requires { production_of true Error choice ≡ Some service_error }
+        ensures { result ≡ record { choice = choice; cause = cause } }
+    {
+        ServiceError { choice, cause }
+    }
+
+    /// The choice of the service that failed.
+    pub fn choice(&self) -> u8
+        ensures choice { result ≡ self.now.choice }
+        ensures typed { production_of true Error result ≡ Some service_error }
+    {
+        self.choice
+    }
+
+    /// The class of the error (clause 18).
+    pub fn class(&self) -> u32
+        ensures { result ≡ self.now.cause.class.0 }
+    {
+        self.cause.class.0
+    }
+
+    /// The code of the error (clause 18).
+    pub fn code(&self) -> u32
+        ensures { result ≡ self.now.cause.code.0 }
+    {
+        self.cause.code.0
+    }
+
+    /// Appends the least spelling of its class and its code. Where memory is refused some octets may be there.
+    pub(crate) fn write_cause(&self, out: &mut Vec<u8>) -> Result<(), OutOfMemory>
+        ensures typed { production_of true Error self.now.choice ≡ Some service_error }
+        ensures ok { OnOk result (AppendsLeast (SpellsErrorCause self.now.cause) out.old.items out.new.items) }
+        ensures kept { Extends out.old.items out.new.items }
+    {
+        self.cause.write_fields(out)
+    }
+}

@@ -1,0 +1,93 @@
+//! SubscribeCOV (clauses 13.14 and 21).
+
+ghost use Rattle.std.specs.Prelude.{◌≡◌};
+ghost use Rattle.bac_service.specs.SubscribeCov.{SpellsSubscribeCov, subscribe_cov_parts};
+
+use crate::named::Named;
+use crate::production::Production;
+use crate::production::field::Field;
+use crate::production::option::{bare, bit_of, boolean_of, under};
+use crate::production::record::{Fields, Record};
+use crate::service::Service;
+use crate::unsigned32::Unsigned32;
+use bac_tag::OutOfMemory;
+use bac_value::{Boolean, ObjectId};
+
+/// A request to be told of changes of an object's values or, with neither `confirmed` nor `lifetime`, to be
+/// told no more.
+///
+/// Octets (clause 21): `[0]` subscriber process identifier, `[1]` monitored object identifier, `[2]` issue
+/// confirmed notifications (optional), `[3]` lifetime (optional).
+#[derive(Clone, Copy, Debug, PartialEq, Eq)]
+pub struct SubscribeCov {
+    /// The number of the subscriber's process.
+    pub process_identifier: Unsigned32,
+    /// The object to watch.
+    pub object: ObjectId,
+    /// Whether the notifications are to be confirmed.
+    pub confirmed: Option<bool>,
+    /// For how many seconds; 0: without end.
+    pub lifetime: Option<Unsigned32>,
+}
+
+/// Its fields.
+type Parts = (
+    Field<Unsigned32, 0>,
+    (
+        Field<ObjectId, 1>,
+        (Option<Field<Boolean, 2>>, Option<Field<Unsigned32, 3>>),
+    ),
+);
+
+impl Record for SubscribeCov {
+    ghost use Rattle.bac_service.specs.declared.services.subscribe_cov.SubscribeCov.{SubscribeCov};
+
+    type Parts = Parts;
+
+    ghost Value = { SubscribeCov };
+
+    ghost view = { λ request. request };
+
+    ghost spells = { SpellsSubscribeCov };
+
+    fn from_parts(parts: Parts) -> SubscribeCov {
+        let (process_identifier, (object, (confirmed, lifetime))) = parts;
+        SubscribeCov {
+            process_identifier: process_identifier.0,
+            object: object.0,
+            confirmed: bit_of(bare(confirmed)),
+            lifetime: bare(lifetime),
+        }
+    }
+
+    fn write_fields(&self, out: &mut Vec<u8>) -> Result<(), OutOfMemory> {
+        Field::<Unsigned32, 0>(self.process_identifier).write(out)?;
+        Field::<ObjectId, 1>(self.object).write(out)?;
+        under::<Boolean, 2>(boolean_of(self.confirmed)).write(out)?;
+        under::<Unsigned32, 3>(self.lifetime).write(out)
+    }
+
+    ghost of_parts = { subscribe_cov_parts };
+}
+
+impl Named for SubscribeCov {
+    ghost use Rattle.std.specs.Prelude.{refl};
+    ghost use Rattle.std.proofs.Common.{lit<};
+    ghost use Rattle.bac_service.specs.declared.kind.Kind.TheVariants.{Confirmed};
+    ghost use Rattle.bac_service.specs.ServiceTable.{subscribe_cov};
+    ghost use Rattle.bac_service.specs.laws.ServiceLaws.{serves, never};
+
+    type Part = Fields<SubscribeCov>;
+
+    ghost kind = { Confirmed };
+
+    ghost choice = { 5 };
+
+    fn into_service(part: Fields<SubscribeCov>) -> Service {
+        Service::SubscribeCov(part.0)
+    }
+
+    ghost named = { serves Confirmed 5 subscribe_cov (lit< tt) refl };
+
+    ghost memory = { never };
+}

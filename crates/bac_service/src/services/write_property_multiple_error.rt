@@ -1,0 +1,96 @@
+//! The error of WritePropertyMultiple (clauses 15.10 and 21).
+
+ghost use Rattle.bac_service.specs.WritePropertyMultipleError.{SpellsWriteError, write_error_parts};
+
+use crate::named::Named;
+use crate::production::Production;
+use crate::production::group::{Group, write_group};
+use crate::production::record::{Fields, Record};
+use crate::service::Service;
+use crate::services::error_cause::ErrorCause;
+use crate::services::read_property::ReadProperty;
+use crate::unsigned32::Unsigned32;
+use bac_tag::OutOfMemory;
+use bac_value::{Enumerated, ObjectId};
+
+/// Why a WritePropertyMultiple failed, and the first write that did.
+///
+/// Octets (clause 21): `[0] {` error `}`, `[1] {` `[0]` object identifier, `[1]` property identifier, `[2]` array
+/// index (optional) `}`.
+#[derive(Clone, Copy, Debug, PartialEq, Eq)]
+pub struct WritePropertyMultipleError {
+    /// What the error has to do with, as a device, an object or a property. Any class is kept.
+    pub class: Enumerated,
+    /// What went wrong. Any code is kept.
+    pub code: Enumerated,
+    /// The object that has the property that could not be written.
+    pub object: ObjectId,
+    /// The identifier of that property.
+    pub property: Enumerated,
+    /// The index of the element, where the property is an array.
+    pub index: Option<Unsigned32>,
+}
+
+/// Its fields: the error, and the reference to the property, which is spelled as that of a ReadProperty.
+type Parts = (Group<Fields<ErrorCause>, 0>, Group<Fields<ReadProperty>, 1>);
+
+impl Record for WritePropertyMultipleError {
+    ghost use Rattle.bac_service.specs.declared.services.write_property_multiple_error.WritePropertyMultipleError.{WritePropertyMultipleError};
+
+    type Parts = Parts;
+
+    ghost Value = { WritePropertyMultipleError };
+
+    ghost view = { λ error. error };
+
+    ghost spells = { SpellsWriteError };
+
+    fn from_parts(parts: Parts) -> WritePropertyMultipleError {
+        let (Group(Fields(cause)), Group(Fields(place))) = parts;
+        WritePropertyMultipleError {
+            class: cause.class,
+            code: cause.code,
+            object: place.object,
+            property: place.property,
+            index: place.index,
+        }
+    }
+
+    fn write_fields(&self, out: &mut Vec<u8>) -> Result<(), OutOfMemory> {
+        let cause = ErrorCause {
+            class: self.class,
+            code: self.code,
+        };
+        let place = ReadProperty {
+            object: self.object,
+            property: self.property,
+            index: self.index,
+        };
+        write_group::<Fields<ErrorCause>, 0>(&Fields(cause), out)?;
+        write_group::<Fields<ReadProperty>, 1>(&Fields(place), out)
+    }
+
+    ghost of_parts = { write_error_parts };
+}
+
+impl Named for WritePropertyMultipleError {
+    ghost use Rattle.std.specs.Prelude.{refl};
+    ghost use Rattle.std.proofs.Common.{lit<};
+    ghost use Rattle.bac_service.specs.declared.kind.Kind.TheVariants.{Error};
+    ghost use Rattle.bac_service.specs.ServiceTable.{write_property_multiple_error};
+    ghost use Rattle.bac_service.specs.laws.ServiceLaws.{serves, never};
+
+    type Part = Fields<WritePropertyMultipleError>;
+
+    ghost kind = { Error };
+
+    ghost choice = { 16 };
+
+    fn into_service(part: Fields<WritePropertyMultipleError>) -> Service {
+        Service::WritePropertyMultipleError(part.0)
+    }
+
+    ghost named = { serves Error 16 write_property_multiple_error (lit< tt) refl };
+
+    ghost memory = { never };
+}
