@@ -1,13 +1,9 @@
-//! Tests of the library: what no clause says, values from outside, and that the calls succeed. They stand in a crate
-//! of their own, over public calls alone, since a crate with tests is proved twice.
+//! Tests of bac_tag, bac_value and bac_data: what no clause says, values from outside, and that the calls succeed. They
+//! stand in a crate of their own, over public calls alone, since a crate with tests is proved twice.
 #![tactic(auto)]
 
 #[cfg(test)]
 mod data;
-#[cfg(test)]
-mod service;
-#[cfg(test)]
-mod sizes;
 #[cfg(test)]
 mod tag;
 #[cfg(test)]

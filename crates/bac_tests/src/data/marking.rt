@@ -1,6 +1,7 @@
 //! Where octets that are read as an open value differ from the canonical ones.
 
 use bac_data::{Any, read_any_marked};
+use bac_tables::{octets_of, rows_of};
 use bac_tag::{Refusal, Why};
 use std::alloc::Global;
 use std::test::Fail;
@@ -16,25 +17,26 @@ fn read(alloc: Global, octets: &[u8]) -> Result<(Any, usize, Option<usize>), Ref
 // Example 63 of docs/EXAMPLES.md; and a mark in each part of a value.
 #[test]
 fn the_first_octet_that_differs_is_told(rt: HostRuntime) -> Result<(), Fail> {
-    let table: [(&[u8], Option<usize>); 13] = [
-        (&[0x3E, 0x82, 4, 0xFF, 0x3F], Some(3)),
-        (&[0x3E, 0x32, 0xFF, 0xFF, 0x3F], Some(1)),
-        (&[0x3E, 0x1A, 0, 0x55, 0x3F], None),
-        (&[0x3E, 0x3F], None),
-        (&[0xFE, 3, 0x3F], Some(0)),
-        (&[0x3E, 0xFF, 3], Some(1)),
-        (&[0x3E, 0x2E, 0xF9, 1, 0x55, 0x2F, 0x3F], Some(2)),
-        (&[0x3E, 0x2E, 0xFF, 2, 0x3F], Some(2)),
-        (&[0x3E, 0x21, 0x55, 0x0D, 1, 0xAA, 0x3F], Some(3)),
-        (&[0x3E, 0x65, 2, 0xAA, 0xBB, 0x3F], Some(1)),
-        (&[0x3E, 0xF5, 3, 2, 0, 1, 0x3F], Some(1)),
-        (&[0x3E, 0x11, 0x2E, 0x2F, 0, 0x82, 4, 0xF0, 0x3F], None),
-        (&[0x3E, 0x82, 4, 0xFF, 0x32, 0xFF, 0xFF, 0x3F], Some(3)),
-    ];
-    for (octets, mark) in table {
-        let (_, taken, found) = read(rt.alloc(), octets)?;
+    let table = "
+        3E 82 04 FF 3F             -> differs at 3
+        3E 32 FF FF 3F             -> differs at 1
+        3E 1A 00 55 3F             -> itself
+        3E 3F                      -> itself
+        FE 03 3F                   -> differs at 0
+        3E FF 03                   -> differs at 1
+        3E 2E F9 01 55 2F 3F       -> differs at 2
+        3E 2E FF 02 3F             -> differs at 2
+        3E 21 55 0D 01 AA 3F       -> differs at 3
+        3E 65 02 AA BB 3F          -> differs at 1
+        3E F5 03 02 00 01 3F       -> differs at 1
+        3E 11 2E 2F 00 82 04 F0 3F -> itself
+        3E 82 04 FF 32 FF FF 3F    -> differs at 3
+    ";
+    for row in rows_of(table)?.iter() {
+        let octets = octets_of(row.octets)?;
+        let (_, taken, found) = read(rt.alloc(), &octets)?;
         assert_eq!(rt; taken, octets.len());
-        assert_eq!(rt; found, mark);
+        assert_eq!(rt; found, row.mark()?, "of {}", row.octets);
     }
     Ok(())
 }

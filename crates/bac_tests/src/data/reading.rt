@@ -2,6 +2,7 @@
 //! again, so that the tests can be run with each allocation refused in turn (`rt try --test --fail-alloc N`).
 
 use bac_data::{Any, read_any, write_any};
+use bac_tables::{Octets, TableFault, joined, octets_of, rows_of};
 use bac_tag::{OutOfMemory, Refusal, Why};
 use std::alloc::Global;
 use std::process::Abort;
@@ -28,11 +29,17 @@ fn reads(rt: &impl Abort, alloc: Global, octets: &[u8], written: &[u8]) -> Resul
     Ok(())
 }
 
-/// With number 3 the octets are refused there, for this reason.
-fn refuses(rt: &impl Abort, alloc: Global, octets: &[u8], place: usize, why: Why) {
+/// With number 3 the octets are refused there, for the reason with this name.
+fn refuses(rt: &impl Abort, alloc: Global, octets: &[u8], place: usize, reason: &str) {
     match read(rt, alloc, octets) {
-        Ok(_) => assert!(rt; false),
-        Err(refusal) => assert_eq!(rt; refusal, Refusal { place, why }),
+        Ok(_) => panic!(rt; "{octets:?} are read"),
+        Err(refusal) => {
+            assert_eq!(rt;
+                (refusal.why.name(), refusal.place),
+                (reason, place),
+                "of {octets:?}"
+            );
+        }
     }
 }
 
@@ -40,73 +47,77 @@ fn refuses(rt: &impl Abort, alloc: Global, octets: &[u8], place: usize, why: Why
 #[test]
 fn tolerated_octets_are_read_and_written_by_their_fewest(rt: HostRuntime) -> Result<(), Fail> {
     let alloc = rt.alloc();
-    let table: [(&[u8], &[u8]); 19] = [
-        (&[], &[]),
-        (&[0x32, 0xFF, 0xFF], &[0x31, 0xFF]),
-        (&[0x32, 0, 0x80], &[0x32, 0, 0x80]),
-        (&[0x31, 0x80], &[0x31, 0x80]),
-        (&[0x33, 0, 0, 0x80], &[0x32, 0, 0x80]),
-        (&[0x1A, 0, 0x55], &[0x1A, 0, 0x55]),
-        (&[0x82, 4, 0xFF], &[0x82, 4, 0xF0]),
-        (&[0xE9, 0x55], &[0xE9, 0x55]),
-        (&[0xF9, 15, 0x55], &[0xF9, 15, 0x55]),
-        (&[0xF9, 254, 0x55], &[0xF9, 254, 0x55]),
-        (&[0xF9, 14, 0x55], &[0xE9, 0x55]),
-        (&[0x0D, 0xFE, 0, 1, 0x55], &[0x09, 0x55]),
-        (&[0x0D, 0xFF, 0, 0, 0, 1, 0x55], &[0x09, 0x55]),
-        (&[0x72, 5, 0xE9], &[0x72, 5, 0xE9]),
-        (&[0x72, 0, 0xE9], &[0x72, 0, 0xE9]),
-        (&[0], &[0]),
-        (&[0x11, 0x10], &[0x11, 0x10]),
-        (&[0xC4, 0, 0, 0, 5], &[0xC4, 0, 0, 0, 5]),
-        (
-            &[0x2E, 0x2E, 0x19, 0x55, 0x2F, 0x0E, 0x0F, 0x2F, 0x21, 7],
-            &[0x2E, 0x2E, 0x19, 0x55, 0x2F, 0x0E, 0x0F, 0x2F, 0x21, 7],
-        ),
-    ];
-    for (inner, least) in table {
-        let mut octets = vec![in alloc; 0x3E]?;
-        octets.extend_from_slice(inner)?;
-        octets.push(0x3F)?;
-        let mut written = vec![in alloc; 0x3E]?;
-        written.extend_from_slice(least)?;
-        written.push(0x3F)?;
-        reads(&rt, alloc, octets.as_slice(), written.as_slice())?;
+    let table = "
+        none                          -> none
+        32 FF FF                      -> 31 FF
+        32 00 80                      -> 32 00 80
+        31 80                         -> 31 80
+        33 00 00 80                   -> 32 00 80
+        1A 00 55                      -> 1A 00 55
+        82 04 FF                      -> 82 04 F0
+        E9 55                         -> E9 55
+        F9 0F 55                      -> F9 0F 55
+        F9 FE 55                      -> F9 FE 55
+        F9 0E 55                      -> E9 55
+        0D FE 00 01 55                -> 09 55
+        0D FF 00 00 00 01 55          -> 09 55
+        72 05 E9                      -> 72 05 E9
+        72 00 E9                      -> 72 00 E9
+        00                            -> 00
+        11 10                         -> 11 10
+        C4 00 00 00 05                -> C4 00 00 00 05
+        2E 2E 19 55 2F 0E 0F 2F 21 07 -> 2E 2E 19 55 2F 0E 0F 2F 21 07
+    ";
+    for row in rows_of(table)?.iter() {
+        let octets = in_tags(row.octets)?;
+        let written = in_tags(row.told)?;
+        reads(&rt, alloc, &octets, &written)?;
     }
     Ok(())
 }
 
+/// The octets between an opening and a closing tag with number 3.
+fn in_tags(inner: &str) -> Result<Octets, Fail> {
+    let mut octets = joined("3E", inner)?;
+    if octets.try_push(0x3F).is_err() {
+        return Err(TableFault::TooMany.into());
+    }
+    Ok(octets)
+}
+
 // Of examples 10, 13, 14, 43 and 69 of docs/EXAMPLES.md; and each octet with which no value begins.
 #[test]
-fn other_octets_are_refused_at_the_first_hopeless_one(rt: HostRuntime) {
+fn other_octets_are_refused_at_the_first_hopeless_one(rt: HostRuntime) -> Result<(), Fail> {
     let alloc = rt.alloc();
-    let table: [(&[u8], usize, Why); 22] = [
-        (&[], 0, Why::Short),
-        (&[0x2E], 0, Why::Tag),
-        (&[0x3F], 0, Why::Tag),
-        (&[0x3E], 1, Why::Short),
-        (&[0x3E, 0x3E, 0x4F], 2, Why::Tag),
-        (&[0x3E, 0x4F], 1, Why::Tag),
-        (&[0x3E, 0xFF, 4], 2, Why::Tag),
-        (&[0x3E, 0x81, 3, 0x3F], 2, Why::Content),
-        (&[0x3E, 0x80], 1, Why::Length),
-        (&[0x3E, 0x82, 8, 0], 2, Why::Content),
-        (&[0x3E, 0x12], 1, Why::Length),
-        (&[0x3E, 0x01], 1, Why::Length),
-        (&[0x3E, 0x43], 1, Why::Length),
-        (&[0x3E, 0x70], 1, Why::Length),
-        (&[0x3E, 0xD1], 1, Why::Tag),
-        (&[0x3E, 0x44, 1, 2], 4, Why::Short),
-        (&[0x3E, 0x0D, 0xFF, 0, 0x10, 0, 1], 6, Why::Length),
-        (&[0x3E, 0x0D, 0xFF, 0xFF, 0xFF, 0xFF, 0xFF], 3, Why::Length),
-        (&[0x3E, 0x0D, 0xFF, 0, 0x10, 0, 0], 7, Why::Short),
-        (&[0x3E, 0x65, 0xFF, 0, 0x10, 0, 0, 1, 2], 9, Why::Short),
-        (&[0x3E, 0xF9, 0xFF], 2, Why::Tag),
-        (&[0x3E, 0x1E, 0x2F], 2, Why::Tag),
-    ];
-    for (octets, place, why) in table {
-        refuses(&rt, alloc, octets, place, why);
+    let table = "
+        none                       -> Short at 0
+        2E                         -> Tag at 0
+        3F                         -> Tag at 0
+        3E                         -> Short at 1
+        3E 3E 4F                   -> Tag at 2
+        3E 4F                      -> Tag at 1
+        3E FF 04                   -> Tag at 2
+        3E 81 03 3F                -> Content at 2
+        3E 80                      -> Length at 1
+        3E 82 08 00                -> Content at 2
+        3E 12                      -> Length at 1
+        3E 01                      -> Length at 1
+        3E 43                      -> Length at 1
+        3E 70                      -> Length at 1
+        3E D1                      -> Tag at 1
+        3E 44 01 02                -> Short at 4
+        3E 0D FF 00 10 00 01       -> Length at 6
+        3E 0D FF FF FF FF FF       -> Length at 3
+        3E 0D FF 00 10 00 00       -> Short at 7
+        3E 65 FF 00 10 00 00 01 02 -> Short at 9
+        3E F9 FF                   -> Tag at 2
+        3E 1E 2F                   -> Tag at 2
+    ";
+    for row in rows_of(table)?.iter() {
+        let (reason, place) = row.refusal()?;
+        refuses(&rt, alloc, &octets_of(row.octets)?, place, reason);
     }
+    Ok(())
 }
 
 /// The octet so often between an opening and a closing tag with number 3, with as many of the other behind.
@@ -130,9 +141,9 @@ fn thirty_two_groups_nest(rt: HostRuntime) -> Result<(), Fail> {
     assert_eq!(rt; octets.len(), 66);
     reads(&rt, alloc, octets.as_slice(), octets.as_slice())?;
     let octets = nested(alloc, 33)?;
-    refuses(&rt, alloc, octets.as_slice(), 33, Why::Depth);
+    refuses(&rt, alloc, octets.as_slice(), 33, "Depth");
     let octets = inside(alloc, 17, &[])?;
-    refuses(&rt, alloc, octets.as_slice(), 18, Why::Short);
+    refuses(&rt, alloc, octets.as_slice(), 18, "Short");
     Ok(())
 }
 
@@ -154,25 +165,29 @@ fn inside(alloc: Global, groups: usize, octets: &[u8]) -> Result<Vec<u8>, OutOfM
 #[test]
 fn in_the_deepest_group_the_reason_is_that_of_the_octet(rt: HostRuntime) -> Result<(), Fail> {
     let alloc = rt.alloc();
-    let table: [(&[u8], usize, Why); 14] = [
-        (&[0x0E], 0, Why::Depth),
-        (&[0x1E, 0x1F], 0, Why::Depth),
-        (&[0xFE], 0, Why::Depth),
-        (&[0xFE, 0], 0, Why::Depth),
-        (&[0xF9], 1, Why::Short),
-        (&[0xF9, 0xFF], 1, Why::Tag),
-        (&[0x2F], 0, Why::Tag),
-        (&[0xFF, 2], 1, Why::Tag),
-        (&[0xD1], 0, Why::Tag),
-        (&[0x12], 0, Why::Length),
-        (&[0x26], 0, Why::Length),
-        (&[0x0D, 0xFF, 0, 0x10, 0, 1], 5, Why::Length),
-        (&[0x0D, 0xFF, 0xFF, 0xFF, 0xFF, 0xFF], 2, Why::Length),
-        (&[0x81, 3], 1, Why::Content),
-    ];
-    for (octets, place, why) in table {
-        let octets = inside(alloc, DEEPEST, octets)?;
-        refuses(&rt, alloc, &octets, 1 + DEEPEST + place, why);
+    let table = "
+        0E                -> Depth at 0
+        1E 1F             -> Depth at 0
+        FE                -> Depth at 0
+        FE 00             -> Depth at 0
+        F9                -> Short at 1
+        F9 FF             -> Tag at 1
+        2F                -> Tag at 0
+        FF 02             -> Tag at 1
+        D1                -> Tag at 0
+        12                -> Length at 0
+        26                -> Length at 0
+        0D FF 00 10 00 01 -> Length at 5
+        0D FF FF FF FF FF -> Length at 2
+        81 03             -> Content at 1
+    ";
+    for row in rows_of(table)?.iter() {
+        let (reason, place) = row.refusal()?;
+        let octets = inside(alloc, DEEPEST, &octets_of(row.octets)?)?;
+        let Some(place) = place.checked_add(1 + DEEPEST) else {
+            panic!(rt; "no place behind {place}")
+        };
+        refuses(&rt, alloc, &octets, place, reason);
     }
     Ok(())
 }
@@ -239,10 +254,10 @@ fn a_value_is_read_again_where_memory_was_refused(rt: HostRuntime) -> Result<(),
 fn many_tags_are_refused_at_once(rt: HostRuntime) -> Result<(), Fail> {
     let alloc = rt.alloc();
     let mut octets = vec![in alloc; 0x3E; 1 << 20]?;
-    refuses(&rt, alloc, octets.as_slice(), 33, Why::Depth);
+    refuses(&rt, alloc, octets.as_slice(), 33, "Depth");
     octets.clear();
     octets.resize(1 << 20, 0x3F)?;
-    refuses(&rt, alloc, octets.as_slice(), 0, Why::Tag);
+    refuses(&rt, alloc, octets.as_slice(), 0, "Tag");
     Ok(())
 }
 

@@ -1,8 +1,8 @@
 //! Open values of many octets and of many elements are built, read and written whole: no clause says that memory is
 //! there.
 
-use crate::sizes::{ITEMS, enclosed, mixed, numbered};
 use bac_data::{Any, AnyBuilder, Event, read_any, read_any_marked, write_any};
+use bac_tables::{ITEMS, enclosed, mixed, numbered};
 use bac_tag::OutOfMemory;
 use bac_value::{Bits, Octets, Prim, PrimRef, Primitive, Text, Unsigned};
 use std::alloc::Global;

@@ -1,6 +1,7 @@
 //! What is written of open values.
 
 use bac_data::{Any, AnyBuilder, write_any};
+use bac_tables::octets_of;
 use bac_tag::OutOfMemory;
 use bac_value::{
     Bits, Boolean, DoubleBits, Null, ObjectId, Prim, Primitive, RealBits, Signed, Text,
@@ -34,9 +35,9 @@ fn finished(builder: AnyBuilder) -> Result<Any, Fail> {
 }
 
 /// With number 3 these octets are written between the tags, behind what is there.
-fn writes(rt: &impl Abort, alloc: Global, value: &Any, inner: &[u8]) -> Result<(), Fail> {
+fn writes(rt: &impl Abort, alloc: Global, value: &Any, inner: &str) -> Result<(), Fail> {
     let mut wanted = vec![in alloc; 0xAA, 0x3E]?;
-    wanted.extend_from_slice(inner)?;
+    wanted.extend_from_slice(&octets_of(inner)?)?;
     wanted.push(0x3F)?;
     let mut out = vec![in alloc; 0xAA]?;
     write_any(value, 3, &mut out)?;
@@ -48,31 +49,21 @@ fn writes(rt: &impl Abort, alloc: Global, value: &Any, inner: &[u8]) -> Result<(
 #[test]
 fn application_primitives_are_written_by_their_fewest_octets(rt: HostRuntime) -> Result<(), Fail> {
     let alloc = rt.alloc();
-    let table: [(Prim, &[u8]); 6] = [
-        (Prim::Signed(Signed(-1)), &[0x31, 0xFF]),
-        (Prim::Signed(Signed(128)), &[0x32, 0, 0x80]),
-        (Prim::Signed(Signed(-128)), &[0x31, 0x80]),
-        (Prim::Null(Null), &[0]),
-        (Prim::Boolean(Boolean(true)), &[0x11]),
-        (Prim::Boolean(Boolean(false)), &[0x10]),
+    let table = [
+        (Prim::Signed(Signed(-1)), "31 FF"),
+        (Prim::Signed(Signed(128)), "32 00 80"),
+        (Prim::Signed(Signed(-128)), "31 80"),
+        (Prim::Null(Null), "00"),
+        (Prim::Boolean(Boolean(true)), "11"),
+        (Prim::Boolean(Boolean(false)), "10"),
     ];
     for (prim, octets) in table {
         writes(&rt, alloc, &alone(alloc, prim)?, octets)?;
     }
     let bits = Bits::read(alloc, &[4, 0xFF])?;
-    writes(
-        &rt,
-        alloc,
-        &alone(alloc, Prim::Bits(bits))?,
-        &[0x82, 4, 0xF0],
-    )?;
+    writes(&rt, alloc, &alone(alloc, Prim::Bits(bits))?, "82 04 F0")?;
     let text = Text::new(alloc, 5, &[0xE9])?;
-    writes(
-        &rt,
-        alloc,
-        &alone(alloc, Prim::Text(text))?,
-        &[0x72, 5, 0xE9],
-    )
+    writes(&rt, alloc, &alone(alloc, Prim::Text(text))?, "72 05 E9")
 }
 
 // Of examples 15 and 16 of docs/EXAMPLES.md.
@@ -80,20 +71,15 @@ fn application_primitives_are_written_by_their_fewest_octets(rt: HostRuntime) ->
 fn longer_contents_have_a_length_octet(rt: HostRuntime) -> Result<(), Fail> {
     let alloc = rt.alloc();
     let real = alone(alloc, Prim::RealBits(RealBits(0x4290_999A)))?;
-    writes(&rt, alloc, &real, &[0x44, 0x42, 0x90, 0x99, 0x9A])?;
+    writes(&rt, alloc, &real, "44 42 90 99 9A")?;
     let double = alone(alloc, Prim::DoubleBits(DoubleBits(0x3FF0_0000_0000_0000)))?;
-    writes(
-        &rt,
-        alloc,
-        &double,
-        &[0x55, 8, 0x3F, 0xF0, 0, 0, 0, 0, 0, 0],
-    )?;
+    writes(&rt, alloc, &double, "55 08 3F F0 00 00 00 00 00 00")?;
     let id = ObjectId::read(alloc, &[0, 0, 0, 5])?;
     writes(
         &rt,
         alloc,
         &alone(alloc, Prim::ObjectId(id))?,
-        &[0xC4, 0, 0, 0, 5],
+        "C4 00 00 00 05",
     )
 }
 
@@ -101,31 +87,16 @@ fn longer_contents_have_a_length_octet(rt: HostRuntime) -> Result<(), Fail> {
 #[test]
 fn context_primitives_and_groups_are_written_as_they_are(rt: HostRuntime) -> Result<(), Fail> {
     let alloc = rt.alloc();
-    writes(&rt, alloc, &contextual(alloc, 14, &[0x55])?, &[0xE9, 0x55])?;
-    writes(
-        &rt,
-        alloc,
-        &contextual(alloc, 15, &[0x55])?,
-        &[0xF9, 15, 0x55],
-    )?;
-    writes(
-        &rt,
-        alloc,
-        &contextual(alloc, 254, &[0x55])?,
-        &[0xF9, 254, 0x55],
-    )?;
-    writes(
-        &rt,
-        alloc,
-        &contextual(alloc, 1, &[0, 0x55])?,
-        &[0x1A, 0, 0x55],
-    )?;
-    writes(&rt, alloc, &finished(AnyBuilder::new(alloc)?)?, &[])?;
+    writes(&rt, alloc, &contextual(alloc, 14, &[0x55])?, "E9 55")?;
+    writes(&rt, alloc, &contextual(alloc, 15, &[0x55])?, "F9 0F 55")?;
+    writes(&rt, alloc, &contextual(alloc, 254, &[0x55])?, "F9 FE 55")?;
+    writes(&rt, alloc, &contextual(alloc, 1, &[0, 0x55])?, "1A 00 55")?;
+    writes(&rt, alloc, &finished(AnyBuilder::new(alloc)?)?, "none")?;
     let mut builder = AnyBuilder::new(alloc)?;
     builder.open(2)?;
     builder.push_ctx(1, &[0x55])?;
     builder.close()?;
-    writes(&rt, alloc, &finished(builder)?, &[0x2E, 0x19, 0x55, 0x2F])
+    writes(&rt, alloc, &finished(builder)?, "2E 19 55 2F")
 }
 
 // Where memory is refused, what was there stays.

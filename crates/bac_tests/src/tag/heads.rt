@@ -1,53 +1,78 @@
 //! Worked examples 8 to 11, 36, 62 and 80 of docs/EXAMPLES.md, as far as they speak of heads.
 
+use bac_tables::{Row, octets_of, rows_of};
 use bac_tag::{
     Expected, OutOfMemory, Refusal, TagHead, Why, first_difference, first_hopeless, head_len, laws,
     mark_head, mark_read_head, number_of, number_within, read_expected, read_head, read_one_of,
     write_head,
 };
-
-fn refused(place: usize, why: Why) -> Result<(TagHead, usize), Refusal> {
-    Err(Refusal { place, why })
-}
+use std::alloc::{AllocError, Global};
+use std::process::Abort;
+use std::test::Fail;
 
 fn context(number: u8, len: u32) -> TagHead {
     TagHead::Ctx { number, len }
 }
 
-#[test]
-fn reads_heads(rt: HostRuntime) {
-    let table = [
-        (
-            [0xFD, 0x00, 0x04, 0, 0, 0].as_slice(),
-            Ok((context(0, 4), 3)),
-        ),
-        (
-            &[0x0D, 0xFF, 0xFF, 0xFF, 0xFF, 0xFF],
-            Ok((context(0, 4294967295), 6)),
-        ),
-        (&[0xF9, 0x0E, 0x55], Ok((context(14, 1), 2))),
-        (&[0xF1, 0x01], Ok((TagHead::AppBool(true), 2))),
-        (&[0x3E], Ok((TagHead::Open(3), 1))),
-        (&[0xFF, 0x03], Ok((TagHead::Close(3), 2))),
-        (&[0xC4, 0x00], Ok((TagHead::App { number: 12, len: 4 }, 1))),
-        (&[], refused(0, Why::Short)),
-        (&[0x0D], refused(1, Why::Short)),
-        (&[0x0D, 0xFE, 0x00], refused(3, Why::Short)),
-        (&[0x26], refused(0, Why::Length)),
-        (&[0x12], refused(0, Why::Length)),
-        (&[0xF6], refused(0, Why::Length)),
-        (&[0xD1], refused(0, Why::Tag)),
-        (&[0xD6], refused(0, Why::Tag)),
-        (&[0xFD, 0xFF], refused(1, Why::Tag)),
-        (&[0xF2, 0x01], refused(1, Why::Tag)),
-    ];
-    for (octets, wanted) in table {
-        assert_eq!(rt; read_head(octets), wanted, "{octets:?}");
+/// A head and how many octets it takes, or why none is read.
+type Found = Result<(TagHead, usize), Refusal>;
+
+/// What is found, as a table tells it.
+fn shown(alloc: Global, found: Found) -> Result<String, AllocError> {
+    match found {
+        Ok((head, taken)) => format!(in alloc; "{head:?} of {taken}"),
+        Err(refusal) => format!(in alloc; "{refusal}"),
     }
 }
 
+/// What is found is what the row tells, at the latest when memory is asked for again.
+fn is_told(rt: &impl Abort, alloc: Global, row: &Row, found: Found) -> Result<(), Fail> {
+    let text = match shown(alloc, found) {
+        Ok(text) => text,
+        Err(_) => shown(alloc, found)?,
+    };
+    assert_eq!(rt; text.as_str(), row.told, "of {}", row.octets);
+    Ok(())
+}
+
 #[test]
-fn reads_expected_heads(rt: HostRuntime) {
+fn reads_heads(rt: HostRuntime) -> Result<(), Fail> {
+    let table = "
+        FD 00 04 00 00 00 -> Ctx { number: 0, len: 4 } of 3
+        0D FF FF FF FF FF -> Ctx { number: 0, len: 4294967295 } of 6
+        F9 0E 55          -> Ctx { number: 14, len: 1 } of 2
+        F1 01             -> AppBool(true) of 2
+        3E                -> Open(3) of 1
+        FF 03             -> Close(3) of 2
+        C4 00             -> App { number: 12, len: 4 } of 1
+        none              -> Short at 0
+        0D                -> Short at 1
+        0D FE 00          -> Short at 3
+        26                -> Length at 0
+        12                -> Length at 0
+        F6                -> Length at 0
+        D1                -> Tag at 0
+        D6                -> Tag at 0
+        FD FF             -> Tag at 1
+        F2 01             -> Tag at 1
+    ";
+    for row in rows_of(table)?.iter() {
+        is_told(&rt, rt.alloc(), row, read_head(&octets_of(row.octets)?))?;
+    }
+    Ok(())
+}
+
+/// Each row of the table is as it says, where this head is expected.
+fn expects(rt: &impl Abort, alloc: Global, expected: Expected, table: &str) -> Result<(), Fail> {
+    for row in rows_of(table)?.iter() {
+        let found = read_expected(&octets_of(row.octets)?, expected);
+        is_told(rt, alloc, row, found)?;
+    }
+    Ok(())
+}
+
+#[test]
+fn reads_expected_heads(rt: HostRuntime) -> Result<(), Fail> {
     let four = Expected::Ctx {
         number: Some(0),
         least: 4,
@@ -63,41 +88,31 @@ fn reads_expected_heads(rt: HostRuntime) {
         least: 0,
         most: 1_048_576,
     };
-    let table = [
-        ([0x0C].as_slice(), four, Ok((context(0, 4), 1))),
-        (
-            &[0xFD, 0x00, 0xFE, 0x00, 0x04],
-            four,
-            Ok((context(0, 4), 5)),
-        ),
-        (&[0x0B], four, refused(0, Why::Length)),
-        (&[0x1C], four, refused(0, Why::Tag)),
-        (&[0x0E], four, refused(0, Why::Tag)),
-        (&[0x0D], four, refused(1, Why::Short)),
-        (&[0x0D, 0x05], four, refused(1, Why::Length)),
-        (&[0xFC, 0x01], four, refused(1, Why::Tag)),
-        (&[0x1D, 0x09], number, refused(1, Why::Length)),
-        (
-            &[0x0D, 0xFF, 0x00, 0x10, 0x00, 0x01],
-            any,
-            refused(5, Why::Length),
-        ),
-        (
-            &[0x0D, 0xFF, 0xFF, 0xFF, 0xFF, 0xFF],
-            any,
-            refused(2, Why::Length),
-        ),
-        (&[0x4E], Expected::Open(Some(4)), Ok((TagHead::Open(4), 1))),
-        (&[0x4F], Expected::Close(Some(3)), refused(0, Why::Tag)),
-        (&[0x11], Expected::AppBool, Ok((TagHead::AppBool(true), 1))),
-    ];
-    for (octets, expected, wanted) in table {
-        assert_eq!(rt; read_expected(octets, expected), wanted, "{octets:?}");
-    }
+    let alloc = rt.alloc();
+    let table = "
+        0C             -> Ctx { number: 0, len: 4 } of 1
+        FD 00 FE 00 04 -> Ctx { number: 0, len: 4 } of 5
+        0B             -> Length at 0
+        1C             -> Tag at 0
+        0E             -> Tag at 0
+        0D             -> Short at 1
+        0D 05          -> Length at 1
+        FC 01          -> Tag at 1
+    ";
+    expects(&rt, alloc, four, table)?;
+    expects(&rt, alloc, number, "1D 09 -> Length at 1")?;
+    let table = "
+        0D FF 00 10 00 01 -> Length at 5
+        0D FF FF FF FF FF -> Length at 2
+    ";
+    expects(&rt, alloc, any, table)?;
+    expects(&rt, alloc, Expected::Open(Some(4)), "4E -> Open(4) of 1")?;
+    expects(&rt, alloc, Expected::Close(Some(3)), "4F -> Tag at 0")?;
+    expects(&rt, alloc, Expected::AppBool, "11 -> AppBool(true) of 1")
 }
 
 #[test]
-fn reads_one_of_several(rt: HostRuntime) {
+fn reads_one_of_several(rt: HostRuntime) -> Result<(), Fail> {
     let several = [
         Expected::Ctx {
             number: Some(2),
@@ -111,92 +126,119 @@ fn reads_one_of_several(rt: HostRuntime) {
         },
         Expected::Close(Some(1)),
     ];
-    let table = [
-        ([0x29].as_slice(), Ok((context(2, 1), 1))),
-        (&[0x3A, 0x00], Ok((context(3, 2), 1))),
-        (&[0x1F], Ok((TagHead::Close(1), 1))),
-        (&[0x2B], refused(0, Why::Length)),
-        (&[0x1E], refused(0, Why::Tag)),
-        (&[0xFB, 0x02], refused(1, Why::Tag)),
-        (&[0xFB, 0x03], Ok((context(3, 3), 2))),
-        (&[0x3D, 0x09], refused(1, Why::Length)),
-        (&[], refused(0, Why::Short)),
-    ];
-    for (octets, wanted) in table {
-        assert_eq!(rt; read_one_of(octets, &several), wanted, "{octets:?}");
+    let table = "
+        29    -> Ctx { number: 2, len: 1 } of 1
+        3A 00 -> Ctx { number: 3, len: 2 } of 1
+        1F    -> Close(1) of 1
+        2B    -> Length at 0
+        1E    -> Tag at 0
+        FB 02 -> Tag at 1
+        FB 03 -> Ctx { number: 3, len: 3 } of 2
+        3D 09 -> Length at 1
+        none  -> Short at 0
+    ";
+    for row in rows_of(table)?.iter() {
+        let found = read_one_of(&octets_of(row.octets)?, &several);
+        is_told(&rt, rt.alloc(), row, found)?;
     }
+    Ok(())
+}
+
+/// Each row of the table tells the head that is read of its octets, which is written so, and counted.
+fn are_canonical(rt: &impl Abort, alloc: Global, table: &str) -> Result<(), Fail> {
+    for row in rows_of(table)?.iter() {
+        let octets = octets_of(row.octets)?;
+        let found = read_head(&octets);
+        is_told(rt, alloc, row, found)?;
+        let (head, taken) = found?;
+        assert_eq!(rt; taken, octets.len());
+        assert!(rt; head.is_valid());
+        assert_eq!(rt; write_head(head).as_slice(), octets.as_slice());
+        assert_eq!(rt; head_len(head), taken, "{head:?}");
+    }
+    Ok(())
 }
 
 #[test]
-fn writes_and_marks_heads(rt: HostRuntime) {
-    let table = [
-        (context(15, 300), [0xFD, 0x0F, 0xFE, 0x01, 0x2C].as_slice()),
-        (context(0, 4), &[0x0C]),
-        (context(0, 5), &[0x0D, 0x05]),
-        (context(0, 253), &[0x0D, 0xFD]),
-        (context(0, 254), &[0x0D, 0xFE, 0x00, 0xFE]),
-        (context(0, 65535), &[0x0D, 0xFE, 0xFF, 0xFF]),
-        (context(0, 65536), &[0x0D, 0xFF, 0x00, 0x01, 0x00, 0x00]),
-        (context(14, 1), &[0xE9]),
-        (context(15, 1), &[0xF9, 0x0F]),
-        (context(254, 1), &[0xF9, 0xFE]),
-        (TagHead::AppBool(false), &[0x10]),
-        (TagHead::Open(2), &[0x2E]),
-    ];
-    for (head, octets) in table {
-        if head.is_valid() {
-            assert_eq!(rt; write_head(head).as_slice(), octets);
-        }
-    }
+fn writes_and_marks_heads(rt: HostRuntime) -> Result<(), Fail> {
+    let table = "
+        FD 0F FE 01 2C    -> Ctx { number: 15, len: 300 } of 5
+        0C                -> Ctx { number: 0, len: 4 } of 1
+        0D 05             -> Ctx { number: 0, len: 5 } of 2
+        0D FD             -> Ctx { number: 0, len: 253 } of 2
+        0D FE 00 FE       -> Ctx { number: 0, len: 254 } of 4
+        0D FE FF FF       -> Ctx { number: 0, len: 65535 } of 4
+        0D FF 00 01 00 00 -> Ctx { number: 0, len: 65536 } of 6
+        E9                -> Ctx { number: 14, len: 1 } of 1
+        F9 0F             -> Ctx { number: 15, len: 1 } of 2
+        F9 FE             -> Ctx { number: 254, len: 1 } of 2
+        10                -> AppBool(false) of 1
+        2E                -> Open(2) of 1
+    ";
+    are_canonical(&rt, rt.alloc(), table)?;
     assert!(rt; !context(255, 0).is_valid());
     assert!(rt; !TagHead::App { number: 1, len: 1 }.is_valid());
+    Ok(())
 }
 
 #[test]
-fn counts_octets_of_heads(rt: HostRuntime) {
-    let table = [
-        (context(14, 4), 1),
-        (context(14, 5), 2),
-        (context(14, 253), 2),
-        (context(14, 254), 4),
-        (context(14, 65535), 4),
-        (context(14, 65536), 6),
-        (context(15, 4), 2),
-        (context(15, 5), 3),
-        (context(15, 253), 3),
-        (context(15, 254), 5),
-        (context(15, 65535), 5),
-        (context(15, 65536), 7),
-        (TagHead::App { number: 12, len: 4 }, 1),
-        (TagHead::AppBool(true), 1),
-        (TagHead::Open(14), 1),
-        (TagHead::Open(15), 2),
-        (TagHead::Close(14), 1),
-        (TagHead::Close(15), 2),
-    ];
-    for (head, wanted) in table {
-        assert!(rt; head.is_valid());
-        assert_eq!(rt; head_len(head), wanted, "{head:?}");
-    }
+fn counts_octets_of_heads(rt: HostRuntime) -> Result<(), Fail> {
+    let table = "
+        EC                   -> Ctx { number: 14, len: 4 } of 1
+        ED 05                -> Ctx { number: 14, len: 5 } of 2
+        ED FD                -> Ctx { number: 14, len: 253 } of 2
+        ED FE 00 FE          -> Ctx { number: 14, len: 254 } of 4
+        ED FE FF FF          -> Ctx { number: 14, len: 65535 } of 4
+        ED FF 00 01 00 00    -> Ctx { number: 14, len: 65536 } of 6
+        FC 0F                -> Ctx { number: 15, len: 4 } of 2
+        FD 0F 05             -> Ctx { number: 15, len: 5 } of 3
+        FD 0F FD             -> Ctx { number: 15, len: 253 } of 3
+        FD 0F FE 00 FE       -> Ctx { number: 15, len: 254 } of 5
+        FD 0F FE FF FF       -> Ctx { number: 15, len: 65535 } of 5
+        FD 0F FF 00 01 00 00 -> Ctx { number: 15, len: 65536 } of 7
+        C4                   -> App { number: 12, len: 4 } of 1
+        11                   -> AppBool(true) of 1
+        EE                   -> Open(14) of 1
+        FE 0F                -> Open(15) of 2
+        EF                   -> Close(14) of 1
+        FF 0F                -> Close(15) of 2
+    ";
+    are_canonical(&rt, rt.alloc(), table)
 }
 
-#[test]
-fn marks_heads_that_were_read(rt: HostRuntime) {
-    let table = [
-        ([0x0C].as_slice(), context(0, 4), None),
-        (&[0x1A], context(1, 1), Some(0)),
-        (&[0x0C], context(0, 3), Some(0)),
-        (&[0x0D, 0x05], context(0, 5), None),
-        (&[0x0D, 0xFE, 0x00, 0x05], context(0, 5), Some(1)),
-        (&[0xFC, 0x00], context(0, 4), Some(0)),
-    ];
-    for (octets, head, wanted) in table {
-        assert!(rt; head.is_valid());
-        let (read, taken) = read_head(octets).expect(&rt, "a head");
+/// Each row of the table tells where its octets differ from those of the head.
+fn marks(rt: &impl Abort, head: TagHead, table: &str) -> Result<(), Fail> {
+    assert!(rt; head.is_valid());
+    for row in rows_of(table)?.iter() {
+        let octets = octets_of(row.octets)?;
+        let wanted = row.mark()?;
+        let (read, taken) = read_head(&octets)?;
         assert_eq!(rt; taken, octets.len());
-        assert_eq!(rt; mark_read_head(octets, read, head), wanted, "{octets:?}");
-        assert_eq!(rt; mark_head(octets, head), wanted, "{octets:?}");
+        assert_eq!(rt;
+            mark_read_head(&octets, read, head),
+            wanted,
+            "of {}",
+            row.octets
+        );
+        assert_eq!(rt; mark_head(&octets, head), wanted, "of {}", row.octets);
     }
+    Ok(())
+}
+
+#[test]
+fn marks_heads_that_were_read(rt: HostRuntime) -> Result<(), Fail> {
+    let table = "
+        0C    -> itself
+        FC 00 -> differs at 0
+    ";
+    marks(&rt, context(0, 4), table)?;
+    marks(&rt, context(1, 1), "1A -> differs at 0")?;
+    marks(&rt, context(0, 3), "0C -> differs at 0")?;
+    let table = "
+        0D 05       -> itself
+        0D FE 00 05 -> differs at 1
+    ";
+    marks(&rt, context(0, 5), table)
 }
 
 #[test]

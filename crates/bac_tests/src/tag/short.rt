@@ -1,8 +1,10 @@
 //! Heads of one octet (clause 20.2.1): the number, 0 to 14, and the class, with an LVT of 0 to 4 for a length, 6 for an
 //! opening tag and 7 for a closing one. A head that is not the least of its spellings is none of them.
 
+use bac_tables::{octets_of, rows_of};
 use bac_tag::{TagHead, is_short_closing, is_short_opening, short_len};
 use std::process::Abort;
+use std::test::Fail;
 
 /// The length of the head of context class with this number.
 fn context_len(rt: &impl Abort, octets: &[u8], number: u8) -> Option<usize> {
@@ -37,137 +39,139 @@ const LENGTHS: [Option<usize>; 8] = [
     None,
 ];
 
+/// Of the octets with the number the head of context class has this length, and the tags are these.
+fn tells_context(
+    rt: &impl Abort,
+    octets: &[u8],
+    number: u8,
+    wanted: (Option<usize>, (bool, bool)),
+) {
+    let found = (context_len(rt, octets, number), tags(rt, octets, number));
+    assert_eq!(rt; found, wanted, "{octets:?}");
+}
+
+/// The heads of context class with this number, one for each LVT, are told by it, whatever stands behind.
+fn lvt_tells_context(rt: &impl Abort, number: u8, heads: &str) -> Result<(), Fail> {
+    let heads = octets_of(heads)?;
+    assert_eq!(rt; heads.len(), 8);
+    for (lvt, (octet, len)) in heads.iter().zip(LENGTHS).enumerate() {
+        let wanted = (len, (lvt == 6, lvt == 7));
+        tells_context(rt, &[*octet], number, wanted);
+        tells_context(rt, &[*octet, 0], number, wanted);
+        tells_context(rt, &[*octet, 0xFF, 0x55], number, wanted);
+    }
+    Ok(())
+}
+
 // By clauses 20.2.1.3.1 and 20.2.1.3.2.
 #[test]
-fn heads_of_context_class_are_told_by_their_lvt(rt: HostRuntime) {
-    let table = [
-        (0, [8, 9, 0x0A, 0x0B, 0x0C, 0x0D, 0x0E, 0x0F]),
-        (3, [0x38, 0x39, 0x3A, 0x3B, 0x3C, 0x3D, 0x3E, 0x3F]),
-        (14, [0xE8, 0xE9, 0xEA, 0xEB, 0xEC, 0xED, 0xEE, 0xEF]),
-    ];
-    for (number, octets) in table {
-        for (lvt, octet) in octets.iter().enumerate() {
-            for octets in [[*octet].as_slice(), &[*octet, 0], &[*octet, 0xFF, 0x55]] {
-                let len = context_len(&rt, octets, number);
-                assert_eq!(rt; Some(&len), LENGTHS.get(lvt), "{octets:?}");
-                let wanted = (lvt == 6, lvt == 7);
-                assert_eq!(rt; tags(&rt, octets, number), wanted, "{octets:?}");
-            }
-        }
+fn heads_of_context_class_are_told_by_their_lvt(rt: HostRuntime) -> Result<(), Fail> {
+    lvt_tells_context(&rt, 0, "08 09 0A 0B 0C 0D 0E 0F")?;
+    lvt_tells_context(&rt, 3, "38 39 3A 3B 3C 3D 3E 3F")?;
+    lvt_tells_context(&rt, 14, "E8 E9 EA EB EC ED EE EF")
+}
+
+/// Of the octets with the number the head of application class has this length, and neither tag begins.
+fn tells_application(rt: &impl Abort, octets: &[u8], number: u8, wanted: Option<usize>) {
+    assert_eq!(rt; application_len(rt, octets, number), wanted, "{octets:?}");
+    assert_eq!(rt; tags(rt, octets, number), (false, false), "{octets:?}");
+}
+
+/// The heads of application class with this number, one for each LVT, are told by it, whatever stands behind.
+fn lvt_tells_application(rt: &impl Abort, number: u8, heads: &str) -> Result<(), Fail> {
+    let heads = octets_of(heads)?;
+    assert_eq!(rt; heads.len(), 8);
+    for (octet, len) in heads.iter().zip(LENGTHS) {
+        tells_application(rt, &[*octet], number, len);
+        tells_application(rt, &[*octet, 0], number, len);
+        tells_application(rt, &[*octet, 0xFF, 0x55], number, len);
     }
+    Ok(())
 }
 
 // By clause 20.2.1.3.1; and no group begins or ends with a head of application class.
 #[test]
-fn heads_of_application_class_are_told_by_their_lvt(rt: HostRuntime) {
-    let table = [
-        (0, [0, 1, 2, 3, 4, 5, 6, 7]),
-        (2, [0x20, 0x21, 0x22, 0x23, 0x24, 0x25, 0x26, 0x27]),
-        (12, [0xC0, 0xC1, 0xC2, 0xC3, 0xC4, 0xC5, 0xC6, 0xC7]),
-    ];
-    for (number, octets) in table {
-        for (lvt, octet) in octets.iter().enumerate() {
-            for octets in [[*octet].as_slice(), &[*octet, 0], &[*octet, 0xFF, 0x55]] {
-                let len = application_len(&rt, octets, number);
-                assert_eq!(rt; Some(&len), LENGTHS.get(lvt), "{octets:?}");
-                assert_eq!(rt; tags(&rt, octets, number), (false, false), "{octets:?}");
-            }
-        }
-    }
+fn heads_of_application_class_are_told_by_their_lvt(rt: HostRuntime) -> Result<(), Fail> {
+    lvt_tells_application(&rt, 0, "00 01 02 03 04 05 06 07")?;
+    lvt_tells_application(&rt, 2, "20 21 22 23 24 25 26 27")?;
+    lvt_tells_application(&rt, 12, "C0 C1 C2 C3 C4 C5 C6 C7")
 }
+
+/// What is told of octets with no short head.
+const NOTHING: (Option<usize>, (bool, bool)) = (None, (false, false));
 
 // The head is of another class or another number.
 #[test]
-fn another_head_is_not_taken(rt: HostRuntime) {
-    for octets in [
-        [0x0C],
-        [0x1C],
-        [0x0E],
-        [0x0F],
-        [0xEC],
-        [0x10],
-        [0x24],
-        [0xE4],
-    ] {
-        assert_eq!(rt; application_len(&rt, &octets, 0), None, "{octets:?}");
-        assert_eq!(rt; application_len(&rt, &octets, 12), None, "{octets:?}");
+fn another_head_is_not_taken(rt: HostRuntime) -> Result<(), Fail> {
+    for octet in octets_of("0C 1C 0E 0F EC 10 24 E4")?.iter() {
+        assert_eq!(rt; application_len(&rt, &[*octet], 0), None, "{octet}");
+        assert_eq!(rt; application_len(&rt, &[*octet], 12), None, "{octet}");
     }
-    for octets in [
-        [0x04],
-        [0x1C],
-        [0x1E],
-        [0x1F],
-        [0xC4],
-        [0xDC],
-        [0xDE],
-        [0xDF],
-    ] {
-        for number in [0, 14] {
-            let found = (
-                context_len(&rt, &octets, number),
-                tags(&rt, &octets, number),
-            );
-            assert_eq!(rt; found, (None, (false, false)), "{octets:?}");
-        }
+    for octet in octets_of("04 1C 1E 1F C4 DC DE DF")?.iter() {
+        tells_context(&rt, &[*octet], 0, NOTHING);
+        tells_context(&rt, &[*octet], 14, NOTHING);
     }
+    Ok(())
+}
+
+/// The number, which stands in a second octet, has no short head that begins with the first.
+fn has_no_short_head(rt: &impl Abort, first: u8, number: u8) {
+    tells_context(rt, &[first], number, NOTHING);
+    tells_context(rt, &[first, number], number, NOTHING);
+    tells_context(rt, &[first, number, 4], number, NOTHING);
 }
 
 // Of example 11 of docs/EXAMPLES.md: 15 to 254 stand in a second octet. Nothing is told where the octets end too early.
 #[test]
-fn larger_numbers_have_no_short_head(rt: HostRuntime) {
-    let octets = [
-        0xF0, 0xF1, 0xF2, 0xF3, 0xF4, 0xF5, 0xF6, 0xF7, 0xF8, 0xF9, 0xFA, 0xFB, 0xFC, 0xFD, 0xFE,
-        0xFF,
-    ];
-    for number in [15, 254] {
-        for octet in octets {
-            for octets in [[octet].as_slice(), &[octet, number], &[octet, number, 4]] {
-                let found = (context_len(&rt, octets, number), tags(&rt, octets, number));
-                assert_eq!(rt; found, (None, (false, false)), "{octets:?}");
-            }
-        }
+fn larger_numbers_have_no_short_head(rt: HostRuntime) -> Result<(), Fail> {
+    for first in octets_of("F0 F1 F2 F3 F4 F5 F6 F7 F8 F9 FA FB FC FD FE FF")?.iter() {
+        has_no_short_head(&rt, *first, 15);
+        has_no_short_head(&rt, *first, 254);
     }
     for number in [0, 14, 15, 254] {
-        let found = (context_len(&rt, &[], number), tags(&rt, &[], number));
-        assert_eq!(rt; found, (None, (false, false)), "of {number}");
+        tells_context(&rt, &[], number, NOTHING);
     }
     for number in [0, 2, 12] {
         assert_eq!(rt; application_len(&rt, &[], number), None, "of {number}");
     }
+    Ok(())
 }
 
 // Of examples 8, 10 and 36 of docs/EXAMPLES.md: a number or a length in more octets than it needs is no least spelling.
 #[test]
-fn longer_spellings_are_not_short(rt: HostRuntime) {
-    let table = [
-        (0, [0xF8, 0].as_slice()),
-        (0, &[0xFC, 0]),
-        (0, &[0xFD, 0, 4]),
-        (0, &[0xFE, 0]),
-        (0, &[0xFF, 0]),
-        (0, &[0x0D, 4]),
-        (0, &[0x0D, 0xFE, 0, 4]),
-        (0, &[0x0D, 0xFF, 0, 0, 0, 4]),
-        (14, &[0xF8, 14]),
-        (14, &[0xFC, 14]),
-        (14, &[0xFE, 14]),
-        (14, &[0xFF, 14]),
-        (14, &[0xED, 4]),
-    ];
-    for (number, octets) in table {
-        let found = (context_len(&rt, octets, number), tags(&rt, octets, number));
-        assert_eq!(rt; found, (None, (false, false)), "{octets:?}");
+fn longer_spellings_are_not_short(rt: HostRuntime) -> Result<(), Fail> {
+    let of_context_class = "
+        F8 00             -> 0
+        FC 00             -> 0
+        FD 00 04          -> 0
+        FE 00             -> 0
+        FF 00             -> 0
+        0D 04             -> 0
+        0D FE 00 04       -> 0
+        0D FF 00 00 00 04 -> 0
+        F8 0E             -> 14
+        FC 0E             -> 14
+        FE 0E             -> 14
+        FF 0E             -> 14
+        ED 04             -> 14
+    ";
+    for row in rows_of(of_context_class)?.iter() {
+        let number = u8::from_str_radix(row.told, 10)?;
+        tells_context(&rt, &octets_of(row.octets)?, number, NOTHING);
     }
-    let table = [
-        (0, [0xF0, 0].as_slice()),
-        (0, &[5, 0]),
-        (2, &[0xF1, 2]),
-        (2, &[0x25, 4]),
-        (2, &[0x25, 0xFE, 0, 4]),
-        (12, &[0xF4, 12]),
-        (12, &[0xC5, 4]),
-    ];
-    for (number, octets) in table {
-        assert_eq!(rt; application_len(&rt, octets, number), None, "{octets:?}");
+    let of_application_class = "
+        F0 00       -> 0
+        05 00       -> 0
+        F1 02       -> 2
+        25 04       -> 2
+        25 FE 00 04 -> 2
+        F4 0C       -> 12
+        C5 04       -> 12
+    ";
+    for row in rows_of(of_application_class)?.iter() {
+        let number = u8::from_str_radix(row.told, 10)?;
+        let found = application_len(&rt, &octets_of(row.octets)?, number);
+        assert_eq!(rt; found, None, "of {}", row.octets);
     }
+    Ok(())
 }

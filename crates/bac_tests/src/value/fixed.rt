@@ -1,7 +1,7 @@
 //! Contents of a fixed length: each other length from 0 to 9 octets is refused.
 
-use super::{judge, kept, refused, refuses_other_lengths};
-use bac_tag::Why;
+use super::{comes_to, judge, refuses_other_lengths};
+use bac_tables::octets_of;
 use bac_value::{Boolean, Date, DoubleBits, Null, ObjectId, Primitive, RealBits, Time};
 use std::test::Fail;
 
@@ -9,22 +9,22 @@ use std::test::Fail;
 #[test]
 fn null_has_no_contents(rt: HostRuntime) -> Result<(), Fail> {
     refuses_other_lengths::<Null>(&rt, rt.alloc(), 0)?;
-    judge::<Null>(&rt, rt.alloc(), &[kept(&[])])
+    judge::<Null>(&rt, rt.alloc(), "none -> itself")
 }
 
 // Of example 39 of docs/EXAMPLES.md.
 #[test]
 fn a_boolean_is_one_octet(rt: HostRuntime) -> Result<(), Fail> {
     refuses_other_lengths::<Boolean>(&rt, rt.alloc(), 1)?;
-    let rows = [
-        kept(&[0]),
-        kept(&[1]),
-        refused(&[2], 0, Why::Content),
-        refused(&[0x80], 0, Why::Content),
-        refused(&[0xFF], 0, Why::Content),
-        refused(&[1, 1], 0, Why::Length),
-    ];
-    judge::<Boolean>(&rt, rt.alloc(), &rows)?;
+    let rows = "
+        00    -> itself
+        01    -> itself
+        02    -> Content at 0
+        80    -> Content at 0
+        FF    -> Content at 0
+        01 01 -> Length at 0
+    ";
+    judge::<Boolean>(&rt, rt.alloc(), rows)?;
     assert_eq!(rt; Boolean::read(rt.alloc(), &[0])?, Boolean(false));
     assert_eq!(rt; Boolean::read(rt.alloc(), &[1])?, Boolean(true));
     Ok(())
@@ -34,15 +34,15 @@ fn a_boolean_is_one_octet(rt: HostRuntime) -> Result<(), Fail> {
 #[test]
 fn real_numbers_are_kept_as_bits(rt: HostRuntime) -> Result<(), Fail> {
     refuses_other_lengths::<RealBits>(&rt, rt.alloc(), 4)?;
-    let rows = [
-        kept(&[0x42, 0x90, 0x99, 0x9A]),
-        kept(&[0; 4]),
-        kept(&[0x80, 0, 0, 0]),
-        kept(&[0x7F, 0x80, 0, 0]),
-        kept(&[0x7F, 0x80, 0, 1]),
-        kept(&[0xFF; 4]),
-    ];
-    judge::<RealBits>(&rt, rt.alloc(), &rows)?;
+    let rows = "
+        42 90 99 9A -> itself
+        00 00 00 00 -> itself
+        80 00 00 00 -> itself
+        7F 80 00 00 -> itself
+        7F 80 00 01 -> itself
+        FF FF FF FF -> itself
+    ";
+    judge::<RealBits>(&rt, rt.alloc(), rows)?;
     let read = RealBits::read(rt.alloc(), &[0x42, 0x90, 0x99, 0x9A])?;
     assert_eq!(rt; read, RealBits(0x4290_999A));
     Ok(())
@@ -52,15 +52,15 @@ fn real_numbers_are_kept_as_bits(rt: HostRuntime) -> Result<(), Fail> {
 #[test]
 fn real_numbers_of_double_precision_are_kept_as_bits(rt: HostRuntime) -> Result<(), Fail> {
     refuses_other_lengths::<DoubleBits>(&rt, rt.alloc(), 8)?;
-    let rows = [
-        kept(&[0x3F, 0xF0, 0, 0, 0, 0, 0, 0]),
-        kept(&[0; 8]),
-        kept(&[0x80, 0, 0, 0, 0, 0, 0, 0]),
-        kept(&[0x7F, 0xF0, 0, 0, 0, 0, 0, 0]),
-        kept(&[0x7F, 0xF0, 0, 0, 0, 0, 0, 1]),
-        kept(&[0xFF; 8]),
-    ];
-    judge::<DoubleBits>(&rt, rt.alloc(), &rows)?;
+    let rows = "
+        3F F0 00 00 00 00 00 00 -> itself
+        00 00 00 00 00 00 00 00 -> itself
+        80 00 00 00 00 00 00 00 -> itself
+        7F F0 00 00 00 00 00 00 -> itself
+        7F F0 00 00 00 00 00 01 -> itself
+        FF FF FF FF FF FF FF FF -> itself
+    ";
+    judge::<DoubleBits>(&rt, rt.alloc(), rows)?;
     let read = DoubleBits::read(rt.alloc(), &[0x3F, 0xF0, 0, 0, 0, 0, 0, 0])?;
     assert_eq!(rt; read, DoubleBits(0x3FF0_0000_0000_0000));
     Ok(())
@@ -70,13 +70,13 @@ fn real_numbers_of_double_precision_are_kept_as_bits(rt: HostRuntime) -> Result<
 #[test]
 fn a_date_is_kept_as_it_is(rt: HostRuntime) -> Result<(), Fail> {
     refuses_other_lengths::<Date>(&rt, rt.alloc(), 4)?;
-    let rows = [
-        kept(&[0x5B, 0x01, 0x18, 0x04]),
-        kept(&[0xFF; 4]),
-        kept(&[0; 4]),
-        kept(&[0, 13, 32, 8]),
-    ];
-    judge::<Date>(&rt, rt.alloc(), &rows)?;
+    let rows = "
+        5B 01 18 04 -> itself
+        FF FF FF FF -> itself
+        00 00 00 00 -> itself
+        00 0D 20 08 -> itself
+    ";
+    judge::<Date>(&rt, rt.alloc(), rows)?;
     let read = Date::read(rt.alloc(), &[0x5B, 0x01, 0x18, 0x04])?;
     assert_eq!(rt; read, Date([91, 1, 24, 4]));
     Ok(())
@@ -86,13 +86,13 @@ fn a_date_is_kept_as_it_is(rt: HostRuntime) -> Result<(), Fail> {
 #[test]
 fn a_time_is_kept_as_it_is(rt: HostRuntime) -> Result<(), Fail> {
     refuses_other_lengths::<Time>(&rt, rt.alloc(), 4)?;
-    let rows = [
-        kept(&[0x11, 0x23, 0x2D, 0x11]),
-        kept(&[0xFF; 4]),
-        kept(&[0; 4]),
-        kept(&[24, 60, 60, 100]),
-    ];
-    judge::<Time>(&rt, rt.alloc(), &rows)?;
+    let rows = "
+        11 23 2D 11 -> itself
+        FF FF FF FF -> itself
+        00 00 00 00 -> itself
+        18 3C 3C 64 -> itself
+    ";
+    judge::<Time>(&rt, rt.alloc(), rows)?;
     let read = Time::read(rt.alloc(), &[0x11, 0x23, 0x2D, 0x11])?;
     assert_eq!(rt; read, Time([17, 35, 45, 17]));
     Ok(())
@@ -103,23 +103,24 @@ fn a_time_is_kept_as_it_is(rt: HostRuntime) -> Result<(), Fail> {
 fn an_identifier_has_ten_bits_of_kind(rt: HostRuntime) -> Result<(), Fail> {
     refuses_other_lengths::<ObjectId>(&rt, rt.alloc(), 4)?;
     let table = [
-        ([0, 0, 0, 5], 0, 5),
-        ([2, 0, 0, 1], 8, 1),
-        ([2, 0, 0, 4], 8, 4),
-        ([0, 0x3F, 0xFF, 0xFF], 0, 4_194_303),
-        ([0, 0x40, 0, 0], 1, 0),
-        ([0xFF, 0xC0, 0, 0], 1023, 0),
-        ([0xFF; 4], 1023, 4_194_303),
+        ("00 00 00 05", 0, 5),
+        ("02 00 00 01", 8, 1),
+        ("02 00 00 04", 8, 4),
+        ("00 3F FF FF", 0, 4_194_303),
+        ("00 40 00 00", 1, 0),
+        ("FF C0 00 00", 1023, 0),
+        ("FF FF FF FF", 1023, 4_194_303),
     ];
-    for (octets, kind, instance) in table {
-        judge::<ObjectId>(&rt, rt.alloc(), &[kept(&octets)])?;
+    for (text, kind, instance) in table {
+        let octets = octets_of(text)?;
+        comes_to::<ObjectId>(&rt, rt.alloc(), &octets, Ok((&octets, None)))?;
         let read = ObjectId::read(rt.alloc(), &octets)?;
         assert_eq!(rt;
             (read.kind(), read.instance()),
             (kind, instance),
-            "of {octets:?}"
+            "of {text}"
         );
-        assert_eq!(rt; ObjectId::new(kind, instance), Some(read), "of {octets:?}");
+        assert_eq!(rt; ObjectId::new(kind, instance), Some(read), "of {text}");
     }
     assert_eq!(rt; ObjectId::new(1024, 0), None);
     assert_eq!(rt; ObjectId::new(0, 4_194_304), None);

@@ -1,127 +1,128 @@
 //! The contents of numbers of any length, of every length from 0 to 9 octets.
 
-use super::{becomes, judge, kept, refused};
-use bac_tag::{Refusal, Why};
+use super::judge;
+use bac_tables::{octets_of, rows_of};
 use bac_value::{
     Enumerated, Instance, Primitive, Priority, Signed, Unsigned, hopeless_number, mark_number,
     read_number, write_number, written_number_len,
 };
+use std::process::Abort;
 use std::test::Fail;
 
 // Of examples 32 and 62 of docs/EXAMPLES.md.
 #[test]
 fn the_fewest_octets_of_an_unsigned_number_are_written(rt: HostRuntime) -> Result<(), Fail> {
-    let rows = [
-        refused(&[], 0, Why::Length),
-        kept(&[0]),
-        kept(&[0x55]),
-        kept(&[0xFF]),
-        becomes(&[0, 0], &[0], 1),
-        becomes(&[0, 0x55], &[0x55], 0),
-        kept(&[1, 0]),
-        becomes(&[0, 1, 0], &[1, 0], 0),
-        kept(&[0x80, 0, 0]),
-        becomes(&[0, 0, 0, 0x80], &[0x80], 0),
-        kept(&[0xFF; 4]),
-        kept(&[1, 0, 0, 0, 0]),
-        becomes(&[0, 0xFF, 0xFF, 0xFF, 0xFF], &[0xFF; 4], 0),
-        becomes(&[0; 6], &[0], 1),
-        kept(&[1, 2, 3, 4, 5, 6]),
-        becomes(&[0, 0, 1, 0, 0, 0, 0], &[1, 0, 0, 0, 0], 0),
-        kept(&[0x80, 0, 0, 0, 0, 0, 0]),
-        becomes(&[0; 8], &[0], 1),
-        becomes(&[0, 0, 0, 0, 0, 0, 0, 0x55], &[0x55], 0),
-        kept(&[0xFF; 8]),
-        refused(&[0; 9], 0, Why::Length),
-        refused(&[0, 0, 0, 0, 0, 0, 0, 0, 0x55], 0, Why::Length),
-        refused(&[0xFF; 9], 0, Why::Length),
-    ];
-    judge::<Unsigned>(&rt, rt.alloc(), &rows)
+    let rows = "
+        none                       -> Length at 0
+        00                         -> itself
+        55                         -> itself
+        FF                         -> itself
+        00 00                      -> 00, differs at 1
+        00 55                      -> 55, differs at 0
+        01 00                      -> itself
+        00 01 00                   -> 01 00, differs at 0
+        80 00 00                   -> itself
+        00 00 00 80                -> 80, differs at 0
+        FF FF FF FF                -> itself
+        01 00 00 00 00             -> itself
+        00 FF FF FF FF             -> FF FF FF FF, differs at 0
+        00 00 00 00 00 00          -> 00, differs at 1
+        01 02 03 04 05 06          -> itself
+        00 00 01 00 00 00 00       -> 01 00 00 00 00, differs at 0
+        80 00 00 00 00 00 00       -> itself
+        00 00 00 00 00 00 00 00    -> 00, differs at 1
+        00 00 00 00 00 00 00 55    -> 55, differs at 0
+        FF FF FF FF FF FF FF FF    -> itself
+        00 00 00 00 00 00 00 00 00 -> Length at 0
+        00 00 00 00 00 00 00 00 55 -> Length at 0
+        FF FF FF FF FF FF FF FF FF -> Length at 0
+    ";
+    judge::<Unsigned>(&rt, rt.alloc(), rows)
 }
 
 // Of examples 12 and 38 of docs/EXAMPLES.md.
 #[test]
 fn the_fewest_octets_of_a_signed_number_are_written(rt: HostRuntime) -> Result<(), Fail> {
-    let rows = [
-        refused(&[], 0, Why::Length),
-        kept(&[0]),
-        kept(&[0x7F]),
-        kept(&[0x80]),
-        kept(&[0xFF]),
-        becomes(&[0, 0], &[0], 1),
-        becomes(&[0, 0x7F], &[0x7F], 0),
-        kept(&[0, 0x80]),
-        kept(&[0x7F, 0xFF]),
-        kept(&[0x80, 0]),
-        kept(&[0xFF, 0x7F]),
-        becomes(&[0xFF, 0x80], &[0x80], 0),
-        becomes(&[0xFF, 0xFF], &[0xFF], 1),
-        becomes(&[0, 0, 0x80], &[0, 0x80], 1),
-        becomes(&[0xFF, 0xFF, 0x7F], &[0xFF, 0x7F], 1),
-        kept(&[0, 0x80, 0]),
-        kept(&[0x80, 0, 0, 0]),
-        becomes(&[0xFF, 0xFF, 0xFF, 0xFE], &[0xFE], 0),
-        becomes(&[0, 0, 0, 0x80, 0], &[0, 0x80, 0], 1),
-        kept(&[0xFF, 0x7F, 0, 0, 0]),
-        becomes(&[0xFF; 6], &[0xFF], 1),
-        kept(&[0x7F, 0xFF, 0xFF, 0xFF, 0xFF, 0xFF]),
-        becomes(&[0, 0, 0, 0, 0, 0, 1], &[1], 0),
-        kept(&[0x80, 0, 0, 0, 0, 0, 0]),
-    ];
-    judge::<Signed>(&rt, rt.alloc(), &rows)
+    let rows = "
+        none                 -> Length at 0
+        00                   -> itself
+        7F                   -> itself
+        80                   -> itself
+        FF                   -> itself
+        00 00                -> 00, differs at 1
+        00 7F                -> 7F, differs at 0
+        00 80                -> itself
+        7F FF                -> itself
+        80 00                -> itself
+        FF 7F                -> itself
+        FF 80                -> 80, differs at 0
+        FF FF                -> FF, differs at 1
+        00 00 80             -> 00 80, differs at 1
+        FF FF 7F             -> FF 7F, differs at 1
+        00 80 00             -> itself
+        80 00 00 00          -> itself
+        FF FF FF FE          -> FE, differs at 0
+        00 00 00 80 00       -> 00 80 00, differs at 1
+        FF 7F 00 00 00       -> itself
+        FF FF FF FF FF FF    -> FF, differs at 1
+        7F FF FF FF FF FF    -> itself
+        00 00 00 00 00 00 01 -> 01, differs at 0
+        80 00 00 00 00 00 00 -> itself
+    ";
+    judge::<Signed>(&rt, rt.alloc(), rows)
 }
 
 // Of example 38 of docs/EXAMPLES.md.
 #[test]
 fn eight_octets_hold_every_signed_number(rt: HostRuntime) -> Result<(), Fail> {
-    let rows = [
-        becomes(&[0; 8], &[0], 1),
-        becomes(&[0xFF; 8], &[0xFF], 1),
-        kept(&[0x80, 0, 0, 0, 0, 0, 0, 0]),
-        kept(&[0x7F, 0xFF, 0xFF, 0xFF, 0xFF, 0xFF, 0xFF, 0xFF]),
-        becomes(
-            &[0xFF, 0x80, 0, 0, 0, 0, 0, 0],
-            &[0x80, 0, 0, 0, 0, 0, 0],
-            0,
-        ),
-        kept(&[0xFF, 0x7F, 0, 0, 0, 0, 0, 0]),
-        becomes(&[0, 0x7F, 0, 0, 0, 0, 0, 0], &[0x7F, 0, 0, 0, 0, 0, 0], 0),
-        kept(&[0, 0x80, 0, 0, 0, 0, 0, 0]),
-        refused(&[0; 9], 0, Why::Length),
-        refused(&[0xFF; 9], 0, Why::Length),
-    ];
-    judge::<Signed>(&rt, rt.alloc(), &rows)
+    let rows = "
+        00 00 00 00 00 00 00 00    -> 00, differs at 1
+        FF FF FF FF FF FF FF FF    -> FF, differs at 1
+        80 00 00 00 00 00 00 00    -> itself
+        7F FF FF FF FF FF FF FF    -> itself
+        FF 80 00 00 00 00 00 00    -> 80 00 00 00 00 00 00, differs at 0
+        FF 7F 00 00 00 00 00 00    -> itself
+        00 7F 00 00 00 00 00 00    -> 7F 00 00 00 00 00 00, differs at 0
+        00 80 00 00 00 00 00 00    -> itself
+        00 00 00 00 00 00 00 00 00 -> Length at 0
+        FF FF FF FF FF FF FF FF FF -> Length at 0
+    ";
+    judge::<Signed>(&rt, rt.alloc(), rows)
 }
 
 // Of examples 5, 6 and 21 of docs/EXAMPLES.md.
 #[test]
 fn the_most_significant_octet_comes_first(rt: HostRuntime) -> Result<(), Fail> {
-    let unsigned = [
-        ([0x63].as_slice(), 99),
-        (&[1, 0xE0], 480),
-        (&[0x3F, 0xFF, 0xFF], 4_194_303),
-        (&[1, 0, 0, 0, 0], 4_294_967_296),
-        (&[0xFF; 8], u64::MAX),
-    ];
-    for (octets, number) in unsigned {
+    let unsigned = "
+        63                      -> 99
+        01 E0                   -> 480
+        3F FF FF                -> 4194303
+        01 00 00 00 00          -> 4294967296
+        FF FF FF FF FF FF FF FF -> 18446744073709551615
+    ";
+    for row in rows_of(unsigned)?.iter() {
+        let Unsigned(number) = Unsigned::read(rt.alloc(), &octets_of(row.octets)?)?;
         assert_eq!(rt;
-            Unsigned::read(rt.alloc(), octets)?,
-            Unsigned(number),
-            "of {octets:?}"
+            Ok(number),
+            u64::from_str_radix(row.told, 10),
+            "of {}",
+            row.octets
         );
     }
-    let enumerated = [
-        ([3].as_slice(), 3),
-        (&[2], 2),
-        (&[0, 2], 2),
-        (&[1, 0], 256),
-        (&[0, 0xFF, 0xFF, 0xFF, 0xFF], u32::MAX),
-    ];
-    for (octets, number) in enumerated {
+    let enumerated = "
+        03             -> 3
+        02             -> 2
+        00 02          -> 2
+        01 00          -> 256
+        00 FF FF FF FF -> 4294967295
+    ";
+    for row in rows_of(enumerated)?.iter() {
+        let Enumerated(number) = Enumerated::read(rt.alloc(), &octets_of(row.octets)?)?;
         assert_eq!(rt;
-            Enumerated::read(rt.alloc(), octets)?,
-            Enumerated(number),
-            "of {octets:?}"
+            Ok(number),
+            u32::from_str_radix(row.told, 10),
+            "of {}",
+            row.octets
         );
     }
     Ok(())
@@ -130,21 +131,23 @@ fn the_most_significant_octet_comes_first(rt: HostRuntime) -> Result<(), Fail> {
 // Of examples 12 and 38 of docs/EXAMPLES.md.
 #[test]
 fn signed_numbers_are_in_twos_complement(rt: HostRuntime) -> Result<(), Fail> {
-    let table = [
-        ([0xFF, 0xFF].as_slice(), -1),
-        (&[0xFF], -1),
-        (&[0, 0x80], 128),
-        (&[0x80], -128),
-        (&[0, 0, 0x80], 128),
-        (&[0x80, 0], -32_768),
-        (&[0x80, 0, 0, 0, 0, 0, 0, 0], i64::MIN),
-        (&[0x7F, 0xFF, 0xFF, 0xFF, 0xFF, 0xFF, 0xFF, 0xFF], i64::MAX),
-    ];
-    for (octets, number) in table {
+    let table = "
+        FF FF                   -> -1
+        FF                      -> -1
+        00 80                   -> 128
+        80                      -> -128
+        00 00 80                -> 128
+        80 00                   -> -32768
+        80 00 00 00 00 00 00 00 -> -9223372036854775808
+        7F FF FF FF FF FF FF FF -> 9223372036854775807
+    ";
+    for row in rows_of(table)?.iter() {
+        let Signed(number) = Signed::read(rt.alloc(), &octets_of(row.octets)?)?;
         assert_eq!(rt;
-            Signed::read(rt.alloc(), octets)?,
-            Signed(number),
-            "of {octets:?}"
+            Ok(number),
+            i64::from_str_radix(row.told, 10),
+            "of {}",
+            row.octets
         );
     }
     Ok(())
@@ -153,117 +156,123 @@ fn signed_numbers_are_in_twos_complement(rt: HostRuntime) -> Result<(), Fail> {
 // Of examples 21 and 32 of docs/EXAMPLES.md.
 #[test]
 fn the_fewest_octets_of_an_enumerated_number_are_written(rt: HostRuntime) -> Result<(), Fail> {
-    let rows = [
-        refused(&[], 0, Why::Length),
-        kept(&[0]),
-        kept(&[0xFF]),
-        becomes(&[0, 0], &[0], 1),
-        becomes(&[0, 2], &[2], 0),
-        kept(&[2, 0]),
-        becomes(&[0, 0, 1], &[1], 0),
-        kept(&[1, 0, 0]),
-        becomes(&[0; 4], &[0], 1),
-        kept(&[0x80, 0, 0, 0]),
-        kept(&[0xFF; 4]),
-        becomes(&[0, 0xFF, 0xFF, 0xFF, 0xFF], &[0xFF; 4], 0),
-        becomes(&[0; 5], &[0], 1),
-        refused(&[1, 0, 0, 0, 0], 0, Why::Content),
-        refused(&[0xFF; 5], 0, Why::Content),
-    ];
-    judge::<Enumerated>(&rt, rt.alloc(), &rows)
+    let rows = "
+        none           -> Length at 0
+        00             -> itself
+        FF             -> itself
+        00 00          -> 00, differs at 1
+        00 02          -> 02, differs at 0
+        02 00          -> itself
+        00 00 01       -> 01, differs at 0
+        01 00 00       -> itself
+        00 00 00 00    -> 00, differs at 1
+        80 00 00 00    -> itself
+        FF FF FF FF    -> itself
+        00 FF FF FF FF -> FF FF FF FF, differs at 0
+        00 00 00 00 00 -> 00, differs at 1
+        01 00 00 00 00 -> Content at 0
+        FF FF FF FF FF -> Content at 0
+    ";
+    judge::<Enumerated>(&rt, rt.alloc(), rows)
 }
 
 #[test]
 fn in_front_of_an_enumerated_number_stand_zeros(rt: HostRuntime) -> Result<(), Fail> {
-    let rows = [
-        becomes(&[0, 0, 1, 2, 3, 4], &[1, 2, 3, 4], 0),
-        refused(&[1, 0, 0, 0, 0, 0], 0, Why::Content),
-        refused(&[0, 1, 0, 0, 0, 0], 1, Why::Content),
-        becomes(&[0, 0, 0, 0xFF, 0xFF, 0xFF, 0xFF], &[0xFF; 4], 0),
-        refused(&[0, 0, 1, 0, 0, 0, 0], 2, Why::Content),
-        refused(&[0, 0xFF, 1, 0, 0, 0, 0], 1, Why::Content),
-        becomes(&[0; 8], &[0], 1),
-        becomes(&[0, 0, 0, 0, 0xFF, 0xFF, 0xFF, 0xFF], &[0xFF; 4], 0),
-        becomes(&[0, 0, 0, 0, 0, 0, 0, 2], &[2], 0),
-        refused(&[0, 0, 0, 1, 0, 0, 0, 0], 3, Why::Content),
-        refused(&[0xFF; 8], 0, Why::Content),
-        refused(&[0; 9], 0, Why::Length),
-        refused(&[1; 9], 0, Why::Length),
-    ];
-    judge::<Enumerated>(&rt, rt.alloc(), &rows)
+    let rows = "
+        00 00 01 02 03 04          -> 01 02 03 04, differs at 0
+        01 00 00 00 00 00          -> Content at 0
+        00 01 00 00 00 00          -> Content at 1
+        00 00 00 FF FF FF FF       -> FF FF FF FF, differs at 0
+        00 00 01 00 00 00 00       -> Content at 2
+        00 FF 01 00 00 00 00       -> Content at 1
+        00 00 00 00 00 00 00 00    -> 00, differs at 1
+        00 00 00 00 FF FF FF FF    -> FF FF FF FF, differs at 0
+        00 00 00 00 00 00 00 02    -> 02, differs at 0
+        00 00 00 01 00 00 00 00    -> Content at 3
+        FF FF FF FF FF FF FF FF    -> Content at 0
+        00 00 00 00 00 00 00 00 00 -> Length at 0
+        01 01 01 01 01 01 01 01 01 -> Length at 0
+    ";
+    judge::<Enumerated>(&rt, rt.alloc(), rows)
 }
 
 // Of example 17 of docs/EXAMPLES.md.
 #[test]
 fn a_priority_is_1_to_16(rt: HostRuntime) -> Result<(), Fail> {
-    let rows = [
-        refused(&[], 0, Why::Length),
-        refused(&[0], 0, Why::Content),
-        kept(&[1]),
-        kept(&[8]),
-        kept(&[16]),
-        refused(&[17], 0, Why::Content),
-        refused(&[0, 0], 1, Why::Content),
-        becomes(&[0, 16], &[16], 0),
-        refused(&[0, 17], 1, Why::Content),
-        refused(&[1, 0], 0, Why::Content),
-        becomes(&[0, 0, 0, 0, 0, 0, 0, 8], &[8], 0),
-        refused(&[0; 8], 7, Why::Content),
-        refused(&[0, 0, 0, 0, 0, 0, 1, 0], 6, Why::Content),
-        refused(&[0, 0, 0, 0, 0, 0, 0, 0, 8], 0, Why::Length),
-    ];
-    judge::<Priority>(&rt, rt.alloc(), &rows)
+    let rows = "
+        none                       -> Length at 0
+        00                         -> Content at 0
+        01                         -> itself
+        08                         -> itself
+        10                         -> itself
+        11                         -> Content at 0
+        00 00                      -> Content at 1
+        00 10                      -> 10, differs at 0
+        00 11                      -> Content at 1
+        01 00                      -> Content at 0
+        00 00 00 00 00 00 00 08    -> 08, differs at 0
+        00 00 00 00 00 00 00 00    -> Content at 7
+        00 00 00 00 00 00 01 00    -> Content at 6
+        00 00 00 00 00 00 00 00 08 -> Length at 0
+    ";
+    judge::<Priority>(&rt, rt.alloc(), rows)
 }
 
 // Of example 5 of docs/EXAMPLES.md.
 #[test]
 fn an_instance_is_at_most_4_194_303(rt: HostRuntime) -> Result<(), Fail> {
-    let rows = [
-        refused(&[], 0, Why::Length),
-        kept(&[0]),
-        kept(&[1, 0]),
-        kept(&[0x3F, 0xFF, 0xFF]),
-        refused(&[0x40, 0, 0], 0, Why::Content),
-        becomes(&[0, 0], &[0], 1),
-        becomes(&[0, 0x3F, 0xFF, 0xFF], &[0x3F, 0xFF, 0xFF], 0),
-        refused(&[0, 0x40, 0, 0], 1, Why::Content),
-        refused(&[1, 0, 0, 0], 0, Why::Content),
-        becomes(&[0; 8], &[0], 1),
-        becomes(&[0, 0, 0, 0, 0, 0x3F, 0xFF, 0xFF], &[0x3F, 0xFF, 0xFF], 0),
-        refused(&[0, 0, 0, 0, 0, 0x40, 0, 0], 5, Why::Content),
-        refused(&[0; 9], 0, Why::Length),
-    ];
-    judge::<Instance>(&rt, rt.alloc(), &rows)
+    let rows = "
+        none                       -> Length at 0
+        00                         -> itself
+        01 00                      -> itself
+        3F FF FF                   -> itself
+        40 00 00                   -> Content at 0
+        00 00                      -> 00, differs at 1
+        00 3F FF FF                -> 3F FF FF, differs at 0
+        00 40 00 00                -> Content at 1
+        01 00 00 00                -> Content at 0
+        00 00 00 00 00 00 00 00    -> 00, differs at 1
+        00 00 00 00 00 3F FF FF    -> 3F FF FF, differs at 0
+        00 00 00 00 00 40 00 00    -> Content at 5
+        00 00 00 00 00 00 00 00 00 -> Length at 0
+    ";
+    judge::<Instance>(&rt, rt.alloc(), rows)
+}
+
+/// Each row of the table tells the number of this range that the octets are, or where they leave the range.
+fn tells_numbers(rt: &impl Abort, least: u64, most: u64, table: &str) -> Result<(), Fail> {
+    for row in rows_of(table)?.iter() {
+        match read_number(&octets_of(row.octets)?, least, most) {
+            Ok(number) => {
+                let wanted = u64::from_str_radix(row.told, 10);
+                assert_eq!(rt; Ok(number), wanted, "of {}", row.octets);
+            }
+            Err(refusal) => {
+                let found = (refusal.why.name(), refusal.place);
+                assert_eq!(rt; found, row.refusal()?, "of {}", row.octets);
+            }
+        }
+    }
+    Ok(())
 }
 
 // Of examples 5 and 17 of docs/EXAMPLES.md.
 #[test]
 fn the_first_octet_that_leaves_the_range_is_told(rt: HostRuntime) -> Result<(), Fail> {
-    let at = |place| {
-        Err(Refusal {
-            place,
-            why: Why::Content,
-        })
-    };
-    let instances = [
-        ([0x3F, 0xFF, 0xFF].as_slice(), Ok(4_194_303)),
-        (&[0x40, 0, 0], at(0)),
-        (&[0, 0x40, 0, 0], at(1)),
-    ];
-    for (octets, wanted) in instances {
-        assert_eq!(rt; read_number(octets, 0, 4_194_303), wanted, "of {octets:?}");
-    }
-    let priorities = [
-        ([8].as_slice(), Ok(8)),
-        (&[17], at(0)),
-        (&[0, 16], Ok(16)),
-        (&[0, 17], at(1)),
-        (&[0, 0], at(1)),
-    ];
-    for (octets, wanted) in priorities {
-        assert_eq!(rt; read_number(octets, 1, 16), wanted, "of {octets:?}");
-    }
-    Ok(())
+    let instances = "
+        3F FF FF    -> 4194303
+        40 00 00    -> Content at 0
+        00 40 00 00 -> Content at 1
+    ";
+    tells_numbers(&rt, 0, 4_194_303, instances)?;
+    let priorities = "
+        08    -> 8
+        11    -> Content at 0
+        00 10 -> 16
+        00 11 -> Content at 1
+        00 00 -> Content at 1
+    ";
+    tells_numbers(&rt, 1, 16, priorities)
 }
 
 // Of example 62 of docs/EXAMPLES.md.

@@ -2,6 +2,7 @@
 
 ghost use Rattle.std.specs.Prelude.{◌≤◌};
 
+use bac_tables::octets_of;
 use bac_tag::{OutOfMemory, Refusal, Why};
 use bac_value::{
     Bits, Instance, Null, ObjectId, Octets, Prim, PrimRef, Primitive, Priority, RealBits, Text,
@@ -16,19 +17,20 @@ fn rewrites(
     rt: &impl Abort,
     alloc: Global,
     number: u8,
-    octets: &[u8],
-    written: &[u8],
+    octets: &str,
+    written: &str,
     mark: Option<usize>,
 ) -> Result<(), Fail>
     requires { number ≤ 12 }
 {
-    let prim = Prim::read(alloc, number, octets)?;
+    let (octets, written) = (octets_of(octets)?, octets_of(written)?);
+    let prim = Prim::read(alloc, number, &octets)?;
     assert_eq!(rt; prim.number(), number);
-    assert_eq!(rt; prim.mark(octets), mark, "of tag {number}");
+    assert_eq!(rt; prim.mark(&octets), mark, "of tag {number}");
     assert_eq!(rt; prim.written_len(), written.len(), "of tag {number}");
     let mut out = Vec::new(alloc);
     prim.write(&mut out)?;
-    assert_eq!(rt; out.as_slice(), written, "of tag {number}");
+    assert_eq!(rt; out.as_slice(), written.as_slice(), "of tag {number}");
     assert_eq!(rt; prim.as_prim_ref().number(), number);
     assert!(rt; is_borrowed_again(alloc, &prim)?, "of tag {number}");
     Ok(())
@@ -43,46 +45,49 @@ fn is_borrowed_again(alloc: Global, prim: &Prim) -> Result<bool, OutOfMemory> {
 
 #[test]
 fn each_type_is_read_by_its_application_number(rt: HostRuntime) -> Result<(), Fail> {
-    let real = [0x42, 0x90, 0x99, 0x9A];
-    let double = [0x3F, 0xF0, 0, 0, 0, 0, 0, 0];
-    rewrites(&rt, rt.alloc(), 0, &[], &[], None)?;
-    rewrites(&rt, rt.alloc(), 1, &[1], &[1], None)?;
-    rewrites(&rt, rt.alloc(), 2, &[0, 0x55], &[0x55], Some(0))?;
-    rewrites(&rt, rt.alloc(), 3, &[0xFF, 0xFF], &[0xFF], Some(1))?;
-    rewrites(&rt, rt.alloc(), 4, &real, &real, None)?;
-    rewrites(&rt, rt.alloc(), 5, &double, &double, None)?;
-    rewrites(&rt, rt.alloc(), 6, &[0xAB], &[0xAB], None)?;
-    rewrites(&rt, rt.alloc(), 7, &[5, 0xE9], &[5, 0xE9], None)?;
-    rewrites(&rt, rt.alloc(), 8, &[4, 0xFF], &[4, 0xF0], Some(1))?;
-    rewrites(&rt, rt.alloc(), 9, &[0, 2], &[2], Some(0))?;
-    rewrites(&rt, rt.alloc(), 10, &[91, 1, 24, 4], &[91, 1, 24, 4], None)?;
-    rewrites(
-        &rt,
-        rt.alloc(),
-        11,
-        &[17, 35, 45, 17],
-        &[17, 35, 45, 17],
-        None,
-    )?;
-    rewrites(&rt, rt.alloc(), 12, &[2, 0, 0, 4], &[2, 0, 0, 4], None)
+    let (real, double) = ("42 90 99 9A", "3F F0 00 00 00 00 00 00");
+    rewrites(&rt, rt.alloc(), 0, "none", "none", None)?;
+    rewrites(&rt, rt.alloc(), 1, "01", "01", None)?;
+    rewrites(&rt, rt.alloc(), 2, "00 55", "55", Some(0))?;
+    rewrites(&rt, rt.alloc(), 3, "FF FF", "FF", Some(1))?;
+    rewrites(&rt, rt.alloc(), 4, real, real, None)?;
+    rewrites(&rt, rt.alloc(), 5, double, double, None)?;
+    rewrites(&rt, rt.alloc(), 6, "AB", "AB", None)?;
+    rewrites(&rt, rt.alloc(), 7, "05 E9", "05 E9", None)?;
+    rewrites(&rt, rt.alloc(), 8, "04 FF", "04 F0", Some(1))?;
+    rewrites(&rt, rt.alloc(), 9, "00 02", "02", Some(0))?;
+    rewrites(&rt, rt.alloc(), 10, "5B 01 18 04", "5B 01 18 04", None)?;
+    rewrites(&rt, rt.alloc(), 11, "11 23 2D 11", "11 23 2D 11", None)?;
+    rewrites(&rt, rt.alloc(), 12, "02 00 00 04", "02 00 00 04", None)
+}
+
+/// The contents under an application number are refused so.
+fn refuses(
+    rt: &impl Abort,
+    alloc: Global,
+    number: u8,
+    octets: &str,
+    place: usize,
+    why: Why,
+) -> Result<(), Fail>
+    requires { number ≤ 12 }
+{
+    let refusal = Prim::read(alloc, number, &octets_of(octets)?).err();
+    assert_eq!(rt; refusal, Some(Refusal { place, why }), "of tag {number}");
+    Ok(())
 }
 
 #[test]
-fn a_refusal_is_that_of_the_type(rt: HostRuntime) {
-    let table: [(u8, &[u8], usize, Why); 5] = [
-        (0, &[0], 0, Why::Length),
-        (1, &[2], 0, Why::Content),
-        (8, &[3], 0, Why::Content),
-        (9, &[0, 1, 0, 0, 0, 0], 1, Why::Content),
-        (12, &[0, 0, 5], 0, Why::Length),
-    ];
-    for (number, octets, place, why) in table {
-        let refusal = Prim::read(rt.alloc(), number, octets).err();
-        assert_eq!(rt; refusal, Some(Refusal { place, why }), "of tag {number}");
-    }
+fn a_refusal_is_that_of_the_type(rt: HostRuntime) -> Result<(), Fail> {
+    refuses(&rt, rt.alloc(), 0, "00", 0, Why::Length)?;
+    refuses(&rt, rt.alloc(), 1, "02", 0, Why::Content)?;
+    refuses(&rt, rt.alloc(), 8, "03", 0, Why::Content)?;
+    refuses(&rt, rt.alloc(), 9, "00 01 00 00 00 00", 1, Why::Content)?;
+    refuses(&rt, rt.alloc(), 12, "00 00 05", 0, Why::Length)?;
     assert_eq!(rt; Prim::lengths(9), (1, 8));
     assert_eq!(rt; Prim::hopeless(9, &[1], 5), Some(0));
     assert_eq!(rt; Prim::hopeless(9, &[0], 5), None);
+    Ok(())
 }
 
 #[test]

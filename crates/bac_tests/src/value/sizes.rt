@@ -2,7 +2,7 @@
 
 ghost use Rattle.std.specs.Prelude.{◌≤◌, ◌<◌};
 
-use crate::sizes::mixed;
+use bac_tables::{mixed, octets_of};
 use bac_value::{
     Bits, Octets, Prim, PrimRef, Primitive, Text, append_written, mark_contents, write_number,
     written_len_of,
@@ -166,31 +166,32 @@ fn bits_of_every_size_are_kept(rt: HostRuntime) -> Result<(), Fail> {
 #[test]
 fn values_are_written_behind_many_octets(rt: HostRuntime) -> Result<(), Fail> {
     let alloc = rt.alloc();
-    let table: [(u8, &[u8]); 13] = [
-        (0, &[]),
-        (1, &[1]),
-        (2, &[1, 2, 3, 4, 5, 6, 7, 8]),
-        (3, &[0x80, 0]),
-        (4, &[0x42, 0x90, 0x99, 0x9A]),
-        (5, &[0x3F, 0xF0, 0, 0, 0, 0, 0, 0]),
-        (6, &[0xAB]),
-        (7, &[5, 0xE9]),
-        (8, &[4, 0xF0]),
-        (9, &[1, 0]),
-        (10, &[91, 1, 24, 4]),
-        (11, &[17, 35, 45, 17]),
-        (12, &[2, 0, 0, 4]),
-    ];
     let front = mixed(alloc, 1_048_576)?;
+    let table = [
+        (0, "none"),
+        (1, "01"),
+        (2, "01 02 03 04 05 06 07 08"),
+        (3, "80 00"),
+        (4, "42 90 99 9A"),
+        (5, "3F F0 00 00 00 00 00 00"),
+        (6, "AB"),
+        (7, "05 E9"),
+        (8, "04 F0"),
+        (9, "01 00"),
+        (10, "5B 01 18 04"),
+        (11, "11 23 2D 11"),
+        (12, "02 00 00 04"),
+    ];
     for (number, contents) in table {
+        let contents = octets_of(contents)?;
         assert!(rt; number <= 12);
-        let prim = Prim::read(alloc, number, contents)?;
+        let prim = Prim::read(alloc, number, &contents)?;
         let mut out = Vec::from_slice(alloc, &front)?;
         prim.write(&mut out)?;
-        are_joined(&rt, &out, &front, contents);
+        are_joined(&rt, &out, &front, &contents);
         let mut out = Vec::from_slice(alloc, &front)?;
-        append_written(number, contents, &mut out)?;
-        are_joined(&rt, &out, &front, contents);
+        append_written(number, &contents, &mut out)?;
+        are_joined(&rt, &out, &front, &contents);
     }
     let mut out = Vec::from_slice(alloc, &front)?;
     write_number(0x0102, &mut out)?;

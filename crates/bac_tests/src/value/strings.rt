@@ -1,26 +1,26 @@
 //! The contents of strings, of every length from 0 to 9 octets.
 
-use super::{becomes, judge, kept, refused};
-use bac_tag::Why;
+use super::judge;
+use bac_tables::octets_of;
 use bac_value::{Bits, Octets, Primitive, Text};
 use std::test::Fail;
 
 // Of example 32 of docs/EXAMPLES.md.
 #[test]
 fn octets_are_their_own_contents(rt: HostRuntime) -> Result<(), Fail> {
-    let rows = [
-        kept(&[]),
-        kept(&[0xAB]),
-        kept(&[0, 0]),
-        kept(&[0xFF, 0, 0xFF]),
-        kept(&[0; 4]),
-        kept(&[0xFF; 5]),
-        kept(&[1, 2, 3, 4, 5, 6]),
-        kept(&[0; 7]),
-        kept(&[8, 7, 6, 5, 4, 3, 2, 1]),
-        kept(&[0xFF; 9]),
-    ];
-    judge::<Octets>(&rt, rt.alloc(), &rows)?;
+    let rows = "
+        none                       -> itself
+        AB                         -> itself
+        00 00                      -> itself
+        FF 00 FF                   -> itself
+        00 00 00 00                -> itself
+        FF FF FF FF FF             -> itself
+        01 02 03 04 05 06          -> itself
+        00 00 00 00 00 00 00       -> itself
+        08 07 06 05 04 03 02 01    -> itself
+        FF FF FF FF FF FF FF FF FF -> itself
+    ";
+    judge::<Octets>(&rt, rt.alloc(), rows)?;
     let value = Octets::new(rt.alloc(), &[0xAB])?;
     assert_eq!(rt; value.octets(), [0xAB].as_slice());
     let mut out = Vec::new(rt.alloc());
@@ -32,21 +32,21 @@ fn octets_are_their_own_contents(rt: HostRuntime) -> Result<(), Fail> {
 // Of examples 16, 32 and 39 of docs/EXAMPLES.md.
 #[test]
 fn a_text_has_its_set_in_front(rt: HostRuntime) -> Result<(), Fail> {
-    let rows = [
-        refused(&[], 0, Why::Length),
-        kept(&[0]),
-        kept(&[0xFF]),
-        kept(&[5, 0xE9]),
-        kept(&[0, 0xE9]),
-        kept(&[4, 0, 0x41]),
-        kept(&[0; 4]),
-        kept(&[3, 0, 0, 0, 0x41]),
-        kept(&[0, 0x48, 0x65, 0x6C, 0x6C, 0x6F]),
-        kept(&[0xFF; 7]),
-        kept(&[1, 2, 3, 4, 5, 6, 7, 8]),
-        kept(&[0; 9]),
-    ];
-    judge::<Text>(&rt, rt.alloc(), &rows)?;
+    let rows = "
+        none                       -> Length at 0
+        00                         -> itself
+        FF                         -> itself
+        05 E9                      -> itself
+        00 E9                      -> itself
+        04 00 41                   -> itself
+        00 00 00 00                -> itself
+        03 00 00 00 41             -> itself
+        00 48 65 6C 6C 6F          -> itself
+        FF FF FF FF FF FF FF       -> itself
+        01 02 03 04 05 06 07 08    -> itself
+        00 00 00 00 00 00 00 00 00 -> itself
+    ";
+    judge::<Text>(&rt, rt.alloc(), rows)?;
     let mut out = Vec::new(rt.alloc());
     Text::new(rt.alloc(), 5, &[0xE9])?.write(&mut out)?;
     assert_eq!(rt; out.as_slice(), [5, 0xE9].as_slice());
@@ -57,14 +57,15 @@ fn a_text_has_its_set_in_front(rt: HostRuntime) -> Result<(), Fail> {
 #[test]
 fn only_a_text_of_set_0_is_utf_8(rt: HostRuntime) -> Result<(), Fail> {
     let table = [
-        ([0, 0x48, 0x65, 0x6C, 0x6C, 0x6F].as_slice(), Some("Hello")),
-        (&[0], Some("")),
-        (&[0, 0xE9], None),
-        (&[5, 0xE9], None),
-        (&[5, 0x41], None),
+        ("00 48 65 6C 6C 6F", Some("Hello")),
+        ("00", Some("")),
+        ("00 E9", None),
+        ("05 E9", None),
+        ("05 41", None),
     ];
     for (octets, wanted) in table {
-        let text = Text::read(rt.alloc(), octets)?;
+        let octets = octets_of(octets)?;
+        let text = Text::read(rt.alloc(), &octets)?;
         assert_eq!(rt; Some(&text.set()), octets.first());
         assert_eq!(rt; Some(text.octets()), octets.get(1..));
         assert_eq!(rt; text.as_utf8(), wanted, "of {octets:?}");
@@ -75,55 +76,51 @@ fn only_a_text_of_set_0_is_utf_8(rt: HostRuntime) -> Result<(), Fail> {
 // Of examples 13 and 39 of docs/EXAMPLES.md.
 #[test]
 fn unused_bits_are_written_as_zeros(rt: HostRuntime) -> Result<(), Fail> {
-    let rows = [
-        kept(&[0]),
-        kept(&[0, 0xFF]),
-        becomes(&[4, 0xFF], &[4, 0xF0], 1),
-        kept(&[4, 0xF0]),
-        becomes(&[1, 1], &[1, 0], 1),
-        becomes(&[7, 0x7F], &[7, 0], 1),
-        kept(&[7, 0x80]),
-        kept(&[0, 0, 0]),
-        becomes(&[7, 0xFF, 0xFF], &[7, 0xFF, 0x80], 2),
-        becomes(&[2, 1, 2, 3], &[2, 1, 2, 0], 3),
-        kept(&[5, 0x1F, 0x1F, 0x1F, 0x20]),
-        becomes(&[5, 0, 0, 0, 0x1F], &[5, 0, 0, 0, 0], 4),
-        becomes(&[6, 1, 2, 3, 4, 0xFF], &[6, 1, 2, 3, 4, 0xC0], 5),
-        kept(&[1, 0xAA, 0xAA, 0xAA, 0xAA, 0xAA, 0xAA]),
-        becomes(&[1, 0, 0, 0, 0, 0, 0xAB], &[1, 0, 0, 0, 0, 0, 0xAA], 6),
-        kept(&[3, 0xFF, 0xFF, 0xFF, 0xFF, 0xFF, 0xFF, 0xF8]),
-        becomes(&[7; 8], &[7, 7, 7, 7, 7, 7, 7, 0], 7),
-        kept(&[0; 9]),
-        becomes(
-            &[4, 8, 8, 8, 8, 8, 8, 8, 0x18],
-            &[4, 8, 8, 8, 8, 8, 8, 8, 0x10],
-            8,
-        ),
-    ];
-    judge::<Bits>(&rt, rt.alloc(), &rows)
+    let rows = "
+        00                         -> itself
+        00 FF                      -> itself
+        04 FF                      -> 04 F0, differs at 1
+        04 F0                      -> itself
+        01 01                      -> 01 00, differs at 1
+        07 7F                      -> 07 00, differs at 1
+        07 80                      -> itself
+        00 00 00                   -> itself
+        07 FF FF                   -> 07 FF 80, differs at 2
+        02 01 02 03                -> 02 01 02 00, differs at 3
+        05 1F 1F 1F 20             -> itself
+        05 00 00 00 1F             -> 05 00 00 00 00, differs at 4
+        06 01 02 03 04 FF          -> 06 01 02 03 04 C0, differs at 5
+        01 AA AA AA AA AA AA       -> itself
+        01 00 00 00 00 00 AB       -> 01 00 00 00 00 00 AA, differs at 6
+        03 FF FF FF FF FF FF F8    -> itself
+        07 07 07 07 07 07 07 07    -> 07 07 07 07 07 07 07 00, differs at 7
+        00 00 00 00 00 00 00 00 00 -> itself
+        04 08 08 08 08 08 08 08 18 -> 04 08 08 08 08 08 08 08 10, differs at 8
+    ";
+    judge::<Bits>(&rt, rt.alloc(), rows)
 }
 
 // Of examples 13 and 39 of docs/EXAMPLES.md.
 #[test]
 fn only_bits_that_are_there_can_be_unused(rt: HostRuntime) -> Result<(), Fail> {
-    let rows = [
-        refused(&[], 0, Why::Length),
-        refused(&[1], 0, Why::Content),
-        refused(&[3], 0, Why::Content),
-        refused(&[7], 0, Why::Content),
-        refused(&[8], 0, Why::Content),
-        refused(&[0xFF], 0, Why::Content),
-        refused(&[8, 0], 0, Why::Content),
-        refused(&[0xFF, 0xFF], 0, Why::Content),
-        refused(&[8, 0, 0], 0, Why::Content),
-        refused(&[16, 0, 0, 0], 0, Why::Content),
-        refused(&[8; 5], 0, Why::Content),
-        refused(&[9; 6], 0, Why::Content),
-        refused(&[0x80, 0, 0, 0, 0, 0, 0], 0, Why::Content),
-        refused(&[0xFF; 8], 0, Why::Content),
-        refused(&[8; 9], 0, Why::Content),
-    ];
-    judge::<Bits>(&rt, rt.alloc(), &rows)
+    let rows = "
+        none                       -> Length at 0
+        01                         -> Content at 0
+        03                         -> Content at 0
+        07                         -> Content at 0
+        08                         -> Content at 0
+        FF                         -> Content at 0
+        08 00                      -> Content at 0
+        FF FF                      -> Content at 0
+        08 00 00                   -> Content at 0
+        10 00 00 00                -> Content at 0
+        08 08 08 08 08             -> Content at 0
+        09 09 09 09 09 09          -> Content at 0
+        80 00 00 00 00 00 00       -> Content at 0
+        FF FF FF FF FF FF FF FF    -> Content at 0
+        08 08 08 08 08 08 08 08 08 -> Content at 0
+    ";
+    judge::<Bits>(&rt, rt.alloc(), rows)
 }
 
 // Of examples 32 and 39 of docs/EXAMPLES.md.

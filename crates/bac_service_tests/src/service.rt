@@ -19,42 +19,12 @@ mod write_property_multiple;
 
 use bac_data::{Any, Event};
 use bac_service::{Kind, Service, decode_service_marked, encode_service};
+use bac_tables::{Outcome, joined, octets_of, places_of, rows_of};
 use bac_tag::{OutOfMemory, Refusal, Why};
 use bac_value::ObjectId;
 use std::alloc::{AllocError, Global};
 use std::process::Abort;
 use std::test::Fail;
-
-/// Octets and what they come to: the octets written of their value and the mark, or the refusal.
-#[derive(Drop)]
-struct Row<'a> {
-    octets: &'a [u8],
-    wanted: Result<(&'a [u8], Option<usize>), Refusal>,
-}
-
-/// Octets that are written as they are.
-fn kept(octets: &[u8]) -> Row<'_> {
-    Row {
-        octets,
-        wanted: Ok((octets, None)),
-    }
-}
-
-/// Octets of a value of which others are written, and the first place where the two differ.
-fn becomes<'a>(octets: &'a [u8], written: &'a [u8], mark: usize) -> Row<'a> {
-    Row {
-        octets,
-        wanted: Ok((written, Some(mark))),
-    }
-}
-
-/// Octets that are refused.
-fn refused(octets: &[u8], place: usize, why: Why) -> Row<'_> {
-    Row {
-        octets,
-        wanted: Err(Refusal { place, why }),
-    }
-}
 
 /// What `decode_service_marked` gives. Where memory is refused it is told at 0, and the octets are read again.
 fn decoded(
@@ -78,10 +48,10 @@ fn canonical(
     rt: &impl Abort,
     alloc: Global,
     service: (Kind, u8),
-    octets: &[u8],
+    octets: &str,
 ) -> Result<Service, Fail> {
-    let (found, mark) = decoded(rt, alloc, service, octets)?;
-    assert_eq!(rt; mark, None, "of {octets:?}");
+    let (found, mark) = decoded(rt, alloc, service, &octets_of(octets)?)?;
+    assert_eq!(rt; mark, None, "of {octets}");
     Ok(found)
 }
 
@@ -93,6 +63,80 @@ fn encoded(alloc: Global, service: &Service) -> Result<Vec<u8>, OutOfMemory> {
     }
 }
 
+/// The octets come to that.
+fn comes_to(
+    rt: &impl Abort,
+    alloc: Global,
+    service: (Kind, u8),
+    octets: &[u8],
+    wanted: Result<(&[u8], Option<usize>), (&str, usize)>,
+) -> Result<(), Fail> {
+    match decoded(rt, alloc, service, octets) {
+        Ok((found, mark)) => {
+            assert_eq!(rt; (found.kind(), found.choice()), service);
+            let written = encoded(alloc, &found)?;
+            assert_eq!(rt; Ok((written.as_slice(), mark)), wanted, "of {octets:?}");
+        }
+        Err(refusal) => {
+            let told = (refusal.why.name(), refusal.place);
+            assert_eq!(rt; Err(told), wanted, "of {octets:?}");
+        }
+    }
+    Ok(())
+}
+
+/// Each row of the table is as it says, behind the octets in front. Places count from the first of those.
+fn judge(
+    rt: &impl Abort,
+    alloc: Global,
+    service: (Kind, u8),
+    front: &str,
+    table: &str,
+) -> Result<(), Fail> {
+    for row in rows_of(table)?.iter() {
+        let octets = joined(front, row.octets)?;
+        match row.outcome()? {
+            Outcome::Itself => comes_to(rt, alloc, service, &octets, Ok((&octets, None)))?,
+            Outcome::Written(written, mark) => {
+                let written = joined(front, written)?;
+                comes_to(rt, alloc, service, &octets, Ok((&written, Some(mark))))?;
+            }
+            Outcome::Refused(reason, place) => {
+                comes_to(rt, alloc, service, &octets, Err((reason, place)))?;
+            }
+        }
+    }
+    Ok(())
+}
+
+/// Canonical octets are written as they are.
+fn is_kept(rt: &impl Abort, alloc: Global, service: (Kind, u8), octets: &str) -> Result<(), Fail> {
+    let octets = octets_of(octets)?;
+    comes_to(rt, alloc, service, &octets, Ok((&octets, None)))
+}
+
+/// Of canonical octets each front is one of these lengths and canonical, or it is Short.
+fn fronts(
+    rt: &impl Abort,
+    alloc: Global,
+    service: (Kind, u8),
+    octets: &str,
+    wholes: &str,
+) -> Result<(), Fail> {
+    let octets = octets_of(octets)?;
+    let wholes = places_of(wholes)?;
+    comes_to(rt, alloc, service, &octets, Ok((&octets, None)))?;
+    for length in 0..octets.len() {
+        let front = &octets[..length];
+        if wholes.contains(&length) {
+            comes_to(rt, alloc, service, front, Ok((front, None)))?;
+        } else {
+            comes_to(rt, alloc, service, front, Err(("Short", length)))?;
+        }
+    }
+    Ok(())
+}
+
 /// No octets, and room for so many, at the latest when memory is asked for again.
 fn room(alloc: Global, count: usize) -> Result<Vec<u8>, AllocError> {
     match Vec::with_capacity(alloc, count) {
@@ -101,80 +145,17 @@ fn room(alloc: Global, count: usize) -> Result<Vec<u8>, AllocError> {
     }
 }
 
-/// Octets, and others behind them.
-fn joined(alloc: Global, front: &[u8], behind: &[u8]) -> Result<Vec<u8>, AllocError> {
-    let mut octets = room(alloc, 128)?;
-    octets.extend_from_slice(front)?;
-    octets.extend_from_slice(behind)?;
-    Ok(octets)
-}
-
-/// Each row is as it says, behind the octets in front. Places count from the first of those.
-fn judge(
-    rt: &impl Abort,
-    alloc: Global,
-    service: (Kind, u8),
-    front: &[u8],
-    rows: &[Row],
-) -> Result<(), Fail> {
-    for row in rows {
-        let octets = joined(alloc, front, row.octets)?;
-        match decoded(rt, alloc, service, &octets) {
-            Ok((found, mark)) => {
-                assert_eq!(rt; (found.kind(), found.choice()), service);
-                let written = encoded(alloc, &found)?;
-                let Ok((behind, place)) = row.wanted else {
-                    panic!(rt;
-                        "{octets:?} come to {written:?} and not to {:?}",
-                        row.wanted
-                    )
-                };
-                let wanted = joined(alloc, front, behind)?;
-                assert_eq!(rt; (written, mark), (wanted, place), "of {octets:?}");
-            }
-            Err(refusal) => assert_eq!(rt; Err(refusal), row.wanted, "of {octets:?}"),
-        }
-    }
-    Ok(())
-}
-
-/// Of canonical octets each front is one of these lengths and canonical, or it is Short.
-fn fronts(
-    rt: &impl Abort,
-    alloc: Global,
-    service: (Kind, u8),
-    octets: &[u8],
-    wholes: &[usize],
-) -> Result<(), Fail> {
-    judge(rt, alloc, service, &[], &[kept(octets)])?;
-    for length in 0..octets.len() {
-        let front = &octets[..length];
-        if wholes.contains(&length) {
-            judge(rt, alloc, service, front, &[kept(&[])])?;
-        } else {
-            judge(
-                rt,
-                alloc,
-                service,
-                front,
-                &[refused(&[], length, Why::Short)],
-            )?;
-        }
-    }
-    Ok(())
-}
-
 /// In canonical octets each of these heads, of one octet, may have its number in an extra octet and, where it opens
 /// and closes no group, its length in each wider form: the value stays the same.
 fn longer_heads(
     rt: &impl Abort,
     alloc: Global,
     service: (Kind, u8),
-    octets: &[u8],
-    places: &[usize],
+    octets: &str,
+    places: &str,
 ) -> Result<(), Fail> {
-    for place in places {
-        let place = *place;
+    let octets = octets_of(octets)?;
+    for place in places_of(places)? {
         let Some((front, [head, rest @ ..])) = octets.split_at_checked(place) else {
             panic!(rt; "no head at {place}")
         };
@@ -189,15 +170,11 @@ fn longer_heads(
         ];
         let count = if length < 5 { 5 } else { 1 };
         for form in forms.iter().take(count) {
-            let mut spelled = joined(alloc, front, form)?;
+            let mut spelled = room(alloc, 128)?;
+            spelled.extend_from_slice(front)?;
+            spelled.extend_from_slice(form)?;
             spelled.extend_from_slice(rest)?;
-            let (found, mark) = decoded(rt, alloc, service, &spelled)?;
-            assert_eq!(rt; mark, Some(place), "of {spelled:?}");
-            assert_eq!(rt;
-                encoded(alloc, &found)?.as_slice(),
-                octets,
-                "of {spelled:?}"
-            );
+            comes_to(rt, alloc, service, &spelled, Ok((&octets, Some(place))))?;
         }
     }
     Ok(())

@@ -1,7 +1,8 @@
 //! Services without a production.
 
-use super::{canonical, encoded, judge, kept, refused};
+use super::{canonical, encoded, is_kept, judge};
 use bac_service::{Kind, Opaque, OpaqueFault, Service};
+use bac_tables::{octets_of, places_of};
 use bac_tag::Why;
 use std::alloc::Global;
 use std::test::Fail;
@@ -15,29 +16,35 @@ fn opaque(alloc: Global, kind: Kind, choice: u8, octets: &[u8]) -> Result<Opaque
 }
 
 /// Each kind, its choices with a production that wants octets, and those with one that wants none.
-const TYPED: [(Kind, &[u8], &[u8]); 4] = [
-    (Kind::Confirmed, &[1, 5, 12, 15], &[14, 16]),
-    (Kind::Unconfirmed, &[0, 2], &[8]),
-    (Kind::ComplexAck, &[12], &[14]),
-    (Kind::Error, &[1, 5, 12, 14, 15, 16], &[]),
+const TYPED: [(Kind, &str, &str); 4] = [
+    (Kind::Confirmed, "1 5 12 15", "14 16"),
+    (Kind::Unconfirmed, "0 2", "8"),
+    (Kind::ComplexAck, "12", "14"),
+    (Kind::Error, "1 5 12 14 15 16", "none"),
 ];
 
 // Of examples 32 and 50 of docs/EXAMPLES.md.
 #[test]
 fn any_octets_may_be_opaque(rt: HostRuntime) -> Result<(), Fail> {
-    let table: [(Kind, u8, &[u8]); 4] = [
-        (Kind::Confirmed, 6, &[0xAA]),
-        (Kind::Unconfirmed, 9, &[]),
-        (Kind::ComplexAck, 255, &[0xFF; 60]),
-        (Kind::Error, 6, &[0x91, 2]),
+    let sixty =
+        "FF FF FF FF FF FF FF FF FF FF FF FF FF FF FF FF FF FF FF FF FF FF FF FF FF FF FF FF FF FF FF FF FF FF FF FF FF FF FF FF FF FF FF FF FF FF FF FF FF FF FF FF FF FF FF FF FF FF FF FF";
+    let table = [
+        (Kind::Confirmed, 6, "AA"),
+        (Kind::Unconfirmed, 9, "none"),
+        (Kind::ComplexAck, 255, sixty),
+        (Kind::Error, 6, "91 02"),
     ];
     for (kind, choice, octets) in table {
-        let made = opaque(rt.alloc(), kind, choice, octets)?;
+        let octets = octets_of(octets)?;
+        let made = opaque(rt.alloc(), kind, choice, &octets)?;
         assert_eq!(rt; (made.kind(), made.choice()), (kind, choice));
-        assert_eq!(rt; made.octets(), octets);
+        assert_eq!(rt; made.octets(), octets.as_slice());
         let service = Service::Opaque(made);
         assert_eq!(rt; (service.kind(), service.choice()), (kind, choice));
-        assert_eq!(rt; encoded(rt.alloc(), &service)?.as_slice(), octets);
+        assert_eq!(rt;
+            encoded(rt.alloc(), &service)?.as_slice(),
+            octets.as_slice()
+        );
     }
     Ok(())
 }
@@ -45,22 +52,24 @@ fn any_octets_may_be_opaque(rt: HostRuntime) -> Result<(), Fail> {
 // Of examples 32, 49 and 50 of docs/EXAMPLES.md.
 #[test]
 fn a_choice_with_a_production_is_never_opaque(rt: HostRuntime) -> Result<(), Fail> {
-    let octets = [0xFF, 0xFF];
+    let octets = octets_of("FF FF")?;
     for (kind, wanting, empty) in TYPED {
-        for choice in 0..=255 {
+        let (wanting, empty) = (places_of(wanting)?, places_of(empty)?);
+        for choice in 0..=255u8 {
+            let service = (kind, choice);
             let made = opaque(rt.alloc(), kind, choice, &octets);
-            let why = if wanting.contains(&choice) {
-                Why::Tag
-            } else if empty.contains(&choice) {
-                Why::Trailing
+            let row = if wanting.contains(&usize::from(choice)) {
+                "FF FF -> Tag at 0"
+            } else if empty.contains(&usize::from(choice)) {
+                "FF FF -> Trailing at 0"
             } else {
                 assert_eq!(rt; made?.octets(), octets.as_slice(), "of {kind:?} {choice}");
-                let found = canonical(&rt, rt.alloc(), (kind, choice), &octets)?;
+                let found = canonical(&rt, rt.alloc(), service, "FF FF")?;
                 assert!(rt;
                     matches!(&found, Service::Opaque(_)),
                     "of {kind:?} {choice}"
                 );
-                judge(&rt, rt.alloc(), (kind, choice), &[], &[kept(&octets)])?;
+                is_kept(&rt, rt.alloc(), service, "FF FF")?;
                 continue;
             };
             assert_eq!(rt;
@@ -68,13 +77,7 @@ fn a_choice_with_a_production_is_never_opaque(rt: HostRuntime) -> Result<(), Fai
                 Some(OpaqueFault::Typed),
                 "of {kind:?} {choice}"
             );
-            judge(
-                &rt,
-                rt.alloc(),
-                (kind, choice),
-                &[],
-                &[refused(&octets, 0, why)],
-            )?;
+            judge(&rt, rt.alloc(), service, "none", row)?;
         }
     }
     Ok(())
@@ -83,15 +86,12 @@ fn a_choice_with_a_production_is_never_opaque(rt: HostRuntime) -> Result<(), Fai
 // Of example 49 of docs/EXAMPLES.md.
 #[test]
 fn other_services_are_read_as_opaque(rt: HostRuntime) -> Result<(), Fail> {
-    let table: [(Kind, u8, &[u8]); 2] = [
-        (Kind::Confirmed, 17, &[0xAA]),
-        (Kind::Error, 6, &[0x91, 2]),
-    ];
+    let table = [(Kind::Confirmed, 17, "AA"), (Kind::Error, 6, "91 02")];
     for (kind, choice, octets) in table {
         match canonical(&rt, rt.alloc(), (kind, choice), octets)? {
             Service::Opaque(found) => {
                 assert_eq!(rt; (found.kind(), found.choice()), (kind, choice));
-                assert_eq!(rt; found.octets(), octets);
+                assert_eq!(rt; found.octets(), octets_of(octets)?.as_slice());
             }
             found => panic!(rt; "{found:?}"),
         }
@@ -102,7 +102,6 @@ fn other_services_are_read_as_opaque(rt: HostRuntime) -> Result<(), Fail> {
 // Of example 49 of docs/EXAMPLES.md.
 #[test]
 fn opaque_octets_are_kept(rt: HostRuntime) -> Result<(), Fail> {
-    let rows = [kept(&[0xAA]), kept(&[]), kept(&[0x91, 2]), kept(&[9, 0])];
     let services = [
         (Kind::Confirmed, 17),
         (Kind::Confirmed, 0),
@@ -113,8 +112,19 @@ fn opaque_octets_are_kept(rt: HostRuntime) -> Result<(), Fail> {
         (Kind::Error, 17),
     ];
     for service in services {
-        judge(&rt, rt.alloc(), service, &[], &rows)?;
+        let rows = "
+            AA    -> itself
+            none  -> itself
+            91 02 -> itself
+            09 00 -> itself
+        ";
+        judge(&rt, rt.alloc(), service, "none", rows)?;
     }
-    let who_is = [refused(&[9, 0], 2, Why::Short)];
-    judge(&rt, rt.alloc(), (Kind::Unconfirmed, 8), &[], &who_is)
+    judge(
+        &rt,
+        rt.alloc(),
+        (Kind::Unconfirmed, 8),
+        "none",
+        "09 00 -> Short at 2",
+    )
 }

@@ -5,6 +5,7 @@ use bac_service::{
     CovNotification, Kind, PropertyReference, ReadAccessSpecification, ReadProperty,
     ReadPropertyMultiple, Service, Unsigned32, WhoIs, decode_service, laws,
 };
+use bac_tables::octets_of;
 use bac_tag::{Refusal, Why};
 use bac_value::{Enumerated, Instance};
 use std::alloc::{AllocError, Global};
@@ -18,10 +19,13 @@ fn is_written(
     service: &Service,
     kind: Kind,
     choice: u8,
-    octets: &[u8],
+    octets: &str,
 ) -> Result<(), Fail> {
     assert_eq!(rt; (service.kind(), service.choice()), (kind, choice));
-    assert_eq!(rt; encoded(alloc, service)?.as_slice(), octets);
+    assert_eq!(rt;
+        encoded(alloc, service)?.as_slice(),
+        octets_of(octets)?.as_slice()
+    );
     Ok(())
 }
 
@@ -45,11 +49,11 @@ fn small_services_are_written(rt: HostRuntime) -> Result<(), Fail> {
         property,
         index,
     });
-    let octets = [0x0C, 0, 0, 0, 5, 0x19, 0x55];
-    is_written(&rt, rt.alloc(), &read, Kind::Confirmed, 12, &octets)?;
+    let octets = "0C 00 00 00 05 19 55";
+    is_written(&rt, rt.alloc(), &read, Kind::Confirmed, 12, octets)?;
     let limits = None;
     let who = Service::WhoIs(WhoIs { limits });
-    is_written(&rt, rt.alloc(), &who, Kind::Unconfirmed, 8, &[])
+    is_written(&rt, rt.alloc(), &who, Kind::Unconfirmed, 8, "none")
 }
 
 // Of example 18 of docs/EXAMPLES.md.
@@ -60,16 +64,14 @@ fn lists_of_references_are_written(rt: HostRuntime) -> Result<(), Fail> {
     let properties = list(rt.alloc(), PropertyReference { property, index })?;
     let specs = list(rt.alloc(), ReadAccessSpecification { object, properties })?;
     let service = Service::ReadPropertyMultiple(ReadPropertyMultiple { specs });
-    let octets = [0x0C, 0, 0, 0, 0x21, 0x1E, 9, 0x55, 0x1F];
-    is_written(&rt, rt.alloc(), &service, Kind::Confirmed, 14, &octets)
+    let octets = "0C 00 00 00 21 1E 09 55 1F";
+    is_written(&rt, rt.alloc(), &service, Kind::Confirmed, 14, octets)
 }
 
 // Of examples 20 and 53 of docs/EXAMPLES.md, without values.
 #[test]
 fn notifications_of_both_kinds_are_written_alike(rt: HostRuntime) -> Result<(), Fail> {
-    let octets = [
-        9, 0x12, 0x1C, 2, 0, 0, 4, 0x2C, 0, 0, 0, 0x0A, 0x39, 0, 0x4E, 0x4F,
-    ];
+    let octets = "09 12 1C 02 00 00 04 2C 00 00 00 0A 39 00 4E 4F";
     for (confirmed, kind, choice) in [(true, Kind::Confirmed, 1), (false, Kind::Unconfirmed, 2)] {
         let service = Service::CovNotification(CovNotification {
             confirmed,
@@ -79,7 +81,7 @@ fn notifications_of_both_kinds_are_written_alike(rt: HostRuntime) -> Result<(), 
             time_remaining: Unsigned32(0),
             values: Vec::new(rt.alloc()),
         });
-        is_written(&rt, rt.alloc(), &service, kind, choice, &octets)?;
+        is_written(&rt, rt.alloc(), &service, kind, choice, octets)?;
     }
     Ok(())
 }
@@ -87,7 +89,7 @@ fn notifications_of_both_kinds_are_written_alike(rt: HostRuntime) -> Result<(), 
 // Of examples 5 and 49 of docs/EXAMPLES.md.
 #[test]
 fn a_service_is_read_without_its_mark(rt: HostRuntime) -> Result<(), Fail> {
-    let octets = [0x0A, 0, 0x64, 0x19, 0xC8];
+    let octets = octets_of("0A 00 64 19 C8")?;
     match decode_service(rt.alloc(), Kind::Unconfirmed, 8, &octets)? {
         Service::WhoIs(request) => {
             let limits = Instance::new(100).zip(Instance::new(200));

@@ -1,12 +1,12 @@
 //! Services of many octets and of long lists are decoded and encoded whole: no clause says that memory is there.
 
 use super::object;
-use crate::sizes::{ITEMS, enclosed, mixed, numbered};
 use bac_data::{Any, Event};
 use bac_service::{
     ErrorCause, Kind, Opaque, PropertyValue, ReadAccessResult, ReadResult, Service, decode_service,
     decode_service_marked, encode_service,
 };
+use bac_tables::{ITEMS, enclosed, mixed, numbered};
 use bac_value::{Enumerated, ObjectId, PrimRef, Priority, Unsigned};
 use std::alloc::Global;
 use std::process::Abort;

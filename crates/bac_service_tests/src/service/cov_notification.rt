@@ -1,0 +1,156 @@
+//! ConfirmedCOVNotification and UnconfirmedCOVNotification.
+
+use super::{canonical, fronts, gives, judge, longer_heads, object};
+use bac_data::Event;
+use bac_service::{CovNotification, Kind, Service, Unsigned32};
+use bac_value::{Enumerated, PrimRef, Priority, RealBits};
+use std::process::Abort;
+use std::test::Fail;
+
+/// The kind and the choice of the unconfirmed one.
+const UNCONFIRMED: (Kind, u8) = (Kind::Unconfirmed, 2);
+
+/// Those of the confirmed one.
+const CONFIRMED: (Kind, u8) = (Kind::Confirmed, 1);
+
+/// Of the process 18, the device 8:4 and the object 0:10 two values: a Real, and four bits.
+const NOTIFICATION: &str =
+    "09 12 1C 02 00 00 04 2C 00 00 00 0A 39 00 4E 09 55 2E 44 42 82 00 00 2F 09 6F 2E 82 04 00 2F 4F";
+
+/// Process, device, object and remaining time of the same.
+const HEADING: &str = "09 12 1C 02 00 00 04 2C 00 00 00 0A 39 00";
+
+/// The same, and the first value's property 85.
+const PROPERTY: &str = "09 12 1C 02 00 00 04 2C 00 00 00 0A 39 00 4E 09 55";
+
+/// The notification has the fields of those octets.
+fn tells_two_values(rt: &impl Abort, notification: &CovNotification) -> Result<(), Fail> {
+    assert_eq!(rt; notification.process_identifier, Unsigned32(18));
+    assert_eq!(rt; notification.device, object(8, 4)?);
+    assert_eq!(rt; notification.object, object(0, 10)?);
+    assert_eq!(rt; notification.time_remaining, Unsigned32(0));
+    let [first, second] = notification.values.as_slice() else {
+        panic!(rt; "{notification:?}")
+    };
+    assert_eq!(rt; (first.property, first.index), (Enumerated(85), None));
+    assert_eq!(rt; (second.property, second.index), (Enumerated(111), None));
+    assert_eq!(rt; (first.priority, second.priority), (None, None));
+    let real = PrimRef::RealBits(RealBits(0x4282_0000));
+    gives(rt, &first.value, &[Event::App(real)]);
+    let bits = PrimRef::Bits {
+        count: 4,
+        packed: &[0],
+    };
+    gives(rt, &second.value, &[Event::App(bits)]);
+    Ok(())
+}
+
+// Of examples 20 and 53 of docs/EXAMPLES.md, and the same as a confirmed one.
+#[test]
+fn values_of_an_object_are_told(rt: HostRuntime) -> Result<(), Fail> {
+    for service in [UNCONFIRMED, CONFIRMED] {
+        match canonical(&rt, rt.alloc(), service, NOTIFICATION)? {
+            Service::CovNotification(notification) => {
+                assert_eq!(rt; notification.confirmed, service == CONFIRMED);
+                tells_two_values(&rt, &notification)?;
+            }
+            found => panic!(rt; "{found:?}"),
+        }
+        let heads = "0 2 7 12 14 15 17 18 23 24 26 27 30 31";
+        longer_heads(&rt, rt.alloc(), service, NOTIFICATION, heads)?;
+        fronts(&rt, rt.alloc(), service, NOTIFICATION, "none")?;
+    }
+    Ok(())
+}
+
+#[test]
+fn a_value_has_an_index_and_a_priority(rt: HostRuntime) -> Result<(), Fail> {
+    let octets = "09 12 1C 02 00 00 04 2C 00 00 00 0A 3A 0E 10 4E 09 57 19 10 2E 2F 39 08 4F";
+    match canonical(&rt, rt.alloc(), UNCONFIRMED, octets)? {
+        Service::CovNotification(notification) => {
+            assert_eq!(rt; notification.time_remaining, Unsigned32(3600));
+            let [value] = notification.values.as_slice() else {
+                panic!(rt; "{notification:?}")
+            };
+            assert_eq!(rt;
+                (value.property, value.index),
+                (Enumerated(87), Some(Unsigned32(16)))
+            );
+            assert_eq!(rt; value.priority, Priority::new(8));
+            gives(&rt, &value.value, &[]);
+        }
+        found => panic!(rt; "{found:?}"),
+    }
+    longer_heads(
+        &rt,
+        rt.alloc(),
+        UNCONFIRMED,
+        octets,
+        "0 2 7 12 15 16 18 20 21 22 24",
+    )?;
+    fronts(&rt, rt.alloc(), UNCONFIRMED, octets, "none")
+}
+
+// Of example 80 of docs/EXAMPLES.md.
+#[test]
+fn fields_come_once_and_in_order(rt: HostRuntime) -> Result<(), Fail> {
+    let device = "09 12 1C 02 00 00 04";
+    let rows = "
+        2E                      -> Tag at 7
+        2B                      -> Length at 7
+        2D                      -> Short at 8
+        39 00                   -> Tag at 7
+        1C 02 00 00 04          -> Tag at 7
+        2C 00 00 00 0A 2C       -> Tag at 12
+        2C 00 00 00 0A 4E       -> Tag at 12
+        2C 00 00 00 0A 3D 05 01 -> Content at 14
+        2C 00 00 00 0A 38       -> Length at 12
+    ";
+    judge(&rt, rt.alloc(), UNCONFIRMED, device, rows)?;
+    let rows = "
+        1C 02 00 00 04       -> Tag at 0
+        09 12 09 12          -> Tag at 2
+        09 12 2C 00 00 00 0A -> Tag at 2
+        0D 05 01             -> Content at 2
+    ";
+    judge(&rt, rt.alloc(), UNCONFIRMED, "none", rows)?;
+    let rows = "
+        4E 4F       -> itself
+        none        -> Short at 14
+        39 00       -> Tag at 14
+        49 00       -> Tag at 14
+        4E 4F 4E 4F -> Trailing at 16
+        4E 4F 39 00 -> Trailing at 16
+        4E 5F       -> Tag at 15
+    ";
+    judge(&rt, rt.alloc(), UNCONFIRMED, HEADING, rows)
+}
+
+#[test]
+fn the_fields_of_a_value_come_once_and_in_order(rt: HostRuntime) -> Result<(), Fail> {
+    let rows = "
+        4F                      -> Tag at 17
+        09 55                   -> Tag at 17
+        39 08                   -> Tag at 17
+        19 01 19 01             -> Tag at 19
+        1D 05 01                -> Content at 19
+        18                      -> Length at 17
+        2E 2F 19 01             -> Tag at 19
+        2E 2F 2E 2F             -> Tag at 19
+        2E 2F 39 00             -> Content at 20
+        2E 2F 39 11             -> Content at 20
+        2E 2F 3A 01             -> Content at 20
+        2E 2F 38                -> Length at 19
+        2E 2F 39 08 39 08       -> Tag at 21
+        2E 2F F9 01             -> Tag at 20
+        2E 2F FB 03 00 00 08 4F -> 2E 2F 39 08 4F, differs at 19
+    ";
+    judge(&rt, rt.alloc(), UNCONFIRMED, PROPERTY, rows)?;
+    let rows = "
+        4E 2E 2F 4F    -> Tag at 15
+        4E 19 01 09 55 -> Tag at 15
+        4E 08          -> Length at 15
+        4E 0D 05 01    -> Content at 17
+    ";
+    judge(&rt, rt.alloc(), UNCONFIRMED, HEADING, rows)
+}

@@ -1,0 +1,11 @@
+//! Octets for the tests of the library: tables of them, written as texts, by which tests are short and quick to prove,
+//! and values of many octets. The tests stand in two crates, which share this one.
+#![tactic(auto)]
+
+mod sizes;
+mod tables;
+
+pub use sizes::{ITEMS, enclosed, mixed, numbered};
+pub use tables::{
+    MOST_OCTETS, Octets, Outcome, Row, TableFault, joined, octets_of, places_of, rows_of,
+};
