@@ -2,6 +2,7 @@
 //! test can be run with each of its allocations refused in turn (`rt try --test --fail-alloc N`).
 
 use bac_data::{Any, AnyBuilder, BuildFault, Event};
+use bac_tables::{octets_of, rows_of};
 use bac_tag::OutOfMemory;
 use bac_value::{
     Boolean, Date, DoubleBits, Enumerated, Null, ObjectId, Prim, PrimRef, RealBits, Signed, Time,
@@ -11,52 +12,31 @@ use std::alloc::{AllocError, Global};
 use std::process::Abort;
 use std::test::Fail;
 
-/// A call of a builder that asks for one event more.
-#[derive(Clone, Copy)]
-enum Call<'a> {
-    /// For the value with this application number and these contents.
-    Push(u8, &'a [u8]),
-    PushCtx(u8, &'a [u8]),
-    Open(u8),
-    Close,
-}
-
-/// A call and what it gives.
-#[derive(Drop)]
-struct Row<'a> {
-    call: Call<'a>,
-    wanted: Result<(), BuildFault>,
-}
-
-/// A call that adds its event.
-fn taken(call: Call<'_>) -> Row<'_> {
-    Row {
-        call,
-        wanted: Ok(()),
-    }
-}
-
-/// A call that is refused.
-fn refused(call: Call<'_>, fault: BuildFault) -> Row<'_> {
-    Row {
-        call,
-        wanted: Err(fault),
-    }
-}
-
-/// What the call gives.
+/// What a call of a builder gives that asks for one event more: `close`, `open NUMBER`, `context NUMBER: OCTETS`, or
+/// `push NUMBER: OCTETS` for the value with this application number and these contents.
 fn attempt(
     rt: &impl Abort,
     alloc: Global,
     builder: &mut AnyBuilder,
-    call: Call,
-) -> Result<(), BuildFault> {
-    match call {
-        Call::Push(number, contents) => push(rt, alloc, builder, number, contents),
-        Call::PushCtx(number, octets) => builder.push_ctx(number, octets),
-        Call::Open(number) => builder.open(number),
-        Call::Close => builder.close(),
+    call: &str,
+) -> Result<Result<(), BuildFault>, Fail> {
+    if call == "close" {
+        return Ok(builder.close());
     }
+    if let Some(("", number)) = call.split_once("open ") {
+        return Ok(builder.open(u8::from_str_radix(number, 10)?));
+    }
+    let Some((name, octets)) = call.split_once(": ") else {
+        panic!(rt; "no call: {call}")
+    };
+    let octets = octets_of(octets)?;
+    if let Some(("", number)) = name.split_once("context ") {
+        return Ok(builder.push_ctx(u8::from_str_radix(number, 10)?, &octets));
+    }
+    let Some(("", number)) = name.split_once("push ") else {
+        panic!(rt; "no call: {call}")
+    };
+    Ok(push(rt, alloc, builder, u8::from_str_radix(number, 10)?, &octets))
 }
 
 /// Pushes the value with these contents. Where memory is refused the one that comes back is pushed again.
@@ -80,15 +60,55 @@ fn push(
     }
 }
 
-/// Each call ends as its row says. Where memory is refused the builder is as it was, and the call is made again.
-fn takes(rt: &impl Abort, alloc: Global, builder: &mut AnyBuilder, rows: &[Row]) {
-    for (place, row) in rows.iter().enumerate() {
-        let mut found = attempt(rt, alloc, builder, row.call);
-        if found == Err(BuildFault::OutOfMemory) {
-            found = attempt(rt, alloc, builder, row.call);
-        }
-        assert_eq!(rt; found, row.wanted, "of call {place}");
+/// How a table tells what a call gives.
+fn told_of(found: Result<(), BuildFault>) -> &'static str {
+    match found {
+        Ok(()) => "taken",
+        Err(BuildFault::Number) => "Number",
+        Err(BuildFault::Depth) => "Depth",
+        Err(BuildFault::NothingOpen) => "NothingOpen",
+        Err(BuildFault::StillOpen) => "StillOpen",
+        Err(BuildFault::TooLong) => "TooLong",
+        Err(BuildFault::OutOfMemory) => "OutOfMemory",
     }
+}
+
+/// Each call ends as its row says. Where memory is refused the builder is as it was, and the call is made again.
+fn takes(
+    rt: &impl Abort,
+    alloc: Global,
+    builder: &mut AnyBuilder,
+    table: &str,
+) -> Result<(), Fail> {
+    for row in rows_of(table)?.iter() {
+        let mut found = attempt(rt, alloc, builder, row.octets)?;
+        if found == Err(BuildFault::OutOfMemory) {
+            found = attempt(rt, alloc, builder, row.octets)?;
+        }
+        assert_eq!(rt; told_of(found), row.told, "of {}", row.octets);
+    }
+    Ok(())
+}
+
+/// A context primitive of many octets ends so. Where memory is refused the call is made again.
+fn takes_context(rt: &impl Abort, builder: &mut AnyBuilder, number: u8, octets: &[u8], told: &str) {
+    let mut found = builder.push_ctx(number, octets);
+    if found == Err(BuildFault::OutOfMemory) {
+        found = builder.push_ctx(number, octets);
+    }
+    assert_eq!(rt;
+        told_of(found),
+        told,
+        "of {} octets under {number}",
+        octets.len()
+    );
+}
+
+/// Contents that are too long are refused under each number.
+fn refuses_contents(rt: &impl Abort, builder: &mut AnyBuilder, beyond: &[u8]) {
+    takes_context(rt, builder, 0, beyond, "TooLong");
+    takes_context(rt, builder, 254, beyond, "TooLong");
+    takes_context(rt, builder, 255, beyond, "Number");
 }
 
 /// The value has these events.
@@ -119,18 +139,21 @@ fn zeros(alloc: Global, count: usize) -> Result<Vec<u8>, AllocError> {
 #[test]
 fn a_value_is_finished_when_each_group_is_closed(rt: HostRuntime) -> Result<(), Fail> {
     let mut builder = begun(rt.alloc())?;
-    let group = [taken(Call::Open(2)), taken(Call::PushCtx(1, &[0x55]))];
-    takes(&rt, rt.alloc(), &mut builder, &group);
+    let group = "
+        open 2        -> taken
+        context 1: 55 -> taken
+    ";
+    takes(&rt, rt.alloc(), &mut builder, group)?;
     let mut builder = match builder.finish() {
         Err((builder, BuildFault::StillOpen)) => builder,
         outcome => panic!(rt; "{outcome:?}"),
     };
-    let end = [
-        taken(Call::Close),
-        refused(Call::Close, BuildFault::NothingOpen),
-        refused(Call::PushCtx(255, &[0x55]), BuildFault::Number),
-    ];
-    takes(&rt, rt.alloc(), &mut builder, &end);
+    let end = "
+        close           -> taken
+        close           -> NothingOpen
+        context 255: 55 -> Number
+    ";
+    takes(&rt, rt.alloc(), &mut builder, end)?;
     let value = builder.finish()?;
     let events = [Event::Open(2), Event::Ctx(1, &[0x55]), Event::Close(2)];
     gives(&rt, &value, &events);
@@ -155,16 +178,16 @@ fn a_value_may_be_one_primitive(rt: HostRuntime) -> Result<(), Fail> {
 #[test]
 fn thirty_two_groups_nest(rt: HostRuntime) -> Result<(), Fail> {
     let mut builder = begun(rt.alloc())?;
-    let beyond = [
-        refused(Call::Open(0), BuildFault::Depth),
-        refused(Call::Open(255), BuildFault::Number),
-    ];
     for _ in 0..32 {
-        takes(&rt, rt.alloc(), &mut builder, &[taken(Call::Open(0))]);
+        takes(&rt, rt.alloc(), &mut builder, "open 0 -> taken")?;
     }
-    takes(&rt, rt.alloc(), &mut builder, &beyond);
+    let beyond = "
+        open 0   -> Depth
+        open 255 -> Number
+    ";
+    takes(&rt, rt.alloc(), &mut builder, beyond)?;
     for _ in 0..32 {
-        takes(&rt, rt.alloc(), &mut builder, &[taken(Call::Close)]);
+        takes(&rt, rt.alloc(), &mut builder, "close -> taken")?;
     }
     let value = builder.finish()?;
     assert_eq!(rt; value.count(), 64);
@@ -184,16 +207,10 @@ fn thirty_two_groups_nest(rt: HostRuntime) -> Result<(), Fail> {
 fn contents_have_at_most_1_048_576_octets(rt: HostRuntime) -> Result<(), Fail> {
     let mut builder = begun(rt.alloc())?;
     let beyond = zeros(rt.alloc(), 1_048_577)?;
-    let rows = [
-        refused(Call::PushCtx(0, &beyond), BuildFault::TooLong),
-        refused(Call::PushCtx(254, &beyond), BuildFault::TooLong),
-        refused(Call::PushCtx(255, &beyond), BuildFault::Number),
-    ];
-    takes(&rt, rt.alloc(), &mut builder, &rows);
+    refuses_contents(&rt, &mut builder, &beyond);
     let longest = zeros(rt.alloc(), 1_048_576)?;
-    let row = taken(Call::PushCtx(254, &longest));
-    takes(&rt, rt.alloc(), &mut builder, &[row]);
-    takes(&rt, rt.alloc(), &mut builder, &rows);
+    takes_context(&rt, &mut builder, 254, &longest, "taken");
+    refuses_contents(&rt, &mut builder, &beyond);
     let value = builder.finish()?;
     gives(&rt, &value, &[Event::Ctx(254, &longest)]);
     Ok(())
@@ -202,20 +219,20 @@ fn contents_have_at_most_1_048_576_octets(rt: HostRuntime) -> Result<(), Fail> {
 // Of examples 15 and 44 of docs/EXAMPLES.md.
 #[test]
 fn after_a_fault_the_builder_is_as_it_was(rt: HostRuntime) -> Result<(), Fail> {
-    let rows = [
-        refused(Call::Close, BuildFault::NothingOpen),
-        refused(Call::Open(255), BuildFault::Number),
-        taken(Call::PushCtx(254, &[])),
-        taken(Call::Open(254)),
-        refused(Call::PushCtx(255, &[1]), BuildFault::Number),
-        taken(Call::PushCtx(0, &[0x55])),
-        taken(Call::Close),
-        refused(Call::Close, BuildFault::NothingOpen),
-        taken(Call::PushCtx(1, &[1])),
-        refused(Call::Open(255), BuildFault::Number),
-    ];
+    let rows = "
+        close             -> NothingOpen
+        open 255          -> Number
+        context 254: none -> taken
+        open 254          -> taken
+        context 255: 01   -> Number
+        context 0: 55     -> taken
+        close             -> taken
+        close             -> NothingOpen
+        context 1: 01     -> taken
+        open 255          -> Number
+    ";
     let mut builder = begun(rt.alloc())?;
-    takes(&rt, rt.alloc(), &mut builder, &rows);
+    takes(&rt, rt.alloc(), &mut builder, rows)?;
     let value = builder.finish()?;
     let events = [
         Event::Ctx(254, &[]),
@@ -231,23 +248,23 @@ fn after_a_fault_the_builder_is_as_it_was(rt: HostRuntime) -> Result<(), Fail> {
 // Of example 16 of docs/EXAMPLES.md.
 #[test]
 fn groups_hold_primitives_and_groups(rt: HostRuntime) -> Result<(), Fail> {
-    let rows = [
-        taken(Call::Push(7, &[0, 0x48, 0x65, 0x6C, 0x6C, 0x6F])),
-        taken(Call::Open(3)),
-        taken(Call::Push(7, &[5, 0xE9])),
-        taken(Call::Push(5, &[0x3F, 0xF0, 0, 0, 0, 0, 0, 0])),
-        taken(Call::Open(0)),
-        taken(Call::Close),
-        taken(Call::Push(0, &[])),
-        taken(Call::Open(1)),
-        taken(Call::PushCtx(1, &[0x55])),
-        taken(Call::Push(1, &[1])),
-        taken(Call::Close),
-        taken(Call::Push(12, &[0, 0, 0, 5])),
-        taken(Call::Close),
-    ];
+    let rows = "
+        push 7: 00 48 65 6C 6C 6F       -> taken
+        open 3                          -> taken
+        push 7: 05 E9                   -> taken
+        push 5: 3F F0 00 00 00 00 00 00 -> taken
+        open 0                          -> taken
+        close                           -> taken
+        push 0: none                    -> taken
+        open 1                          -> taken
+        context 1: 55                   -> taken
+        push 1: 01                      -> taken
+        close                           -> taken
+        push 12: 00 00 00 05            -> taken
+        close                           -> taken
+    ";
     let mut builder = begun(rt.alloc())?;
-    takes(&rt, rt.alloc(), &mut builder, &rows);
+    takes(&rt, rt.alloc(), &mut builder, rows)?;
     let value = builder.finish()?;
     let input = ObjectId::new(0, 5).ok_or("0:5 is an identifier")?;
     let events = [
@@ -279,19 +296,19 @@ fn groups_hold_primitives_and_groups(rt: HostRuntime) -> Result<(), Fail> {
 // at 17:35:45.17.
 #[test]
 fn the_other_primitives_are_kept(rt: HostRuntime) -> Result<(), Fail> {
-    let rows = [
-        taken(Call::Push(1, &[0])),
-        taken(Call::Push(2, &[0x55])),
-        taken(Call::Push(3, &[0xFF, 0xFF])),
-        taken(Call::PushCtx(0, &[0xA5; 60])),
-        taken(Call::Push(6, &[0xAB])),
-        taken(Call::Push(8, &[4, 0xFF])),
-        taken(Call::Push(9, &[2])),
-        taken(Call::Push(10, &[91, 1, 24, 4])),
-        taken(Call::Push(11, &[17, 35, 45, 17])),
-    ];
+    let rows = "
+        push 1: 00                                                                                                                                                                                     -> taken
+        push 2: 55                                                                                                                                                                                     -> taken
+        push 3: FF FF                                                                                                                                                                                  -> taken
+        context 0: A5 A5 A5 A5 A5 A5 A5 A5 A5 A5 A5 A5 A5 A5 A5 A5 A5 A5 A5 A5 A5 A5 A5 A5 A5 A5 A5 A5 A5 A5 A5 A5 A5 A5 A5 A5 A5 A5 A5 A5 A5 A5 A5 A5 A5 A5 A5 A5 A5 A5 A5 A5 A5 A5 A5 A5 A5 A5 A5 A5 -> taken
+        push 6: AB                                                                                                                                                                                     -> taken
+        push 8: 04 FF                                                                                                                                                                                  -> taken
+        push 9: 02                                                                                                                                                                                     -> taken
+        push 10: 5B 01 18 04                                                                                                                                                                           -> taken
+        push 11: 11 23 2D 11                                                                                                                                                                           -> taken
+    ";
     let mut builder = begun(rt.alloc())?;
-    takes(&rt, rt.alloc(), &mut builder, &rows);
+    takes(&rt, rt.alloc(), &mut builder, rows)?;
     let value = builder.finish()?;
     let events = [
         Event::App(PrimRef::Boolean(Boolean(false))),
