@@ -3,9 +3,8 @@ pub mod PrimitivesLaws
 pub mod Numbers
 pub mod NumbersLaws
 pub mod UnsignedLaws
+pub mod BoundedLaws
 pub mod EnumeratedLaws
-pub mod PriorityLaws
-pub mod InstanceLaws
 pub mod Identifier
 pub mod IdentifierLaws
 pub mod NullContents

@@ -1,5 +1,5 @@
 -- Numbers as contents, the most significant octet first (clauses 20.2.4 and 20.2.11).
-use Rattle.std.specs.Prelude.{◌≡◌, ℕ, zero, suc, ◌≤◌, List, [], ◌∷◌, length}
+use Rattle.std.specs.Prelude.{◌≡◌, ℕ, zero, suc, ◌<◌, ◌≤◌, ◌^◌, List, [], ◌∷◌, length}
 use Rattle.std.specs.Int.Digits.{digits_of}
 use Rattle.bac_tag.specs.declared.refusals.Why.{Why}
 use Rattle.bac_tag.specs.declared.refusals.Why.TheVariants.{Length, Content}
@@ -28,3 +28,12 @@ abbrev pub IsNumberReason : Why → Type 0
 IsNumberReason Length = Unit {0}
 IsNumberReason Content = Unit {0}
 IsNumberReason _ = ⊥
+
+-- A type whose values are the numbers of a range: a value has a number, a number has a value, and each goes back to the
+-- other. The least number fits an octet, and the largest one eight.
+pub record IsBounded {V : Type 0} (low high : ℕ) (number_of : V → ℕ) (value_of : ℕ → V) : Type 0 where
+  pub number_of_value : (n : ℕ) → number_of (value_of n) ≡ n
+  pub value_of_number : (value : V) → value_of (number_of value) ≡ value
+  pub range : low ≤ high
+  pub room : low < 256
+  pub fits : high < 2 ^ 64

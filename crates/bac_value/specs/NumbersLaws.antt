@@ -13,7 +13,7 @@ use Rattle.bac_tag.specs.Number.{number, BeginsNumber, MissesAt}
 use Rattle.bac_tag.specs.NumberLaws.{number_same, number_fits, number_after_is, begins_number}
 use Rattle.bac_value.specs.Primitives.{IsBegun, IsHopelessAt}
 use Rattle.bac_value.specs.PrimitivesLaws.{nothing_left}
-use Rattle.bac_value.specs.Numbers.{HasNumberLength, NumberContents, least_number}
+use Rattle.bac_value.specs.Numbers.{HasNumberLength, NumberContents, least_number, IsBounded}
 
 -- ---- the fewest octets
 
@@ -175,3 +175,15 @@ begun_whole low high octets p sized h =
     let none : h.rest ≡ [] = nothing_left octets h.rest h.sized in
     let whole : octets ++ h.rest ≡ octets = ap (λ (l : List ℕ). octets ++ l) none ∙ append-nil octets in
     record { are_octets = p; sized = sized; is = refl; least = rw (← ap number whole) h.least; most = rw (← ap number whole) h.most }
+
+-- ---- laws of a type whose values are the numbers of a range
+
+module _ {V : Type 0} (low high : ℕ) (number_of : V → ℕ) (value_of : ℕ → V) (bounded : IsBounded low high number_of value_of) where
+  pub bounded_once : (a b : V) (octets : List ℕ) → NumberContents low high (number_of a) octets → NumberContents low high (number_of b) octets → a ≡ b
+  bounded_once a b octets p q = sym (bounded.value_of_number a) ∙ ap value_of (sym p.is ∙ q.is) ∙ bounded.value_of_number b
+
+  pub bounded_written : (value : V) → (low ≤ number_of value) × (number_of value ≤ high) → NumberContents low high (number_of value) (least_number (number_of value))
+  bounded_written value h = number_written_in low high (number_of value) h.0 h.1 (omega (arith, h.1, bounded.fits))
+
+  pub bounded_each_length : (size : ℕ) → 1 ≤ size → size ≤ 8 → IsBegun (λ (value : V) octets. NumberContents low high (number_of value) octets) [] size
+  bounded_each_length = number_each_length number_of value_of bounded.number_of_value low high bounded.range bounded.room

@@ -3,8 +3,8 @@
 ghost use Rattle.std.specs.Prelude.{false, ◌≡◌, ◌≤◌, ◌↔◌, IsSome, IfSome, ℕ};
 ghost use Rattle.std.proofs.Common.{lit≤};
 ghost use Rattle.bac_value.specs.Numbers.{NumberContents, least_number};
-ghost use Rattle.bac_value.specs.NumbersLaws.{number_least, number_lengths};
-ghost use Rattle.bac_value.specs.InstanceLaws.{instance_range, one_instance, instance_written, instance_each_length};
+ghost use Rattle.bac_value.specs.NumbersLaws.{number_least, number_lengths, bounded_once, bounded_each_length};
+ghost use Rattle.bac_value.specs.BoundedLaws.{itself, instance_bounded, instance_written};
 
 use crate::primitives::Primitive;
 use crate::ranged_numbers::{
@@ -118,9 +118,9 @@ impl Primitive for Instance {
         write_number(u64::from(self.number()), out)
     }
 
-    ghost only_values = { instance_range };
+    ghost only_values = { λ value octets h. h.most };
 
-    ghost one_value = { one_instance };
+    ghost one_value = { bounded_once 0 4194303 itself itself instance_bounded };
 
     ghost written_contents = { instance_written };
 
@@ -128,7 +128,7 @@ impl Primitive for Instance {
 
     ghost lengths = { λ value. number_lengths 0 4194303 value };
 
-    ghost each_length = { instance_each_length };
+    ghost each_length = { bounded_each_length 0 4194303 itself itself instance_bounded };
 
     ghost within_limit = { (lit≤ tt, lit≤ tt) };
 }

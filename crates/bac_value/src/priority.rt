@@ -3,8 +3,8 @@
 ghost use Rattle.std.specs.Prelude.{false, ◌≡◌, ◌≤◌, ◌↔◌, IsSome, IfSome, ℕ};
 ghost use Rattle.std.proofs.Common.{lit≤};
 ghost use Rattle.bac_value.specs.Numbers.{NumberContents, least_number};
-ghost use Rattle.bac_value.specs.NumbersLaws.{number_least, number_lengths};
-ghost use Rattle.bac_value.specs.PriorityLaws.{priority_range, one_priority, priority_written, priority_each_length};
+ghost use Rattle.bac_value.specs.NumbersLaws.{number_least, number_lengths, bounded_once, bounded_written, bounded_each_length};
+ghost use Rattle.bac_value.specs.BoundedLaws.{itself, priority_bounded};
 
 use crate::primitives::Primitive;
 use crate::ranged_numbers::{
@@ -121,17 +121,17 @@ impl Primitive for Priority {
         write_number(u64::from(self.number()), out)
     }
 
-    ghost only_values = { priority_range };
+    ghost only_values = { λ value octets h. (h.least, h.most) };
 
-    ghost one_value = { one_priority };
+    ghost one_value = { bounded_once 1 16 itself itself priority_bounded };
 
-    ghost written_contents = { priority_written };
+    ghost written_contents = { bounded_written 1 16 itself itself priority_bounded };
 
     ghost written_least = { λ value. number_least 1 16 value };
 
     ghost lengths = { λ value. number_lengths 1 16 value };
 
-    ghost each_length = { priority_each_length };
+    ghost each_length = { bounded_each_length 1 16 itself itself priority_bounded };
 
     ghost within_limit = { (lit≤ tt, lit≤ tt) };
 }
