@@ -14,7 +14,5 @@ pub mod FieldLaws
 pub mod OpenValueLaws
 pub mod HasLeastLaws
 pub mod WholeLaws
-pub mod Unsigned32Laws
-pub mod Unsigned16Laws
 pub mod ServiceLaws
 pub mod ViableLaws

@@ -10,9 +10,8 @@ mod service;
 mod service_decoding;
 mod service_encoding;
 mod services;
-mod unsigned16;
-mod unsigned32;
 
+pub use bac_value::{Unsigned16, Unsigned32};
 pub use kind::Kind;
 pub use service::Service;
 pub use service_decoding::{decode_service, decode_service_marked};
@@ -34,5 +33,3 @@ pub use services::who_is::WhoIs;
 pub use services::write_property::WriteProperty;
 pub use services::write_property_multiple::{WriteAccessSpecification, WritePropertyMultiple};
 pub use services::write_property_multiple_error::WritePropertyMultipleError;
-pub use unsigned16::Unsigned16;
-pub use unsigned32::Unsigned32;

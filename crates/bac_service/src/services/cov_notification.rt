@@ -7,9 +7,8 @@ use crate::production::field::Field;
 use crate::production::group::{Group, write_group};
 use crate::production::record::Record;
 use crate::services::property_value::PropertyValue;
-use crate::unsigned32::Unsigned32;
 use bac_tag::OutOfMemory;
-use bac_value::ObjectId;
+use bac_value::{ObjectId, Unsigned32};
 
 /// The values of an object that changed.
 ///

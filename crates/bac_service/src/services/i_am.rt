@@ -8,10 +8,8 @@ use crate::production::Production;
 use crate::production::field::ApplicationField;
 use crate::production::record::{Fields, Record};
 use crate::service::Service;
-use crate::unsigned16::Unsigned16;
-use crate::unsigned32::Unsigned32;
 use bac_tag::OutOfMemory;
-use bac_value::{Enumerated, ObjectId};
+use bac_value::{Enumerated, ObjectId, Unsigned16, Unsigned32};
 
 /// What a device says of itself.
 ///

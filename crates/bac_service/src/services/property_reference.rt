@@ -6,9 +6,8 @@ use crate::production::Production;
 use crate::production::field::Field;
 use crate::production::option::{bare, under};
 use crate::production::record::Record;
-use crate::unsigned32::Unsigned32;
 use bac_tag::OutOfMemory;
-use bac_value::Enumerated;
+use bac_value::{Enumerated, Unsigned32};
 
 /// A property of an object, or one element of it.
 ///

@@ -12,10 +12,9 @@ use crate::production::open_value::{OpenValue, write_open};
 use crate::production::option::{bare, under};
 use crate::production::record::{Fields, Record};
 use crate::services::error_cause::ErrorCause;
-use crate::unsigned32::Unsigned32;
 use bac_data::Any;
 use bac_tag::OutOfMemory;
-use bac_value::Enumerated;
+use bac_value::{Enumerated, Unsigned32};
 
 /// The value of a property, or why it could not be read.
 ///

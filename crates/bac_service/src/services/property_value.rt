@@ -7,10 +7,9 @@ use crate::production::field::Field;
 use crate::production::open_value::{OpenValue, write_open};
 use crate::production::option::{bare, under};
 use crate::production::record::Record;
-use crate::unsigned32::Unsigned32;
 use bac_data::Any;
 use bac_tag::OutOfMemory;
-use bac_value::{Enumerated, Priority};
+use bac_value::{Enumerated, Priority, Unsigned32};
 
 /// The value of a property, or of one element of it.
 ///

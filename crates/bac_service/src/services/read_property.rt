@@ -9,9 +9,8 @@ use crate::production::field::Field;
 use crate::production::option::{bare, under};
 use crate::production::record::{Fields, Record};
 use crate::service::Service;
-use crate::unsigned32::Unsigned32;
 use bac_tag::OutOfMemory;
-use bac_value::{Enumerated, ObjectId};
+use bac_value::{Enumerated, ObjectId, Unsigned32};
 
 /// A request for one property of an object, or for one element of it.
 ///

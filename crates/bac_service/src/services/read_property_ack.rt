@@ -9,10 +9,9 @@ use crate::production::open_value::{OpenValue, write_open};
 use crate::production::option::{bare, under};
 use crate::production::record::{Fields, Record};
 use crate::service::Service;
-use crate::unsigned32::Unsigned32;
 use bac_data::Any;
 use bac_tag::OutOfMemory;
-use bac_value::{Enumerated, ObjectId};
+use bac_value::{Enumerated, ObjectId, Unsigned32};
 
 /// The value of a property that was asked for, or of one element of it.
 ///

@@ -9,9 +9,8 @@ use crate::production::field::Field;
 use crate::production::option::{bare, bit_of, boolean_of, under};
 use crate::production::record::{Fields, Record};
 use crate::service::Service;
-use crate::unsigned32::Unsigned32;
 use bac_tag::OutOfMemory;
-use bac_value::{Boolean, ObjectId};
+use bac_value::{Boolean, ObjectId, Unsigned32};
 
 /// A request to be told of changes of an object's values or, with neither `confirmed` nor `lifetime`, to be
 /// told no more.

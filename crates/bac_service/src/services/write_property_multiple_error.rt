@@ -9,9 +9,8 @@ use crate::production::record::{Fields, Record};
 use crate::service::Service;
 use crate::services::error_cause::ErrorCause;
 use crate::services::read_property::ReadProperty;
-use crate::unsigned32::Unsigned32;
 use bac_tag::OutOfMemory;
-use bac_value::{Enumerated, ObjectId};
+use bac_value::{Enumerated, ObjectId, Unsigned32};
 
 /// Why a WritePropertyMultiple failed, and the first write that did.
 ///
