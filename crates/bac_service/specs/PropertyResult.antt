@@ -1,18 +1,16 @@
 -- What reading a property gave (clause 21): [2] the property, [3] the index, which may be absent, then [4] the value, or [5] a group with the error.
-use Rattle.std.specs.Prelude.{◌≡◌, ◌↔◌, ℕ, Option, List, ◌⊎◌, refl}
-use Rattle.std.proofs.Common.{inl, inr, sym, ap, subst}
-use Rattle.bac_tag.specs.Spelling.{OneOf, Joins, Joined}
+use Rattle.std.specs.Prelude.{ℕ, List, ◌⊎◌}
+use Rattle.std.proofs.Common.{inl, inr}
+use Rattle.bac_tag.specs.Spelling.{Joins}
 use Rattle.bac_data.specs.OpenValue.{Elements}
 use Rattle.bac_data.specs.Spells.{SpellsOpen}
-use Rattle.bac_value.specs.declared.enumeration.Enumerated.{Enumerated}
-use Rattle.bac_value.specs.declared.unsigned32.Unsigned32.{Unsigned32}
 use Rattle.bac_service.specs.declared.services.error_cause.ErrorCause.{ErrorCause}
 use Rattle.bac_service.specs.declared.services.property_result.ReadResult.{ReadResult}
 use Rattle.bac_service.specs.declared.services.property_result.ReadResult.TheVariants.{Value, Error}
 use Rattle.bac_service.specs.declared.services.property_result.PropertyResult.{PropertyResult}
 use Rattle.bac_service.specs.Contents.{EnumeratedField, UnsignedField}
 use Rattle.bac_service.specs.ErrorCause.{SpellsErrorCause}
-use Rattle.bac_service.specs.Productions.{Optional, Grouped, IsRecordOf}
+use Rattle.bac_service.specs.Productions.{Optional, Grouped}
 
 abbrev pub SpellsReadResult : ℕ → ReadResult → List ℕ → Type 0
 SpellsReadResult groups (Value value) = SpellsOpen groups 4 value
@@ -24,40 +22,3 @@ SpellsPropertyResult groups r = Joins (EnumeratedField 2 r.property) (Joins (Opt
 abbrev pub read_result_of : Elements ⊎ ErrorCause → ReadResult
 read_result_of (inl value) = Value value
 read_result_of (inr cause) = Error cause
-
-abbrev pub choice_of : ReadResult → Elements ⊎ ErrorCause
-choice_of (Value value) = inl value
-choice_of (Error cause) = inr cause
-
--- ---- the parts
-
-chosen : (groups : ℕ) (r : ReadResult) → SpellsReadResult groups r ≡ OneOf (SpellsOpen groups 4) (Grouped 5 SpellsErrorCause) (choice_of r)
-chosen groups (Value value) = refl
-chosen groups (Error cause) = refl
-
-told : (groups : ℕ) (x : Elements ⊎ ErrorCause) → OneOf (SpellsOpen groups 4) (Grouped 5 SpellsErrorCause) x ≡ SpellsReadResult groups (read_result_of x)
-told groups (inl value) = refl
-told groups (inr cause) = refl
-
-once : (r : ReadResult) → read_result_of (choice_of r) ≡ r
-once (Value value) = refl
-once (Error cause) = refl
-
-abbrev pub property_result_of : Enumerated × (Option Unsigned32 × (Elements ⊎ ErrorCause)) → PropertyResult
-property_result_of p = record { property = p.0; index = p.1.0; result = read_result_of p.1.1 }
-
-pub property_result_alike : (groups : ℕ) (p : Enumerated × (Option Unsigned32 × (Elements ⊎ ErrorCause))) (b : List ℕ)
-    → Joined (EnumeratedField 2) (Joined (Optional (UnsignedField 3)) (OneOf (SpellsOpen groups 4) (Grouped 5 SpellsErrorCause))) p b ↔ SpellsPropertyResult groups (property_result_of p) b
-property_result_alike groups p b = (
-  λ s. subst (λ (P : List ℕ → Type 0). Joins (EnumeratedField 2 p.0) (Joins (Optional (UnsignedField 3) p.1.0) P) b) (told groups p.1.1) s,
-  λ s. subst (λ (P : List ℕ → Type 0). Joins (EnumeratedField 2 p.0) (Joins (Optional (UnsignedField 3) p.1.0) P) b) (sym (told groups p.1.1)) s,
-)
-
-pub property_result_parts : (groups : ℕ) → IsRecordOf (Joined (EnumeratedField 2) (Joined (Optional (UnsignedField 3)) (OneOf (SpellsOpen groups 4) (Grouped 5 SpellsErrorCause)))) (SpellsPropertyResult groups)
-property_result_parts groups = record {
-  fields = λ r. (r.property, (r.index, choice_of r.result));
-  of_fields = property_result_of;
-  same = λ r. ap (λ (x : ReadResult). record { property = r.property; index = r.index; result = x }) (once r.result);
-  split = λ r b s. subst (λ (P : List ℕ → Type 0). Joins (EnumeratedField 2 r.property) (Joins (Optional (UnsignedField 3) r.index) P) b) (chosen groups r.result) s;
-  joined = λ p b s. (property_result_alike groups p b).0 s;
-}

@@ -16,3 +16,6 @@ pub mod HasLeastLaws
 pub mod WholeLaws
 pub mod ServiceLaws
 pub mod ViableLaws
+pub mod SubscribeCovLaws
+pub mod PropertyResultLaws
+pub mod DecodedLaws

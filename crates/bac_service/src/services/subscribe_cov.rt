@@ -1,7 +1,8 @@
 //! SubscribeCOV (clauses 13.14 and 21).
 
 ghost use Rattle.std.specs.Prelude.{◌≡◌};
-ghost use Rattle.bac_service.specs.SubscribeCov.{SpellsSubscribeCov, subscribe_cov_parts};
+ghost use Rattle.bac_service.specs.SubscribeCov.{SpellsSubscribeCov};
+ghost use Rattle.bac_service.specs.laws.SubscribeCovLaws.{subscribe_cov_parts};
 
 use crate::named::Named;
 use crate::production::Production;
