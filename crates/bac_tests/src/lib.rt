@@ -5,6 +5,8 @@
 #[cfg(test)]
 mod data;
 #[cfg(test)]
+mod tables;
+#[cfg(test)]
 mod tag;
 #[cfg(test)]
 mod value;
