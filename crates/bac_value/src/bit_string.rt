@@ -10,6 +10,7 @@ ghost use Rattle.std.proofs.Common.{lit≤};
 ghost use Rattle.bac_value.specs.BitsContents.{BitsContents, IsBits, CountsUnused, worth, octet_from, bits_of, packed_bits, IsLeastBits, least_bits};
 ghost use Rattle.bac_value.specs.BitsLaws.{bits_once, bits_only_values, bits_written, bits_least, bits_lengths, bits_each_length};
 
+use crate::bits_iter::BitsIter;
 use crate::primitives::Primitive;
 use crate::value_faults::{LIMIT, ValueFault};
 use bac_tag::{OutOfMemory, Refusal, Why};
@@ -111,6 +112,13 @@ impl Bits {
         bit_of(&self.contents, place)
     }
 
+    /// The bits in their order. It takes no memory.
+    pub fn iter(&self) -> BitsIter<'_>
+        ensures { result ≡ self.now }
+    {
+        BitsIter::over(&self.contents)
+    }
+
     /// The octets that hold the bits, eight to an octet, from its highest bit downwards. The unused bits of
     /// the last are zero.
     pub fn packed(&self) -> &[u8]
@@ -118,6 +126,21 @@ impl Bits {
         ensures packed { result.now ≡ packed_bits self.now }
     {
         behind_count(&self.contents)
+    }
+}
+
+/// The bits in their order, as [`Bits::iter`] gives them.
+impl<'a> IntoIterator for &'a Bits {
+    ghost use Rattle.std.specs.Prelude.{◌≡◌};
+
+    type Item = bool;
+
+    type IntoIter = BitsIter<'a>;
+
+    ghost into_iter_gives = { λ bits iter. iter ≡ bits.now };
+
+    fn into_iter(self) -> BitsIter<'a> {
+        self.iter()
     }
 }
 
@@ -131,7 +154,7 @@ fn behind_count(contents: &[u8]) -> &[u8]
 }
 
 /// How many bits written contents hold.
-fn bit_count(contents: &[u8]) -> usize
+pub(crate) fn bit_count(contents: &[u8]) -> usize
     requires { IsLeastBits contents.now }
     ensures { result ≡ length (bits_of contents.now) }
 {
@@ -139,7 +162,7 @@ fn bit_count(contents: &[u8]) -> usize
 }
 
 /// One of the bits that written contents hold, counted from 0.
-fn bit_of(contents: &[u8], place: usize) -> Option<bool>
+pub(crate) fn bit_of(contents: &[u8], place: usize) -> Option<bool>
     requires { IsLeastBits contents.now }
     ensures { result ≡ slice_get (bits_of contents.now) place }
 {

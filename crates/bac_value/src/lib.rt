@@ -3,6 +3,7 @@
 #![tactic(auto)]
 
 mod bit_string;
+mod bits_iter;
 mod boolean_value;
 mod character_string;
 mod contents;
@@ -29,6 +30,7 @@ mod value_faults;
 mod variants;
 
 pub use bit_string::Bits;
+pub use bits_iter::BitsIter;
 pub use boolean_value::Boolean;
 pub use character_string::Text;
 pub use contents::{append_written, mark_contents, written_len_of};
