@@ -19,3 +19,4 @@ mod RangeLemmas
 mod DepthLemmas
 pub mod ValueLemmas
 mod PartLemmas
+mod SameLemmas

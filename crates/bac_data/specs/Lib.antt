@@ -13,3 +13,4 @@ pub mod Refusals
 pub mod Under
 pub mod Reading
 pub mod Marks
+pub mod Same

@@ -1,6 +1,6 @@
 //! How an open value is held: a node for each event, and the contents of all its primitives, joined.
 
-ghost use Rattle.std.specs.Prelude.{◌≡◌, ◌≤◌, ◌∷◌, ◌++◌, [], take, length, IfErr, OnOk};
+ghost use Rattle.std.specs.Prelude.{◌≡◌, ◌≤◌, ◌↔◌, IsTrue, ◌∷◌, ◌++◌, [], take, length, IfErr, OnOk};
 ghost use Rattle.bac_data.specs.Events.{application, contextual};
 ghost use Rattle.bac_data.specs.Nodes.{node_number, AreNodes};
 ghost use Rattle.bac_data.specs.Adding.{Adds};
@@ -48,6 +48,18 @@ impl Node {
             | Node::Close(number) => number,
         }
     }
+}
+
+/// Whether the same octets and the same nodes are held.
+pub(crate) fn is_held_alike(
+    octets: &[u8],
+    nodes: &[Node],
+    other_octets: &[u8],
+    other_nodes: &[Node],
+) -> bool
+    ensures { IsTrue result ↔ ((octets.now ≡ other_octets.now) × (nodes.now ≡ other_nodes.now)) }
+{
+    octets == other_octets && nodes == other_nodes
 }
 
 /// Appends a node. Where memory is refused, the octets from `start` on go with it.

@@ -1,14 +1,17 @@
 //! An open value (clause 20.2).
 
-ghost use Rattle.std.specs.Prelude.{◌≡◌, ◌≤◌, ℕ, List, [], length};
+ghost use Rattle.std.specs.Prelude.{◌≡◌, ◌≤◌, ◌↔◌, IsTrue, ℕ, List, [], length};
+ghost use Rattle.std.specs.Cmp.{partial_equiv_from_equiv};
 ghost use Rattle.bac_data.specs.OpenValue.{depth, IsOpenValue};
 ghost use Rattle.bac_data.specs.Spells.{SpellsAll};
 ghost use Rattle.bac_data.specs.Events.{events, Opens};
 ghost use Rattle.bac_data.specs.Nodes.{nodes_events, AreNodes};
 ghost use Rattle.bac_data.specs.Endings.{HoldEndings};
+ghost use Rattle.bac_data.specs.Same.{same_values, same_values_equiv};
 
-use crate::nodes::Node;
+use crate::nodes::{Node, is_held_alike};
 use crate::walking::{Event, Events};
+use std::alloc::AllocError;
 use std::marker::Model;
 
 /// An open value: a list of elements, each an application primitive, a context primitive (its number and its
@@ -49,6 +52,38 @@ impl<'a> IntoIterator for &'a Any {
 
     fn into_iter(self) -> Events<'a> {
         self.events()
+    }
+}
+
+/// Two open values are equal exactly where they are the same value, and so where their canonical octets are equal.
+impl PartialEq for Any {
+    ghost eq = { same_values };
+
+    ghost laws = { partial_equiv_from_equiv same_values_equiv };
+
+    fn eq(&self, other: &Any) -> bool
+        ensures answer { result ≡ same_values self.now other.now }
+        ensures same { IsTrue result ↔ (self.now ≡ other.now) }
+    {
+        is_held_alike(&self.octets, &self.nodes, &other.octets, &other.nodes)
+    }
+}
+
+impl Eq for Any {
+    ghost laws = { same_values_equiv };
+}
+
+/// A copy is the same value.
+impl Clone for Any {
+    ghost is_clone = { λ any copy. copy ≡ any };
+
+    /// # Errors
+    /// `AllocError` where memory is refused.
+    fn clone(&self) -> Result<Any, AllocError> {
+        let alloc = *self.octets.allocator();
+        let octets = Vec::from_slice(alloc, &self.octets)?;
+        let nodes = Vec::from_slice(alloc, &self.nodes)?;
+        Ok(Any { octets, nodes })
     }
 }
 

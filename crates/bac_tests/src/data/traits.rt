@@ -1,7 +1,8 @@
 //! Open values by Rust's own traits.
 
-use bac_data::{AnyBuilder, BuildFault, Event};
+use bac_data::{Any, AnyBuilder, BuildFault, Event, read_any};
 use bac_value::{Prim, PrimRef, Unsigned};
+use std::alloc::Global;
 use std::test::Fail;
 
 #[test]
@@ -28,6 +29,33 @@ fn a_value_is_walked_by_a_loop(rt: HostRuntime) -> Result<(), Fail> {
         place += 1;
     }
     assert_eq!(rt; place, 3);
+    Ok(())
+}
+
+/// The value between tags of the number 3.
+fn value_of(alloc: Global, octets: &[u8]) -> Result<Any, Fail> {
+    let (value, _) = read_any(alloc, octets, 3)?;
+    Ok(value)
+}
+
+// The spelling does not count, but each number, each octet and each group does.
+#[test]
+fn values_are_compared_by_what_they_say(rt: HostRuntime) -> Result<(), Fail> {
+    let value = value_of(rt.alloc(), &[0x3E, 0x7E, 0x21, 0x05, 0x7F, 0x3F])?;
+    let longer = [0x3E, 0x7E, 0x22, 0x00, 0x05, 0x7F, 0x3F];
+    assert_eq!(rt; value, value_of(rt.alloc(), &longer)?);
+    let others: [&[u8]; 6] = [
+        &[0x3E, 0x3F],
+        &[0x3E, 0x21, 0x05, 0x3F],
+        &[0x3E, 0x6E, 0x21, 0x05, 0x6F, 0x3F],
+        &[0x3E, 0x7E, 0x21, 0x06, 0x7F, 0x3F],
+        &[0x3E, 0x7E, 0x91, 0x05, 0x7F, 0x3F],
+        &[0x3E, 0x7E, 0x7F, 0x21, 0x05, 0x3F],
+    ];
+    for other in others {
+        assert_ne!(rt; value, value_of(rt.alloc(), other)?, "{other:?}");
+    }
+    assert_eq!(rt; value.clone()?, value);
     Ok(())
 }
 

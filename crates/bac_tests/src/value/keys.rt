@@ -62,6 +62,20 @@ fn bits_may_be_none(rt: HostRuntime) -> Result<(), Fail> {
 }
 
 #[test]
+fn bits_are_given_in_their_order(rt: HostRuntime) -> Result<(), Fail> {
+    let wanted = [true, false, false, true, true, false, true, false, true];
+    let bits = Bits::new(rt.alloc(), &wanted)?;
+    assert_eq!(rt; bits.iter().len(), 9);
+    assert_eq!(rt; bits.iter().size_hint(), (9, Some(9)));
+    let mut given = Vec::new(rt.alloc());
+    for bit in &bits {
+        given.push(bit)?;
+    }
+    assert_eq!(rt; given.as_slice(), wanted.as_slice());
+    Ok(())
+}
+
+#[test]
 fn faults_are_shown(rt: HostRuntime) -> Result<(), Fail> {
     let fault = ValueFault::TooLong;
     assert_eq!(rt;
