@@ -1,0 +1,63 @@
+-- APDUs with a service behind their head.
+use Rattle.std.specs.Prelude.{◌≡◌, ℕ, ◌<◌, ◌≤◌, true, List, [], ◌++◌, length, drop, Option, None, refl}
+use Rattle.std.proofs.Common.{sym, ◌∙◌, ap, subst}
+use Rattle.std.proofs.lemmas.List.{length-take-le}
+use Rattle.bac_tag.specs.declared.refusals.Refusal.{Refusal}
+use Rattle.bac_tag.specs.Octets.{IsMark, joined_mark}
+use Rattle.bac_tag.specs.Refusals.{behind}
+use Rattle.bac_tag.specs.Spelling.{HasMark, IsWholeRefusal}
+use Rattle.bac_service.specs.declared.kind.Kind.{Kind}
+use Rattle.bac_service.specs.declared.service.Service.{Service}
+use Rattle.bac_service.specs.ServiceTable.{production_of, is_small as is_small_service}
+use Rattle.bac_service.specs.ServiceValues.{ServiceValue, opaque, value_of as service_of}
+use Rattle.bac_service.specs.Services.{SpellsService}
+use Rattle.bac_apdu.specs.HeadOctets.{least_head}
+use Rattle.bac_apdu.specs.FirstOctet.{HasType, HasSeg, HasGoodWindow}
+use Rattle.bac_apdu.specs.Apdus.{ApduValue, head_of, SpellsServiceOf, SpellsBody, SpellsApdu}
+use Rattle.bac_apdu.specs.Decoded.{small_of, IsRefused, IsServiceBehind, IsRefusedBehind}
+use Rattle.bac_apdu.proofs.HeadOctetLemmas.{headed_mark}
+use Rattle.bac_apdu.proofs.BehindLemmas.{whole_body}
+use Rattle.bac_apdu.proofs.FilledLemmas.{filled, filled_taken, filled_split}
+use Rattle.bac_apdu.proofs.ReasonLemmas.{reasoned, begins_small_as}
+
+-- a service of a choice is one of its own choice
+pub own_choice : (k : Kind) (c : ℕ) (s : ServiceValue) (b : List ℕ) → SpellsService true 32 k c s b → SpellsServiceOf k s b
+own_choice k c s b h = subst (λ (n : ℕ). SpellsService true 32 k n s b) (sym h.choice_is) h
+
+pub at_choice : (k : Kind) (c : ℕ) (s : ServiceValue) (b : List ℕ) → c ≡ s.choice → SpellsServiceOf k s b → SpellsService true 32 k c s b
+at_choice k c s b e h = subst (λ (n : ℕ). SpellsService true 32 k n s b) (sym e) h
+
+-- a service without a production and without octets
+pub nothing_carried : (k : Kind) (c : ℕ) → c < 256 → None ≡ production_of true k c → SpellsServiceOf k (opaque k c []) []
+nothing_carried k c fits e = record { kind_is = refl; choice_is = refl; choice_fits = fits; production_is = e; spelled = (refl, tt) }
+
+module _ (k : Kind) (c : ℕ) (b least : List ℕ) (long : length least ≤ length b) where
+  pub carrying_refused : (t g : ℕ) (r : Refusal)
+      → ((s : ServiceValue) (d : List ℕ) → SpellsService true 32 k c s d → (x : ApduValue) × SpellsApdu x (filled (length least) b ++ d))
+      → ((x : ApduValue) (d : List ℕ) → SpellsApdu x (filled (length least) b ++ d) → (s : ServiceValue) × SpellsService true 32 k c s d)
+      → HasType t b → HasSeg g b → t < 8 → HasGoodWindow b → small_of t g b ≡ is_small_service k c → IsRefusedBehind k c b least r → IsRefused b r
+  carrying_refused t g r every only h f low good small e = record {
+    refused = λ w.
+        let q = e.refused w in
+        let n : length (filled (length least) b) ≡ length least = ap (λ (l : List ℕ). length l) (sym (filled_taken (length least) b long)) ∙ length-take-le (length least) b long in
+        let all = whole_body SpellsApdu (SpellsService true 32 k c) (filled (length least) b) (drop (length least) b) q.0 every only q.1 in
+        subst (λ (l : List ℕ). IsWholeRefusal SpellsApdu l r) (sym (filled_split (length least) b long))
+        (subst (IsWholeRefusal SpellsApdu (filled (length least) b ++ drop (length least) b)) (ap (λ (m : ℕ). behind m q.0) n ∙ sym q.2) all);
+    memory = λ w. let m = e.memory w in (m.0, begins_small_as t g b h f ∙ small ∙ m.1);
+    reasoned = reasoned t b r h low good e.reason;
+  }
+
+  pub carrying_found : (v : ApduValue) (service : Service) (mark : Option ℕ)
+      → ((d : List ℕ) → SpellsService true 32 k c (service_of service) d → SpellsApdu v (filled (length least) b ++ d))
+      → ((d : List ℕ) (m : Option ℕ) → HasMark (SpellsServiceOf k (service_of service)) d m → HasMark (SpellsBody v) d m)
+      → ((service_of service).choice ≡ c → least ≡ least_head (head_of v)) → IsServiceBehind k c b least service mark → SpellsApdu v b × HasMark (SpellsApdu v) b mark
+  carrying_found v service mark every body same f =
+      let n = length least in
+      let s = every (drop n b) f.spelled in
+      let own = body (drop n b) f.second (subst (λ (m : ℕ). HasMark (SpellsService true 32 k m (service_of service)) (drop n b) f.second) (sym f.spelled.choice_is) f.of_service) in
+      let size : length (filled n b) ≡ n = ap (λ (l : List ℕ). length l) (sym (filled_taken n b long)) ∙ length-take-le n b long in
+      let head : IsMark (filled n b) (least_head (head_of v)) f.first = subst (λ (l : List ℕ). IsMark (filled n b) l f.first) (same f.spelled.choice_is) (subst (λ (l : List ℕ). IsMark l least f.first) (filled_taken n b long) f.of_head) in
+      let m = headed_mark (head_of v) (SpellsBody v) f.first f.second (filled n b) (drop n b) s head own in
+      let at : filled n b ++ drop n b ≡ b = sym (filled_split n b long) in
+      let mark_at : HasMark (SpellsApdu v) (filled n b ++ drop n b) mark = subst (HasMark (SpellsApdu v) (filled n b ++ drop n b)) (ap (λ (k : ℕ). joined_mark f.first k f.second) size ∙ sym f.mark_is) m in
+      (subst (SpellsApdu v) at s, subst (λ (l : List ℕ). HasMark (SpellsApdu v) l mark) at mark_at)

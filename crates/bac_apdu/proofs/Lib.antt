@@ -1,0 +1,17 @@
+pub mod HeadOctetLemmas
+pub mod BehindLemmas
+pub mod FilledLemmas
+mod TypeLemmas
+mod ReasonLemmas
+mod WindowLemmas
+mod EndingLemmas
+mod CarryingLemmas
+mod ConfirmedRequestLemmas
+mod UnconfirmedRequestLemmas
+mod SimpleAckLemmas
+mod ComplexAckLemmas
+mod SegmentAckLemmas
+mod ErrorPduLemmas
+mod RejectLemmas
+mod AbortLemmas
+mod SegmentLemmas

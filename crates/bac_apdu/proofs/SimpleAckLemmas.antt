@@ -1,0 +1,34 @@
+-- SimpleACK.
+use Rattle.std.specs.Prelude.{ℕ, ◌<◌, ◌≤◌, List, [], ◌∷◌, length, slice_index, Option, Ok, Err, refl}
+use Rattle.std.proofs.Common.{ap, arith}
+use Rattle.bac_tag.specs.declared.refusals.Refusal.{Refusal}
+use Rattle.bac_tag.specs.declared.refusals.Why.TheVariants.{Short}
+use Rattle.bac_tag.specs.Spelling.{HasMark}
+use Rattle.bac_apdu.specs.FirstOctet.{seg_at, ends_at, HasType, HasEnd, HasGoodWindow}
+use Rattle.bac_apdu.specs.Apdus.{ApduValue, simple_ack, SpellsApdu}
+use Rattle.bac_apdu.specs.Decoded.{IsRefused, IsEnded}
+use Rattle.bac_apdu.proofs.FilledLemmas.{filled, viable_itself}
+use Rattle.bac_apdu.proofs.ReasonLemmas.{windowless, ends_within}
+use Rattle.bac_apdu.proofs.EndingLemmas.{end_refused, end_found}
+
+module _ (b : List ℕ) (small : (k : ℕ) → slice_index b k < 256) (h : HasType 2 b) where
+  abbrev pub value : ApduValue
+  value = simple_ack (slice_index b 1) (slice_index b 2)
+
+  spelled : SpellsApdu value (filled 3 b)
+  spelled = ((h.1, tt, tt, tt, tt), ((refl, small 1), ((refl, small 2), refl)))
+
+  good : HasGoodWindow b
+  good = windowless 2 (seg_at (slice_index b 0)) b h refl refl
+
+  end : HasEnd b
+  end = (h.0, ap ends_at h.1)
+
+  pub simple_ack_short : length b < 3 → IsRefused b (record { place = length b; why = Short })
+  simple_ack_short lt = ends_within 2 (seg_at (slice_index b 0)) 3 b h refl (omega arith) good (omega (arith, lt)) lt (viable_itself SpellsApdu value (filled 3 b) spelled)
+
+  pub simple_ack_refused : (r : Refusal) → 3 ≤ length b → IsEnded b (32 ∷ slice_index b 1 ∷ slice_index b 2 ∷ []) (Err r) → IsRefused b r
+  simple_ack_refused r long e = end_refused value b (32 ∷ slice_index b 1 ∷ slice_index b 2 ∷ []) end long refl spelled r good e
+
+  pub simple_ack_found : (m : Option ℕ) → 3 ≤ length b → IsEnded b (32 ∷ slice_index b 1 ∷ slice_index b 2 ∷ []) (Ok m) → SpellsApdu value b × HasMark (SpellsApdu value) b m
+  simple_ack_found m long e = end_found value b (32 ∷ slice_index b 1 ∷ slice_index b 2 ∷ []) end long refl spelled m e

@@ -1,0 +1,7 @@
+-- Abort (clause 20.1.9).
+use Rattle.std.specs.Prelude.{ℕ, Bool, Some, None, List, [], ◌∷◌}
+use Rattle.bac_apdu.specs.HeadOctets.{Part, typed, octet}
+
+-- type 7 with bits 3 to 1 free and SRV; invoke id; reason
+abbrev pub abort_head : ℕ → Bool → ℕ → List Part
+abort_head invoke srv reason = typed 7 None None None (Some srv) ∷ octet invoke ∷ octet reason ∷ []

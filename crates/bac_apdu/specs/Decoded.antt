@@ -1,0 +1,90 @@
+-- What decoding an APDU gives.
+use Rattle.std.specs.Prelude.{◌≡◌, ◌≢◌, ◌↔◌, ◌⊎◌, ℕ, ◌<◌, Bool, true, false, cond, nat_eq, Option, List, length, take, drop, slice_index, Result, Ok, Err}
+use Rattle.bac_tag.specs.declared.refusals.Refusal.{Refusal}
+use Rattle.bac_tag.specs.declared.refusals.Why.{Why}
+use Rattle.bac_tag.specs.declared.refusals.Why.TheVariants.{Trailing, PduType, Window, OutOfMemory}
+use Rattle.bac_tag.specs.Octets.{IsMark, joined_mark}
+use Rattle.bac_tag.specs.Refusals.{behind}
+use Rattle.bac_tag.specs.Spelling.{HasMark, IsWholeRefusal}
+use Rattle.bac_service.specs.declared.kind.Kind.{Kind}
+use Rattle.bac_service.specs.declared.kind.Kind.TheVariants.{Confirmed, Unconfirmed, ComplexAck, Error}
+use Rattle.bac_service.specs.declared.service.Service.{Service}
+use Rattle.bac_service.specs.Reasons.{IsServiceReason}
+use Rattle.bac_service.specs.ServiceTable.{is_small as is_small_service}
+use Rattle.bac_service.specs.ServiceValues.{value_of as service_of}
+use Rattle.bac_service.specs.Services.{SpellsService}
+use Rattle.bac_apdu.specs.declared.apdu.Apdu.{Apdu}
+use Rattle.bac_apdu.specs.FirstOctet.{type_at, seg_at, IsTypePlace, IsWindowPlace}
+use Rattle.bac_apdu.specs.Apdus.{ApduValue, confirmed_request, unconfirmed_request, simple_ack, complex_ack, segment_ack, error, reject, abort, segment, SpellsApdu, value_of}
+
+-- a small APDU: one that ends behind its head, or that carries a small service
+abbrev pub is_small : ApduValue → Bool
+is_small (confirmed_request head service) = is_small_service Confirmed service.choice
+is_small (unconfirmed_request service) = is_small_service Unconfirmed service.choice
+is_small (simple_ack invoke choice) = true
+is_small (complex_ack invoke service) = is_small_service ComplexAck service.choice
+is_small (segment_ack invoke nak srv seq size) = true
+is_small (error invoke service) = is_small_service Error service.choice
+is_small (reject invoke reason) = true
+is_small (abort invoke srv reason) = true
+is_small (segment head seq size more choice piece) = false
+
+-- the same by the octets of a head, of a type and with this SEG
+abbrev pub small_of : ℕ → ℕ → List ℕ → Bool
+small_of type seg octets =
+    cond (nat_eq type 0) (cond (nat_eq seg 0) (is_small_service Confirmed (slice_index octets 3)) false)
+    (cond (nat_eq type 1) (is_small_service Unconfirmed (slice_index octets 1))
+    (cond (nat_eq type 3) (cond (nat_eq seg 0) (is_small_service ComplexAck (slice_index octets 2)) false)
+    (cond (nat_eq type 5) (is_small_service Error (slice_index octets 2)) true)))
+
+abbrev pub begins_small : List ℕ → Bool
+begins_small octets = small_of (type_at (slice_index octets 0)) (seg_at (slice_index octets 0)) octets
+
+-- of an APDU: PduType, Window, or those of a service
+abbrev pub IsApduReason : Why → Type 0
+IsApduReason why = (why ≡ PduType) ⊎ ((why ≡ Window) ⊎ IsServiceReason why)
+
+-- PduType is told exactly of a first octet of no type, and Window of an octet for a window that is none
+pub record IsReasoned (octets : List ℕ) (refusal : Refusal) : Type 0 where
+  pub of_type : (refusal.why ≡ PduType) ↔ IsTypePlace octets refusal.place
+  pub of_window : (refusal.why ≡ Window) ↔ IsWindowPlace octets refusal.place
+  pub others : IsApduReason refusal.why
+
+-- the octets spell the APDU, and have the mark
+pub record IsFound (octets : List ℕ) (apdu : Apdu) (mark : Option ℕ) : Type 0 where
+  pub spelled : SpellsApdu (value_of apdu) octets
+  pub marked : HasMark (SpellsApdu (value_of apdu)) octets mark
+
+-- the octets spell no APDU, or memory was refused, which is not told of a small one
+pub record IsRefused (octets : List ℕ) (refusal : Refusal) : Type 0 where
+  pub refused : refusal.why ≢ OutOfMemory → IsWholeRefusal SpellsApdu octets refusal
+  pub memory : refusal.why ≡ OutOfMemory → (refusal.place ≡ 0) × (begins_small octets ≡ false)
+  pub reasoned : IsReasoned octets refusal
+
+abbrev pub IsDecoded : List ℕ → Result (Apdu × Option ℕ) Refusal → Type 0
+IsDecoded octets (Ok found) = IsFound octets found.0 found.1
+IsDecoded octets (Err refusal) = IsRefused octets refusal
+
+-- a service behind a head with these least octets, and the mark of both
+pub record IsServiceBehind (kind : Kind) (choice : ℕ) (octets head : List ℕ) (service : Service) (mark : Option ℕ) : Type 0 where
+  pub spelled : SpellsService true 32 kind choice (service_of service) (drop (length head) octets)
+  pub first : Option ℕ
+  pub second : Option ℕ
+  pub of_head : IsMark (take (length head) octets) head first
+  pub of_service : HasMark (SpellsService true 32 kind choice (service_of service)) (drop (length head) octets) second
+  pub mark_is : mark ≡ joined_mark first (length head) second
+
+-- no service behind the head
+pub record IsRefusedBehind (kind : Kind) (choice : ℕ) (octets head : List ℕ) (refusal : Refusal) : Type 0 where
+  pub refused : refusal.why ≢ OutOfMemory → (r : Refusal) × IsWholeRefusal (SpellsService true 32 kind choice) (drop (length head) octets) r × (refusal ≡ behind (length head) r)
+  pub memory : refusal.why ≡ OutOfMemory → (refusal.place ≡ 0) × (is_small_service kind choice ≡ false)
+  pub reason : IsServiceReason refusal.why
+
+abbrev pub IsBehind : Kind → ℕ → List ℕ → List ℕ → Result (Service × Option ℕ) Refusal → Type 0
+IsBehind kind choice octets head (Ok found) = IsServiceBehind kind choice octets head found.0 found.1
+IsBehind kind choice octets head (Err refusal) = IsRefusedBehind kind choice octets head refusal
+
+-- the octets end behind a head with these least octets, with the mark of both; or they do not
+abbrev pub IsEnded : List ℕ → List ℕ → Result (Option ℕ) Refusal → Type 0
+IsEnded octets head (Ok mark) = (length octets ≡ length head) × IsMark octets head mark
+IsEnded octets head (Err refusal) = (length head < length octets) × (refusal ≡ record { place = length head; why = Trailing })

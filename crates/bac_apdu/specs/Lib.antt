@@ -1,0 +1,15 @@
+pub mod HeadOctets
+pub mod Behind
+pub mod Carriers
+pub mod FirstOctet
+pub mod ConfirmedRequest
+pub mod UnconfirmedRequest
+pub mod SimpleAck
+pub mod ComplexAck
+pub mod SegmentAck
+pub mod ErrorPdu
+pub mod Reject
+pub mod Abort
+pub mod Segment
+pub mod Apdus
+pub mod Decoded

@@ -1,0 +1,45 @@
+//! Ends of transactions (Abort, clause 20.1.9).
+
+ghost use Rattle.bac_apdu.specs.FirstOctet.{HasType};
+ghost use Rattle.bac_apdu.specs.Decoded.{IsDecoded};
+
+use crate::apdu::Apdu;
+use crate::heads::{Marked, ended, ends_early, first_octet, has_bit};
+use bac_tag::Refusal;
+
+/// The end of a transaction.
+///
+/// Octets (clause 20.1.9): type 7 in bits 7 to 4, SRV in bit 0; the invoke id; the reason. Bits 3 to 1 of the first
+/// octet are ignored, and 0 in canonical form.
+#[derive(Clone, Copy, Debug, PartialEq, Eq)]
+pub struct Abort {
+    /// The invoke id of the transaction.
+    pub invoke: u8,
+    /// Whether the server sent it.
+    pub srv: bool,
+    /// Why it was aborted (clause 18.9).
+    pub reason: u8,
+}
+
+/// Decodes an Abort.
+#[inline(always)]
+pub(crate) fn decode_abort(octets: &[u8]) -> Result<Marked, Refusal>
+    requires { HasType 7 octets.now }
+    ensures { IsDecoded octets.now result }
+{
+    let [first, invoke, reason, ..] = octets else {
+        return Err(ends_early(octets));
+    };
+    let abort = Abort {
+        invoke: *invoke,
+        srv: has_bit(*first, 0),
+        reason: *reason,
+    };
+    let least = [
+        first_octet(7, false, false, false, abort.srv),
+        *invoke,
+        *reason,
+    ];
+    let mark = ended(octets, &least)?;
+    Ok((Apdu::Abort(abort), mark))
+}

@@ -1,0 +1,83 @@
+//! Decoding an APDU.
+
+ghost use Rattle.std.specs.Prelude.{◌≡◌, ◌≢◌, ◌↔◌, false, IfOk, IfErr};
+ghost use Rattle.bac_tag.specs.Spelling.{HasMark, IsWholeRefusal};
+ghost use Rattle.bac_apdu.specs.FirstOctet.{IsTypePlace, IsWindowPlace};
+ghost use Rattle.bac_apdu.specs.Apdus.{SpellsApdu, value_of};
+ghost use Rattle.bac_apdu.specs.Decoded.{begins_small, IsApduReason, IsDecoded};
+
+use crate::abort::decode_abort;
+use crate::apdu::Apdu;
+use crate::complex_ack::decode_complex_ack;
+use crate::confirmed_request::decode_confirmed_request;
+use crate::error_pdu::decode_error_pdu;
+use crate::heads::{Marked, ends_early, has_bit};
+use crate::reject::decode_reject;
+use crate::segment::{decode_ack_segment, decode_request_segment};
+use crate::segment_ack::decode_segment_ack;
+use crate::simple_ack::decode_simple_ack;
+use crate::unconfirmed_request::decode_unconfirmed_request;
+use bac_tag::{Refusal, Why};
+use std::alloc::Global;
+
+/// Decodes an APDU of any type.
+fn decode_pdu(alloc: Global, octets: &[u8]) -> Result<Marked, Refusal>
+    ensures { IsDecoded octets.now result }
+{
+    let [first, ..] = octets else {
+        return Err(ends_early(octets));
+    };
+    let segmented = has_bit(*first, 3);
+    match *first >> 4 {
+        0 if segmented => decode_request_segment(alloc, octets),
+        0 => decode_confirmed_request(alloc, octets),
+        1 => decode_unconfirmed_request(alloc, octets),
+        2 => decode_simple_ack(octets),
+        3 if segmented => decode_ack_segment(alloc, octets),
+        3 => decode_complex_ack(alloc, octets),
+        4 => decode_segment_ack(octets),
+        5 => decode_error_pdu(alloc, octets),
+        6 => decode_reject(octets),
+        7 => decode_abort(octets),
+        _ => Err(Refusal {
+            place: 0,
+            why: Why::PduType,
+        }),
+    }
+}
+
+/// Decodes the APDU that all the octets spell, and gives the place of the first octet that differs from the canonical
+/// ones.
+///
+/// # Errors
+/// At the first octet with which no spelling of an APDU goes on: `PduType` at the first, `Window` at an octet for a
+/// window that is not 1 to 127, `Trailing` where the octets in front of it spell one, else the reasons of
+/// [`bac_service::decode_service_marked`]; `Short` where all the octets begin a spelling. `OutOfMemory` at 0 where
+/// memory is refused, which is told neither of SimpleACK, SegmentACK, Reject and Abort nor of services that want none.
+pub fn decode_apdu_marked(alloc: Global, octets: &[u8]) -> Result<(Apdu, Option<usize>), Refusal>
+    ensures found { IfOk result (λ found. SpellsApdu (value_of found.0) octets.now) }
+    ensures mark { IfOk result (λ found. HasMark (SpellsApdu (value_of found.0)) octets.now found.1) }
+    ensures refused { IfErr result (λ refusal. refusal.why ≢ Why.OutOfMemory → IsWholeRefusal SpellsApdu octets.now refusal) }
+    ensures memory { IfErr result (λ refusal. refusal.why ≡ Why.OutOfMemory → (refusal.place ≡ 0) × (begins_small octets.now ≡ false)) }
+    ensures types { IfErr result (λ refusal. (refusal.why ≡ Why.PduType) ↔ IsTypePlace octets.now refusal.place) }
+    ensures windows { IfErr result (λ refusal. (refusal.why ≡ Why.Window) ↔ IsWindowPlace octets.now refusal.place) }
+    ensures reasons { IfErr result (λ refusal. IsApduReason refusal.why) }
+{
+    decode_pdu(alloc, octets)
+}
+
+/// Decodes the APDU that all the octets spell.
+///
+/// # Errors
+/// As [`decode_apdu_marked`].
+pub fn decode_apdu(alloc: Global, octets: &[u8]) -> Result<Apdu, Refusal>
+    ensures found { IfOk result (λ apdu. SpellsApdu (value_of apdu) octets.now) }
+    ensures refused { IfErr result (λ refusal. refusal.why ≢ Why.OutOfMemory → IsWholeRefusal SpellsApdu octets.now refusal) }
+    ensures memory { IfErr result (λ refusal. refusal.why ≡ Why.OutOfMemory → (refusal.place ≡ 0) × (begins_small octets.now ≡ false)) }
+    ensures types { IfErr result (λ refusal. (refusal.why ≡ Why.PduType) ↔ IsTypePlace octets.now refusal.place) }
+    ensures windows { IfErr result (λ refusal. (refusal.why ≡ Why.Window) ↔ IsWindowPlace octets.now refusal.place) }
+    ensures reasons { IfErr result (λ refusal. IsApduReason refusal.why) }
+{
+    let (apdu, _) = decode_apdu_marked(alloc, octets)?;
+    Ok(apdu)
+}

@@ -1,0 +1,92 @@
+//! Answers with contents (ComplexACK, clause 20.1.5).
+
+ghost use Rattle.std.specs.Prelude.{◌≡◌, ◌↔◌, IsOk, IfOk, IfErr};
+ghost use Rattle.bac_service.specs.declared.kind.Kind.TheVariants.{ComplexAck as of_complex_ack};
+ghost use Rattle.bac_service.specs.ServiceValues.{value_of as service_of};
+ghost use Rattle.bac_apdu.specs.FirstOctet.{HasType, HasSeg};
+ghost use Rattle.bac_apdu.specs.Decoded.{IsDecoded};
+
+use crate::apdu::Apdu;
+use crate::heads::{Marked, ends_early};
+use crate::services::decode_behind;
+use bac_service::{Kind, Service};
+use bac_tag::Refusal;
+use std::alloc::Global;
+use std::marker::Model;
+
+/// An answer with contents, in one piece.
+///
+/// Octets (clause 20.1.5): type 3 in bits 7 to 4, SEG 0 in bit 3; the invoke id; the service choice; those of the
+/// service. Bits 2 to 0 of the first octet are ignored, and 0 in canonical form.
+#[derive(Debug, Drop)]
+pub struct ComplexAck {
+    invoke: u8,
+    service: Service,
+}
+
+impl Model for ComplexAck {
+    ghost use Rattle.std.specs.Prelude.{◌≡◌};
+    ghost use Rattle.bac_service.specs.declared.kind.Kind.TheVariants.{ComplexAck as of_complex_ack};
+    ghost use Rattle.bac_service.specs.ServiceValues.{value_of as service_of};
+    ghost use Rattle.bac_apdu.specs.Carriers.{AnswerCarrier, answer_code};
+
+    ghost Value = { AnswerCarrier };
+
+    ghost coded = { answer_code };
+
+    ghost view = { λ ack. record { invoke = ack.invoke; service = ack.service } };
+
+    ghost invariant = { λ ack. (service_of ack.service).kind ≡ of_complex_ack };
+}
+
+impl ComplexAck {
+    /// The answer with this invoke id and service.
+    ///
+    /// # Errors
+    /// The service, where its kind is another.
+    pub fn new(invoke: u8, service: Service) -> Result<ComplexAck, Service>
+        ensures ok { IsOk result ↔ ((service_of service).kind ≡ of_complex_ack) }
+        ensures value { IfOk result (λ ack. ack ≡ record { invoke = invoke; service = service }) }
+        ensures back { IfErr result (λ same. same ≡ service) }
+    {
+        if service.kind() != Kind::ComplexAck {
+            return Err(service);
+        }
+        Ok(ComplexAck { invoke, service })
+    }
+
+    /// The invoke id of the request.
+    #[inline(always)]
+    pub fn invoke(&self) -> u8
+        ensures { result ≡ self.now.invoke }
+    {
+        self.invoke
+    }
+
+    /// Its service.
+    #[inline(always)]
+    pub fn service(&self) -> &Service
+        ensures service { result.now ≡ self.now.service }
+        ensures kind { (service_of result.now).kind ≡ of_complex_ack }
+    {
+        &self.service
+    }
+}
+
+/// Decodes an answer in one piece.
+pub(crate) fn decode_complex_ack(alloc: Global, octets: &[u8]) -> Result<Marked, Refusal>
+    requires pdu { HasType 3 octets.now }
+    requires whole { HasSeg 0 octets.now }
+    ensures { IsDecoded octets.now result }
+{
+    let [_, invoke, choice, ..] = octets else {
+        return Err(ends_early(octets));
+    };
+    let least = [0x30, *invoke, *choice];
+    let (service, mark) = decode_behind(alloc, Kind::ComplexAck, *choice, octets, &least)?;
+    let ack = ComplexAck {
+        invoke: *invoke,
+        service,
+    };
+    Ok((Apdu::ComplexAck(ack), mark))
+}

@@ -1,0 +1,114 @@
+//! Requests that want an answer (Confirmed-Request, clause 20.1.2).
+
+ghost use Rattle.std.specs.Prelude.{◌≡◌, ◌↔◌, IsOk, IfOk, IfErr};
+ghost use Rattle.bac_service.specs.declared.kind.Kind.TheVariants.{Confirmed};
+ghost use Rattle.bac_service.specs.ServiceValues.{value_of as service_of};
+ghost use Rattle.bac_apdu.specs.FirstOctet.{HasType, HasSeg};
+ghost use Rattle.bac_apdu.specs.Decoded.{IsDecoded};
+
+use crate::apdu::Apdu;
+use crate::heads::{Marked, ends_early, first_octet, has_bit};
+use crate::max_resp::MaxResp;
+use crate::max_segs::MaxSegs;
+use crate::services::decode_behind;
+use bac_service::{Kind, Service};
+use bac_tag::Refusal;
+use std::alloc::Global;
+use std::marker::Model;
+
+/// What the head of a request says, in one piece or in segments, beside its service choice.
+#[derive(Clone, Copy, Debug, PartialEq, Eq)]
+pub struct RequestHead {
+    /// The invoke id, which the answer repeats.
+    pub invoke: u8,
+    /// Whether a segmented answer is accepted.
+    pub sa: bool,
+    /// How many segments of an answer are accepted.
+    pub segs: MaxSegs,
+    /// How long an APDU of the answer may be.
+    pub resp: MaxResp,
+}
+
+/// A request that wants an answer, in one piece.
+///
+/// Octets (clause 20.1.2): type 0 in bits 7 to 4, SEG 0 in bit 3, SA in bit 1; max-segments in bits 6 to 4 and
+/// max-response in bits 3 to 0; the invoke id; the service choice; those of the service. Bits 2 and 0 of the first
+/// octet and bit 7 of the second are ignored, and 0 in canonical form.
+#[derive(Debug, Drop)]
+pub struct ConfirmedRequest {
+    head: RequestHead,
+    service: Service,
+}
+
+impl Model for ConfirmedRequest {
+    ghost use Rattle.std.specs.Prelude.{◌≡◌};
+    ghost use Rattle.bac_service.specs.declared.kind.Kind.TheVariants.{Confirmed};
+    ghost use Rattle.bac_service.specs.ServiceValues.{value_of as service_of};
+    ghost use Rattle.bac_apdu.specs.Carriers.{RequestCarrier, request_code};
+
+    ghost Value = { RequestCarrier };
+
+    ghost coded = { request_code };
+
+    ghost view = { λ request. record { head = request.head; service = request.service } };
+
+    ghost invariant = { λ request. (service_of request.service).kind ≡ Confirmed };
+}
+
+impl ConfirmedRequest {
+    /// The request with this head and service.
+    ///
+    /// # Errors
+    /// The service, where its kind is another.
+    pub fn new(head: RequestHead, service: Service) -> Result<ConfirmedRequest, Service>
+        ensures ok { IsOk result ↔ ((service_of service).kind ≡ Confirmed) }
+        ensures value { IfOk result (λ request. request ≡ record { head = head; service = service }) }
+        ensures back { IfErr result (λ same. same ≡ service) }
+    {
+        if service.kind() != Kind::Confirmed {
+            return Err(service);
+        }
+        Ok(ConfirmedRequest { head, service })
+    }
+
+    /// Its head.
+    pub fn head(&self) -> RequestHead
+        ensures { result ≡ self.now.head }
+    {
+        self.head
+    }
+
+    /// Its service.
+    pub fn service(&self) -> &Service
+        ensures service { result.now ≡ self.now.service }
+        ensures kind { (service_of result.now).kind ≡ Confirmed }
+    {
+        &self.service
+    }
+}
+
+/// Decodes a request in one piece.
+pub(crate) fn decode_confirmed_request(alloc: Global, octets: &[u8]) -> Result<Marked, Refusal>
+    requires pdu { HasType 0 octets.now }
+    requires whole { HasSeg 0 octets.now }
+    ensures { IsDecoded octets.now result }
+{
+    let [first, limits, invoke, choice, ..] = octets else {
+        return Err(ends_early(octets));
+    };
+    let head = RequestHead {
+        invoke: *invoke,
+        sa: has_bit(*first, 1),
+        segs: MaxSegs::of_octet(*limits),
+        resp: MaxResp::of_octet(*limits),
+    };
+    let least = [
+        first_octet(0, false, false, head.sa, false),
+        16 * head.segs.number() + head.resp.number(),
+        *invoke,
+        *choice,
+    ];
+    let (service, mark) = decode_behind(alloc, Kind::Confirmed, *choice, octets, &least)?;
+    let request = ConfirmedRequest { head, service };
+    Ok((Apdu::Confirmed(request), mark))
+}

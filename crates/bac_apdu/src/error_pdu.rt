@@ -1,0 +1,91 @@
+//! Answers to requests that failed (Error, clause 20.1.7).
+
+ghost use Rattle.std.specs.Prelude.{◌≡◌, ◌↔◌, IsOk, IfOk, IfErr};
+ghost use Rattle.bac_service.specs.declared.kind.Kind.TheVariants.{Error as of_error};
+ghost use Rattle.bac_service.specs.ServiceValues.{value_of as service_of};
+ghost use Rattle.bac_apdu.specs.FirstOctet.{HasType};
+ghost use Rattle.bac_apdu.specs.Decoded.{IsDecoded};
+
+use crate::apdu::Apdu;
+use crate::heads::{Marked, ends_early};
+use crate::services::decode_behind;
+use bac_service::{Kind, Service};
+use bac_tag::Refusal;
+use std::alloc::Global;
+use std::marker::Model;
+
+/// The answer to a request that failed.
+///
+/// Octets (clause 20.1.7): type 5 in bits 7 to 4; the invoke id; the service choice; those of the error. Bits 3 to 0 of
+/// the first octet are ignored, and 0 in canonical form.
+#[derive(Debug, Drop)]
+pub struct ErrorPdu {
+    invoke: u8,
+    service: Service,
+}
+
+impl Model for ErrorPdu {
+    ghost use Rattle.std.specs.Prelude.{◌≡◌};
+    ghost use Rattle.bac_service.specs.declared.kind.Kind.TheVariants.{Error as of_error};
+    ghost use Rattle.bac_service.specs.ServiceValues.{value_of as service_of};
+    ghost use Rattle.bac_apdu.specs.Carriers.{AnswerCarrier, answer_code};
+
+    ghost Value = { AnswerCarrier };
+
+    ghost coded = { answer_code };
+
+    ghost view = { λ answer. record { invoke = answer.invoke; service = answer.service } };
+
+    ghost invariant = { λ answer. (service_of answer.service).kind ≡ of_error };
+}
+
+impl ErrorPdu {
+    /// The answer with this invoke id and error.
+    ///
+    /// # Errors
+    /// The service, where its kind is another.
+    pub fn new(invoke: u8, service: Service) -> Result<ErrorPdu, Service>
+        ensures ok { IsOk result ↔ ((service_of service).kind ≡ of_error) }
+        ensures value { IfOk result (λ answer. answer ≡ record { invoke = invoke; service = service }) }
+        ensures back { IfErr result (λ same. same ≡ service) }
+    {
+        if service.kind() != Kind::Error {
+            return Err(service);
+        }
+        Ok(ErrorPdu { invoke, service })
+    }
+
+    /// The invoke id of the request.
+    #[inline(always)]
+    pub fn invoke(&self) -> u8
+        ensures { result ≡ self.now.invoke }
+    {
+        self.invoke
+    }
+
+    /// The error, as a service.
+    #[inline(always)]
+    pub fn service(&self) -> &Service
+        ensures service { result.now ≡ self.now.service }
+        ensures kind { (service_of result.now).kind ≡ of_error }
+    {
+        &self.service
+    }
+}
+
+/// Decodes an error.
+pub(crate) fn decode_error_pdu(alloc: Global, octets: &[u8]) -> Result<Marked, Refusal>
+    requires { HasType 5 octets.now }
+    ensures { IsDecoded octets.now result }
+{
+    let [_, invoke, choice, ..] = octets else {
+        return Err(ends_early(octets));
+    };
+    let least = [0x50, *invoke, *choice];
+    let (service, mark) = decode_behind(alloc, Kind::Error, *choice, octets, &least)?;
+    let answer = ErrorPdu {
+        invoke: *invoke,
+        service,
+    };
+    Ok((Apdu::Error(answer), mark))
+}

@@ -1,0 +1,67 @@
+//! What the heads have in common.
+
+ghost use Rattle.std.specs.Prelude.{◌≡◌, ◌+◌, ◌*◌, ◌<◌, ◌≤◌, ◌/◌, ◌%◌, ◌^◌, length};
+ghost use Rattle.bac_tag.specs.declared.refusals.Why.TheVariants.{Short, OutOfMemory};
+ghost use Rattle.bac_apdu.specs.HeadOctets.{bit_of};
+ghost use Rattle.bac_apdu.specs.Decoded.{IsEnded};
+
+use crate::apdu::Apdu;
+use bac_tag::{Refusal, Why, first_difference};
+
+/// An APDU, and the first octet that differs from the canonical ones.
+pub(crate) type Marked = (Apdu, Option<usize>);
+
+/// The refusal of octets that end within a head.
+#[inline(always)]
+pub(crate) fn ends_early(octets: &[u8]) -> Refusal
+    ensures { result ≡ record { place = length octets.now; why = Short } }
+{
+    Refusal {
+        place: octets.len(),
+        why: Why::Short,
+    }
+}
+
+/// The refusal where memory is refused.
+#[inline(always)]
+pub(crate) fn out_of_memory() -> Refusal
+    ensures { result ≡ record { place = 0; why = OutOfMemory } }
+{
+    Refusal {
+        place: 0,
+        why: Why::OutOfMemory,
+    }
+}
+
+/// Whether the bit at this place is set.
+#[inline(always)]
+pub(crate) fn has_bit(octet: u8, place: u8) -> bool
+    requires { place < 8 }
+    ensures { octet / 2 ^ place % 2 ≡ bit_of result }
+{
+    (octet >> place) & 1 == 1
+}
+
+/// The octet with a number in bits 7 to 4, and these bits.
+#[inline(always)]
+pub(crate) fn first_octet(pdu: u8, third: bool, second: bool, first: bool, zeroth: bool) -> u8
+    requires { pdu < 8 }
+    ensures { result ≡ 16 * pdu + 8 * bit_of third + 4 * bit_of second + 2 * bit_of first + bit_of zeroth }
+{
+    16 * pdu + 8 * u8::from(third) + 4 * u8::from(second) + 2 * u8::from(first) + u8::from(zeroth)
+}
+
+/// Whether the octets end behind a head, of which these are the canonical octets, and its mark.
+#[inline(always)]
+pub(crate) fn ended(octets: &[u8], head: &[u8]) -> Result<Option<usize>, Refusal>
+    requires { length head.now ≤ length octets.now }
+    ensures { IsEnded octets.now head.now result }
+{
+    if octets.len() > head.len() {
+        return Err(Refusal {
+            place: head.len(),
+            why: Why::Trailing,
+        });
+    }
+    Ok(first_difference(octets, head))
+}

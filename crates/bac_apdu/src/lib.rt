@@ -1,0 +1,34 @@
+//! APDUs (clause 20.1): the head of each of the eight, and behind it a service, a segment's piece or nothing.
+#![tactic(auto)]
+
+mod abort;
+mod apdu;
+mod apdu_decoding;
+mod complex_ack;
+mod confirmed_request;
+mod error_pdu;
+mod heads;
+mod max_resp;
+mod max_segs;
+mod reject;
+mod segment;
+mod segment_ack;
+mod services;
+mod simple_ack;
+mod unconfirmed_request;
+mod window;
+
+pub use abort::Abort;
+pub use apdu::Apdu;
+pub use apdu_decoding::{decode_apdu, decode_apdu_marked};
+pub use complex_ack::ComplexAck;
+pub use confirmed_request::{ConfirmedRequest, RequestHead};
+pub use error_pdu::ErrorPdu;
+pub use max_resp::MaxResp;
+pub use max_segs::MaxSegs;
+pub use reject::Reject;
+pub use segment::{SegHead, Segment};
+pub use segment_ack::SegmentAck;
+pub use simple_ack::SimpleAck;
+pub use unconfirmed_request::UnconfirmedRequest;
+pub use window::Window;

@@ -1,0 +1,140 @@
+//! Segments of requests and of answers (clauses 20.1.2 and 20.1.5).
+
+ghost use Rattle.bac_apdu.specs.FirstOctet.{HasType, HasSeg};
+ghost use Rattle.bac_apdu.specs.Decoded.{IsDecoded};
+
+use crate::apdu::Apdu;
+use crate::confirmed_request::RequestHead;
+use crate::heads::{Marked, ends_early, first_octet, has_bit, out_of_memory};
+use crate::max_resp::MaxResp;
+use crate::max_segs::MaxSegs;
+use crate::window::Window;
+use bac_tag::{Refusal, Why, first_difference};
+use std::alloc::Global;
+
+/// Of what a segment is one.
+#[derive(Clone, Copy, Debug, PartialEq, Eq)]
+pub enum SegHead {
+    /// Of a Confirmed-Request, with its head.
+    Request(RequestHead),
+    /// Of a ComplexACK.
+    Ack {
+        /// The invoke id of the request.
+        invoke: u8,
+    },
+}
+
+/// One segment of a request or of an answer.
+///
+/// Octets of a segment of a request (clause 20.1.2): type 0 in bits 7 to 4, SEG 1 in bit 3, MOR in bit 2, SA in bit 1;
+/// max-segments in bits 6 to 4 and max-response in bits 3 to 0; the invoke id; the sequence number; the proposed
+/// window; the service choice; the piece. Bit 0 of the first octet and bit 7 of the second are ignored, and 0 in
+/// canonical form.
+///
+/// Of an answer (clause 20.1.5): type 3 in bits 7 to 4, SEG 1 in bit 3, MOR in bit 2; the invoke id; the sequence
+/// number; the proposed window; the service choice; the piece. Bits 1 and 0 of the first octet are ignored, and 0 in
+/// canonical form.
+#[derive(Debug, Drop)]
+pub struct Segment {
+    /// Of what it is a segment.
+    pub head: SegHead,
+    /// Its number among the segments.
+    pub seq: u8,
+    /// How many segments are sent before a SegmentACK is awaited.
+    pub window: Window,
+    /// Whether more segments follow.
+    pub more: bool,
+    /// The service choice.
+    pub choice: u8,
+    /// Its part of the octets of the service, of which it may have none.
+    pub piece: Vec<u8>,
+}
+
+/// Decodes a segment of a request.
+pub(crate) fn decode_request_segment(alloc: Global, octets: &[u8]) -> Result<Marked, Refusal>
+    requires pdu { HasType 0 octets.now }
+    requires segmented { HasSeg 1 octets.now }
+    ensures { IsDecoded octets.now result }
+{
+    let [first, limits, invoke, seq, size, ..] = octets else {
+        return Err(ends_early(octets));
+    };
+    let Some(window) = Window::new(*size) else {
+        return Err(Refusal {
+            place: 4,
+            why: Why::Window,
+        });
+    };
+    let [_, _, _, _, _, choice, ..] = octets else {
+        return Err(ends_early(octets));
+    };
+    let more = has_bit(*first, 2);
+    let head = RequestHead {
+        invoke: *invoke,
+        sa: has_bit(*first, 1),
+        segs: MaxSegs::of_octet(*limits),
+        resp: MaxResp::of_octet(*limits),
+    };
+    let least = [
+        first_octet(0, true, more, head.sa, false),
+        16 * head.segs.number() + head.resp.number(),
+        *invoke,
+        *seq,
+        *size,
+        *choice,
+    ];
+    let mark = first_difference(&octets[..6], &least);
+    let Ok(piece) = Vec::from_slice(alloc, &octets[6..]) else {
+        return Err(out_of_memory());
+    };
+    let segment = Segment {
+        head: SegHead::Request(head),
+        seq: *seq,
+        window,
+        more,
+        choice: *choice,
+        piece,
+    };
+    Ok((Apdu::Segment(segment), mark))
+}
+
+/// Decodes a segment of an answer.
+pub(crate) fn decode_ack_segment(alloc: Global, octets: &[u8]) -> Result<Marked, Refusal>
+    requires pdu { HasType 3 octets.now }
+    requires segmented { HasSeg 1 octets.now }
+    ensures { IsDecoded octets.now result }
+{
+    let [first, invoke, seq, size, ..] = octets else {
+        return Err(ends_early(octets));
+    };
+    let Some(window) = Window::new(*size) else {
+        return Err(Refusal {
+            place: 3,
+            why: Why::Window,
+        });
+    };
+    let [_, _, _, _, choice, ..] = octets else {
+        return Err(ends_early(octets));
+    };
+    let more = has_bit(*first, 2);
+    let least = [
+        first_octet(3, true, more, false, false),
+        *invoke,
+        *seq,
+        *size,
+        *choice,
+    ];
+    let mark = first_difference(&octets[..5], &least);
+    let Ok(piece) = Vec::from_slice(alloc, &octets[5..]) else {
+        return Err(out_of_memory());
+    };
+    let segment = Segment {
+        head: SegHead::Ack { invoke: *invoke },
+        seq: *seq,
+        window,
+        more,
+        choice: *choice,
+        piece,
+    };
+    Ok((Apdu::Segment(segment), mark))
+}

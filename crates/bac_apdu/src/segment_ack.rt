@@ -1,0 +1,59 @@
+//! What was received of segments (SegmentACK, clause 20.1.6).
+
+ghost use Rattle.bac_apdu.specs.FirstOctet.{HasType};
+ghost use Rattle.bac_apdu.specs.Decoded.{IsDecoded};
+
+use crate::apdu::Apdu;
+use crate::heads::{Marked, ended, ends_early, first_octet, has_bit};
+use crate::window::Window;
+use bac_tag::{Refusal, Why};
+
+/// What was received of segments.
+///
+/// Octets (clause 20.1.6): type 4 in bits 7 to 4, NAK in bit 1, SRV in bit 0; the invoke id; the sequence number; the
+/// actual window. Bits 3 and 2 of the first octet are ignored, and 0 in canonical form.
+#[derive(Clone, Copy, Debug, PartialEq, Eq)]
+pub struct SegmentAck {
+    /// The invoke id of the transaction.
+    pub invoke: u8,
+    /// Whether a segment came out of order.
+    pub nak: bool,
+    /// Whether the server sent it.
+    pub srv: bool,
+    /// The number of the last segment that was taken.
+    pub seq: u8,
+    /// How many segments may follow.
+    pub window: Window,
+}
+
+/// Decodes a SegmentACK.
+#[inline(always)]
+pub(crate) fn decode_segment_ack(octets: &[u8]) -> Result<Marked, Refusal>
+    requires { HasType 4 octets.now }
+    ensures { IsDecoded octets.now result }
+{
+    let [first, invoke, seq, size, ..] = octets else {
+        return Err(ends_early(octets));
+    };
+    let Some(window) = Window::new(*size) else {
+        return Err(Refusal {
+            place: 3,
+            why: Why::Window,
+        });
+    };
+    let ack = SegmentAck {
+        invoke: *invoke,
+        nak: has_bit(*first, 1),
+        srv: has_bit(*first, 0),
+        seq: *seq,
+        window,
+    };
+    let least = [
+        first_octet(4, false, false, ack.nak, ack.srv),
+        *invoke,
+        *seq,
+        *size,
+    ];
+    let mark = ended(octets, &least)?;
+    Ok((Apdu::SegmentAck(ack), mark))
+}

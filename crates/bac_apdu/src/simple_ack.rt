@@ -1,0 +1,37 @@
+//! Answers without contents (SimpleACK, clause 20.1.4).
+
+ghost use Rattle.bac_apdu.specs.FirstOctet.{HasType};
+ghost use Rattle.bac_apdu.specs.Decoded.{IsDecoded};
+
+use crate::apdu::Apdu;
+use crate::heads::{Marked, ended, ends_early};
+use bac_tag::Refusal;
+
+/// An answer without contents: the request was carried out.
+///
+/// Octets (clause 20.1.4): type 2 in bits 7 to 4; the invoke id; the service choice. Bits 3 to 0 of the first octet are
+/// ignored, and 0 in canonical form.
+#[derive(Clone, Copy, Debug, PartialEq, Eq)]
+pub struct SimpleAck {
+    /// The invoke id of the request.
+    pub invoke: u8,
+    /// The service choice of the request.
+    pub choice: u8,
+}
+
+/// Decodes a SimpleACK.
+#[inline(always)]
+pub(crate) fn decode_simple_ack(octets: &[u8]) -> Result<Marked, Refusal>
+    requires { HasType 2 octets.now }
+    ensures { IsDecoded octets.now result }
+{
+    let [_, invoke, choice, ..] = octets else {
+        return Err(ends_early(octets));
+    };
+    let ack = SimpleAck {
+        invoke: *invoke,
+        choice: *choice,
+    };
+    let mark = ended(octets, &[0x20, *invoke, *choice])?;
+    Ok((Apdu::SimpleAck(ack), mark))
+}

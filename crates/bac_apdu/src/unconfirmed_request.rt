@@ -1,0 +1,79 @@
+//! Requests that want no answer (Unconfirmed-Request, clause 20.1.3).
+
+ghost use Rattle.std.specs.Prelude.{◌≡◌, ◌↔◌, IsOk, IfOk, IfErr};
+ghost use Rattle.bac_service.specs.declared.kind.Kind.TheVariants.{Unconfirmed};
+ghost use Rattle.bac_service.specs.ServiceValues.{value_of as service_of};
+ghost use Rattle.bac_apdu.specs.FirstOctet.{HasType};
+ghost use Rattle.bac_apdu.specs.Decoded.{IsDecoded};
+
+use crate::apdu::Apdu;
+use crate::heads::{Marked, ends_early};
+use crate::services::decode_behind;
+use bac_service::{Kind, Service};
+use bac_tag::Refusal;
+use std::alloc::Global;
+use std::marker::Model;
+
+/// A request that wants no answer.
+///
+/// Octets (clause 20.1.3): type 1 in bits 7 to 4; the service choice; those of the service. Bits 3 to 0 of the first
+/// octet are ignored, and 0 in canonical form.
+#[derive(Debug, Drop)]
+pub struct UnconfirmedRequest {
+    service: Service,
+}
+
+impl Model for UnconfirmedRequest {
+    ghost use Rattle.std.specs.Prelude.{◌≡◌};
+    ghost use Rattle.bac_service.specs.declared.kind.Kind.TheVariants.{Unconfirmed};
+    ghost use Rattle.bac_service.specs.declared.service.Service.{Service as ServiceHeld};
+    ghost use Rattle.bac_service.specs.contracts.service.Service.{the_row as service_row};
+    ghost use Rattle.bac_service.specs.ServiceValues.{value_of as service_of};
+
+    ghost Value = { ServiceHeld };
+
+    ghost coded = { service_row.coded };
+
+    ghost view = { λ request. request.service };
+
+    ghost invariant = { λ request. (service_of request.service).kind ≡ Unconfirmed };
+}
+
+impl UnconfirmedRequest {
+    /// The request with this service.
+    ///
+    /// # Errors
+    /// The service, where its kind is another.
+    pub fn new(service: Service) -> Result<UnconfirmedRequest, Service>
+        ensures ok { IsOk result ↔ ((service_of service).kind ≡ Unconfirmed) }
+        ensures value { IfOk result (λ request. request ≡ service) }
+        ensures back { IfErr result (λ same. same ≡ service) }
+    {
+        if service.kind() != Kind::Unconfirmed {
+            return Err(service);
+        }
+        Ok(UnconfirmedRequest { service })
+    }
+
+    /// Its service.
+    #[inline(always)]
+    pub fn service(&self) -> &Service
+        ensures service { result.now ≡ self.now }
+        ensures kind { (service_of result.now).kind ≡ Unconfirmed }
+    {
+        &self.service
+    }
+}
+
+/// Decodes a request that wants no answer.
+pub(crate) fn decode_unconfirmed_request(alloc: Global, octets: &[u8]) -> Result<Marked, Refusal>
+    requires { HasType 1 octets.now }
+    ensures { IsDecoded octets.now result }
+{
+    let [_, choice, ..] = octets else {
+        return Err(ends_early(octets));
+    };
+    let least = [0x10, *choice];
+    let (service, mark) = decode_behind(alloc, Kind::Unconfirmed, *choice, octets, &least)?;
+    Ok((Apdu::Unconfirmed(UnconfirmedRequest { service }), mark))
+}

@@ -1,0 +1,47 @@
+//! Sizes of a window.
+
+ghost use Rattle.std.specs.Prelude.{◌≡◌, ◌↔◌, IsSome, IfSome};
+ghost use Rattle.bac_apdu.specs.HeadOctets.{IsWindow};
+
+use std::marker::Model;
+
+/// How many segments may be sent before a SegmentACK is awaited, 1 to 127 (clauses 20.1.2.8, 20.1.5.5 and 20.1.6.6).
+#[derive(Clone, Copy, Debug, PartialEq, Eq)]
+pub struct Window {
+    number: u8,
+}
+
+impl Model for Window {
+    ghost use Rattle.std.specs.Prelude.{ℕ};
+    ghost use Rattle.bac_apdu.specs.HeadOctets.{IsWindow};
+
+    ghost Value = { ℕ };
+
+    ghost view = { λ window. window.number };
+
+    ghost invariant = { λ window. IsWindow window.number };
+
+    ghost inverse = { λ number. record { number = number } };
+}
+
+impl Window {
+    /// The window of this size, where it is 1 to 127.
+    pub fn new(number: u8) -> Option<Window>
+        ensures some { IsSome result ↔ IsWindow number }
+        ensures value { IfSome result (λ window. window ≡ number) }
+    {
+        if number == 0 || number > 127 {
+            return None;
+        }
+        Some(Window { number })
+    }
+
+    /// Its size, 1 to 127.
+    #[inline(always)]
+    pub fn number(&self) -> u8
+        ensures number { result ≡ self.now }
+        ensures range { IsWindow result }
+    {
+        self.number
+    }
+}
