@@ -15,3 +15,6 @@ mod ErrorPduLemmas
 mod RejectLemmas
 mod AbortLemmas
 mod SegmentLemmas
+mod OnceLemmas
+mod LawLemmas
+mod AppendingLemmas

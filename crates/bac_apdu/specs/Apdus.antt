@@ -80,3 +80,7 @@ SpellsBody (segment head seq size more choice piece) b = (b ≡ piece) × IsOcte
 -- the lists that spell an APDU
 abbrev pub SpellsApdu : ApduValue → List ℕ → Type 0
 SpellsApdu apdu = Headed (head_of apdu) (SpellsBody apdu)
+
+abbrev pub IsSegment : ApduValue → Type 0
+IsSegment (segment head seq size more choice piece) = Unit {0}
+IsSegment _ = ⊥

@@ -9,3 +9,8 @@ use Rattle.bac_apdu.specs.HeadOctets.{Part, typed, limits, octet, window}
 abbrev pub segment_head : SegHead → ℕ → ℕ → Bool → ℕ → List Part
 segment_head (Request head) seq size more choice = typed 0 (Some true) (Some more) (Some head.sa) None ∷ limits head.segs head.resp ∷ octet head.invoke ∷ octet seq ∷ window size ∷ octet choice ∷ []
 segment_head (Ack invoke) seq size more choice = typed 3 (Some true) (Some more) None None ∷ octet invoke ∷ octet seq ∷ window size ∷ octet choice ∷ []
+
+-- how many octets that is
+abbrev pub segment_head_size : SegHead → ℕ
+segment_head_size (Request head) = 6
+segment_head_size (Ack invoke) = 5

@@ -1,11 +1,14 @@
 //! Ends of transactions (Abort, clause 20.1.9).
 
+ghost use Rattle.std.specs.Prelude.{◌≡◌, OnOk, OnErr};
+ghost use Rattle.bac_tag.specs.Spelling.{AppendsLeast};
 ghost use Rattle.bac_apdu.specs.FirstOctet.{HasType};
+ghost use Rattle.bac_apdu.specs.Apdus.{abort, SpellsApdu};
 ghost use Rattle.bac_apdu.specs.Decoded.{IsDecoded};
 
 use crate::apdu::Apdu;
 use crate::heads::{Marked, ended, ends_early, first_octet, has_bit};
-use bac_tag::Refusal;
+use bac_tag::{OutOfMemory, Refusal};
 
 /// The end of a transaction.
 ///
@@ -19,6 +22,18 @@ pub struct Abort {
     pub srv: bool,
     /// Why it was aborted (clause 18.9).
     pub reason: u8,
+}
+
+impl Abort {
+    /// Appends the canonical octets. Where memory is refused `out` stays as it was.
+    pub(crate) fn append(&self, out: &mut Vec<u8>) -> Result<(), OutOfMemory>
+        ensures written { OnOk result (AppendsLeast (SpellsApdu (abort self.now.invoke self.now.srv self.now.reason)) out.old.items out.new.items) }
+        ensures unchanged { OnErr result (out.new.items ≡ out.old.items) }
+    {
+        let first = first_octet(7, false, false, false, self.srv);
+        out.extend_from_slice(&[first, self.invoke, self.reason])?;
+        Ok(())
+    }
 }
 
 /// Decodes an Abort.

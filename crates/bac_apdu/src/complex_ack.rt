@@ -1,16 +1,18 @@
 //! Answers with contents (ComplexACK, clause 20.1.5).
 
-ghost use Rattle.std.specs.Prelude.{◌≡◌, ◌↔◌, IsOk, IfOk, IfErr};
+ghost use Rattle.std.specs.Prelude.{◌≡◌, ◌↔◌, IsOk, IfOk, IfErr, OnOk, OnErr};
+ghost use Rattle.bac_tag.specs.Spelling.{AppendsLeast};
 ghost use Rattle.bac_service.specs.declared.kind.Kind.TheVariants.{ComplexAck as of_complex_ack};
 ghost use Rattle.bac_service.specs.ServiceValues.{value_of as service_of};
 ghost use Rattle.bac_apdu.specs.FirstOctet.{HasType, HasSeg};
+ghost use Rattle.bac_apdu.specs.Apdus.{complex_ack, SpellsApdu};
 ghost use Rattle.bac_apdu.specs.Decoded.{IsDecoded};
 
 use crate::apdu::Apdu;
 use crate::heads::{Marked, ends_early};
-use crate::services::decode_behind;
+use crate::services::{append_behind, decode_behind};
 use bac_service::{Kind, Service};
-use bac_tag::Refusal;
+use bac_tag::{OutOfMemory, Refusal};
 use std::alloc::Global;
 use std::marker::Model;
 
@@ -70,6 +72,16 @@ impl ComplexAck {
         ensures kind { (service_of result.now).kind ≡ of_complex_ack }
     {
         &self.service
+    }
+
+    /// Appends the canonical octets. Where memory is refused `out` stays as it was.
+    pub(crate) fn append(&self, out: &mut Vec<u8>) -> Result<(), OutOfMemory>
+        ensures written { OnOk result (AppendsLeast (SpellsApdu (complex_ack self.now.invoke (service_of self.now.service))) out.old.items out.new.items) }
+        ensures unchanged { OnErr result (out.new.items ≡ out.old.items) }
+    {
+        let service = self.service();
+        let octets = [0x30, self.invoke(), service.choice()];
+        append_behind(&octets, service, out)
     }
 }
 

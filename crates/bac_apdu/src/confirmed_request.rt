@@ -1,18 +1,20 @@
 //! Requests that want an answer (Confirmed-Request, clause 20.1.2).
 
-ghost use Rattle.std.specs.Prelude.{◌≡◌, ◌↔◌, IsOk, IfOk, IfErr};
+ghost use Rattle.std.specs.Prelude.{◌≡◌, ◌↔◌, IsOk, IfOk, IfErr, OnOk, OnErr};
+ghost use Rattle.bac_tag.specs.Spelling.{AppendsLeast};
 ghost use Rattle.bac_service.specs.declared.kind.Kind.TheVariants.{Confirmed};
 ghost use Rattle.bac_service.specs.ServiceValues.{value_of as service_of};
 ghost use Rattle.bac_apdu.specs.FirstOctet.{HasType, HasSeg};
+ghost use Rattle.bac_apdu.specs.Apdus.{confirmed_request, SpellsApdu};
 ghost use Rattle.bac_apdu.specs.Decoded.{IsDecoded};
 
 use crate::apdu::Apdu;
 use crate::heads::{Marked, ends_early, first_octet, has_bit};
 use crate::max_resp::MaxResp;
 use crate::max_segs::MaxSegs;
-use crate::services::decode_behind;
+use crate::services::{append_behind, decode_behind};
 use bac_service::{Kind, Service};
-use bac_tag::Refusal;
+use bac_tag::{OutOfMemory, Refusal};
 use std::alloc::Global;
 use std::marker::Model;
 
@@ -84,6 +86,22 @@ impl ConfirmedRequest {
         ensures kind { (service_of result.now).kind ≡ Confirmed }
     {
         &self.service
+    }
+
+    /// Appends the canonical octets. Where memory is refused `out` stays as it was.
+    pub(crate) fn append(&self, out: &mut Vec<u8>) -> Result<(), OutOfMemory>
+        ensures written { OnOk result (AppendsLeast (SpellsApdu (confirmed_request self.now.head (service_of self.now.service))) out.old.items out.new.items) }
+        ensures unchanged { OnErr result (out.new.items ≡ out.old.items) }
+    {
+        let head = self.head();
+        let service = self.service();
+        let octets = [
+            first_octet(0, false, false, head.sa, false),
+            16 * head.segs.number() + head.resp.number(),
+            head.invoke,
+            service.choice(),
+        ];
+        append_behind(&octets, service, out)
     }
 }
 

@@ -1,11 +1,14 @@
 //! Answers to requests that were not understood (Reject, clause 20.1.8).
 
+ghost use Rattle.std.specs.Prelude.{◌≡◌, OnOk, OnErr};
+ghost use Rattle.bac_tag.specs.Spelling.{AppendsLeast};
 ghost use Rattle.bac_apdu.specs.FirstOctet.{HasType};
+ghost use Rattle.bac_apdu.specs.Apdus.{reject, SpellsApdu};
 ghost use Rattle.bac_apdu.specs.Decoded.{IsDecoded};
 
 use crate::apdu::Apdu;
 use crate::heads::{Marked, ended, ends_early};
-use bac_tag::Refusal;
+use bac_tag::{OutOfMemory, Refusal};
 
 /// The answer to a request that was not understood.
 ///
@@ -17,6 +20,17 @@ pub struct Reject {
     pub invoke: u8,
     /// Why it was rejected (clause 18.8).
     pub reason: u8,
+}
+
+impl Reject {
+    /// Appends the canonical octets. Where memory is refused `out` stays as it was.
+    pub(crate) fn append(&self, out: &mut Vec<u8>) -> Result<(), OutOfMemory>
+        ensures written { OnOk result (AppendsLeast (SpellsApdu (reject self.now.invoke self.now.reason)) out.old.items out.new.items) }
+        ensures unchanged { OnErr result (out.new.items ≡ out.old.items) }
+    {
+        out.extend_from_slice(&[0x60, self.invoke, self.reason])?;
+        Ok(())
+    }
 }
 
 /// Decodes a Reject.

@@ -1,6 +1,9 @@
 //! Segments of requests and of answers (clauses 20.1.2 and 20.1.5).
 
+ghost use Rattle.std.specs.Prelude.{◌≡◌, ◌++◌, OnOk, OnErr};
+ghost use Rattle.bac_tag.specs.Spelling.{AppendsLeast};
 ghost use Rattle.bac_apdu.specs.FirstOctet.{HasType, HasSeg};
+ghost use Rattle.bac_apdu.specs.Apdus.{segment, SpellsApdu};
 ghost use Rattle.bac_apdu.specs.Decoded.{IsDecoded};
 
 use crate::apdu::Apdu;
@@ -9,7 +12,7 @@ use crate::heads::{Marked, ends_early, first_octet, has_bit, out_of_memory};
 use crate::max_resp::MaxResp;
 use crate::max_segs::MaxSegs;
 use crate::window::Window;
-use bac_tag::{Refusal, Why, first_difference};
+use bac_tag::{OutOfMemory, Refusal, Why, first_difference};
 use std::alloc::Global;
 
 /// Of what a segment is one.
@@ -48,6 +51,47 @@ pub struct Segment {
     pub choice: u8,
     /// Its part of the octets of the service, of which it may have none.
     pub piece: Vec<u8>,
+}
+
+/// Appends the octets of a head, and a piece behind it. Where memory is refused `out` stays as it was.
+fn append_piece(head: &[u8], piece: &[u8], out: &mut Vec<u8>) -> Result<(), OutOfMemory>
+    ensures written { OnOk result (out.new.items ≡ (out.old.items ++ head.now) ++ piece.now) }
+    ensures unchanged { OnErr result (out.new.items ≡ out.old.items) }
+{
+    let start = out.len();
+    out.extend_from_slice(head)?;
+    if out.extend_from_slice(piece).is_err() {
+        out.truncate(start);
+        return Err(OutOfMemory);
+    }
+    Ok(())
+}
+
+impl Segment {
+    /// Appends the canonical octets. Where memory is refused `out` stays as it was.
+    pub(crate) fn append(&self, out: &mut Vec<u8>) -> Result<(), OutOfMemory>
+        ensures written { OnOk result (AppendsLeast (SpellsApdu (segment self.now.head self.now.seq self.now.window self.now.more self.now.choice self.now.piece.items)) out.old.items out.new.items) }
+        ensures unchanged { OnErr result (out.new.items ≡ out.old.items) }
+    {
+        match self.head {
+            SegHead::Request(head) => {
+                let octets = [
+                    first_octet(0, true, self.more, head.sa, false),
+                    16 * head.segs.number() + head.resp.number(),
+                    head.invoke,
+                    self.seq,
+                    self.window.number(),
+                    self.choice,
+                ];
+                append_piece(&octets, &self.piece, out)
+            }
+            SegHead::Ack { invoke } => {
+                let first = first_octet(3, true, self.more, false, false);
+                let octets = [first, invoke, self.seq, self.window.number(), self.choice];
+                append_piece(&octets, &self.piece, out)
+            }
+        }
+    }
 }
 
 /// Decodes a segment of a request.

@@ -1,12 +1,15 @@
 //! What was received of segments (SegmentACK, clause 20.1.6).
 
+ghost use Rattle.std.specs.Prelude.{◌≡◌, OnOk, OnErr};
+ghost use Rattle.bac_tag.specs.Spelling.{AppendsLeast};
 ghost use Rattle.bac_apdu.specs.FirstOctet.{HasType};
+ghost use Rattle.bac_apdu.specs.Apdus.{segment_ack, SpellsApdu};
 ghost use Rattle.bac_apdu.specs.Decoded.{IsDecoded};
 
 use crate::apdu::Apdu;
 use crate::heads::{Marked, ended, ends_early, first_octet, has_bit};
 use crate::window::Window;
-use bac_tag::{Refusal, Why};
+use bac_tag::{OutOfMemory, Refusal, Why};
 
 /// What was received of segments.
 ///
@@ -24,6 +27,18 @@ pub struct SegmentAck {
     pub seq: u8,
     /// How many segments may follow.
     pub window: Window,
+}
+
+impl SegmentAck {
+    /// Appends the canonical octets. Where memory is refused `out` stays as it was.
+    pub(crate) fn append(&self, out: &mut Vec<u8>) -> Result<(), OutOfMemory>
+        ensures written { OnOk result (AppendsLeast (SpellsApdu (segment_ack self.now.invoke self.now.nak self.now.srv self.now.seq self.now.window)) out.old.items out.new.items) }
+        ensures unchanged { OnErr result (out.new.items ≡ out.old.items) }
+    {
+        let first = first_octet(4, false, false, self.nak, self.srv);
+        out.extend_from_slice(&[first, self.invoke, self.seq, self.window.number()])?;
+        Ok(())
+    }
 }
 
 /// Decodes a SegmentACK.

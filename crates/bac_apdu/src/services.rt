@@ -1,10 +1,13 @@
 //! Services behind a head.
 
-ghost use Rattle.std.specs.Prelude.{◌≤◌, length};
+ghost use Rattle.std.specs.Prelude.{◌≡◌, ◌≤◌, ◌++◌, length, true, OnOk, OnErr};
+ghost use Rattle.bac_tag.specs.Spelling.{AppendsLeast};
+ghost use Rattle.bac_service.specs.ServiceValues.{value_of as service_of};
+ghost use Rattle.bac_service.specs.Services.{SpellsService};
 ghost use Rattle.bac_apdu.specs.Decoded.{IsBehind};
 
-use bac_service::{Kind, Service, decode_service_marked};
-use bac_tag::{Refusal, Why, first_difference, joined_marks};
+use bac_service::{Kind, Service, append_service, decode_service_marked};
+use bac_tag::{OutOfMemory, Refusal, Why, first_difference, joined_marks};
 use std::alloc::Global;
 
 /// Decodes the service behind a head, of which these are the canonical octets.
@@ -28,4 +31,23 @@ pub(crate) fn decode_behind(
         Err(refusal) if refusal.why == Why::OutOfMemory => Err(refusal),
         Err(refusal) => Err(refusal.behind(count)),
     }
+}
+
+/// Appends the octets of a head, and the canonical ones of a service behind it. Where memory is refused `out` stays as
+/// it was.
+pub(crate) fn append_behind(
+    head: &[u8],
+    service: &Service,
+    out: &mut Vec<u8>,
+) -> Result<(), OutOfMemory>
+    ensures written { OnOk result (AppendsLeast (SpellsService true 32 (service_of service.now).kind (service_of service.now).choice (service_of service.now)) (out.old.items ++ head.now) out.new.items) }
+    ensures unchanged { OnErr result (out.new.items ≡ out.old.items) }
+{
+    let start = out.len();
+    out.extend_from_slice(head)?;
+    let written = append_service(service, out);
+    if written.is_err() {
+        out.truncate(start);
+    }
+    written
 }

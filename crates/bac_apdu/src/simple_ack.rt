@@ -1,11 +1,14 @@
 //! Answers without contents (SimpleACK, clause 20.1.4).
 
+ghost use Rattle.std.specs.Prelude.{◌≡◌, OnOk, OnErr};
+ghost use Rattle.bac_tag.specs.Spelling.{AppendsLeast};
 ghost use Rattle.bac_apdu.specs.FirstOctet.{HasType};
+ghost use Rattle.bac_apdu.specs.Apdus.{simple_ack, SpellsApdu};
 ghost use Rattle.bac_apdu.specs.Decoded.{IsDecoded};
 
 use crate::apdu::Apdu;
 use crate::heads::{Marked, ended, ends_early};
-use bac_tag::Refusal;
+use bac_tag::{OutOfMemory, Refusal};
 
 /// An answer without contents: the request was carried out.
 ///
@@ -17,6 +20,17 @@ pub struct SimpleAck {
     pub invoke: u8,
     /// The service choice of the request.
     pub choice: u8,
+}
+
+impl SimpleAck {
+    /// Appends the canonical octets. Where memory is refused `out` stays as it was.
+    pub(crate) fn append(&self, out: &mut Vec<u8>) -> Result<(), OutOfMemory>
+        ensures written { OnOk result (AppendsLeast (SpellsApdu (simple_ack self.now.invoke self.now.choice)) out.old.items out.new.items) }
+        ensures unchanged { OnErr result (out.new.items ≡ out.old.items) }
+    {
+        out.extend_from_slice(&[0x20, self.invoke, self.choice])?;
+        Ok(())
+    }
 }
 
 /// Decodes a SimpleACK.

@@ -1,16 +1,18 @@
 //! Requests that want no answer (Unconfirmed-Request, clause 20.1.3).
 
-ghost use Rattle.std.specs.Prelude.{◌≡◌, ◌↔◌, IsOk, IfOk, IfErr};
+ghost use Rattle.std.specs.Prelude.{◌≡◌, ◌↔◌, IsOk, IfOk, IfErr, OnOk, OnErr};
+ghost use Rattle.bac_tag.specs.Spelling.{AppendsLeast};
 ghost use Rattle.bac_service.specs.declared.kind.Kind.TheVariants.{Unconfirmed};
 ghost use Rattle.bac_service.specs.ServiceValues.{value_of as service_of};
 ghost use Rattle.bac_apdu.specs.FirstOctet.{HasType};
+ghost use Rattle.bac_apdu.specs.Apdus.{unconfirmed_request, SpellsApdu};
 ghost use Rattle.bac_apdu.specs.Decoded.{IsDecoded};
 
 use crate::apdu::Apdu;
 use crate::heads::{Marked, ends_early};
-use crate::services::decode_behind;
+use crate::services::{append_behind, decode_behind};
 use bac_service::{Kind, Service};
-use bac_tag::Refusal;
+use bac_tag::{OutOfMemory, Refusal};
 use std::alloc::Global;
 use std::marker::Model;
 
@@ -62,6 +64,15 @@ impl UnconfirmedRequest {
         ensures kind { (service_of result.now).kind ≡ Unconfirmed }
     {
         &self.service
+    }
+
+    /// Appends the canonical octets. Where memory is refused `out` stays as it was.
+    pub(crate) fn append(&self, out: &mut Vec<u8>) -> Result<(), OutOfMemory>
+        ensures written { OnOk result (AppendsLeast (SpellsApdu (unconfirmed_request (service_of self.now))) out.old.items out.new.items) }
+        ensures unchanged { OnErr result (out.new.items ≡ out.old.items) }
+    {
+        let service = self.service();
+        append_behind(&[0x10, service.choice()], service, out)
     }
 }
 

@@ -1,0 +1,42 @@
+//! Encoding an APDU.
+
+ghost use Rattle.std.specs.Prelude.{◌≡◌, IfOk, OnOk, OnErr};
+ghost use Rattle.bac_tag.specs.Spelling.{IsLeast, AppendsLeast};
+ghost use Rattle.bac_apdu.specs.Apdus.{SpellsApdu, value_of};
+
+use crate::apdu::Apdu;
+use bac_tag::OutOfMemory;
+use std::alloc::Global;
+
+/// Appends the canonical octets of an APDU, its least spelling, behind what stands in `out`.
+///
+/// # Errors
+/// `OutOfMemory` where memory is refused. `out` then stays as it was.
+pub fn append_apdu(apdu: &Apdu, out: &mut Vec<u8>) -> Result<(), OutOfMemory>
+    ensures written { OnOk result (AppendsLeast (SpellsApdu (value_of apdu.now)) out.old.items out.new.items) }
+    ensures unchanged { OnErr result (out.new.items ≡ out.old.items) }
+{
+    match apdu {
+        Apdu::Confirmed(request) => request.append(out),
+        Apdu::Unconfirmed(request) => request.append(out),
+        Apdu::SimpleAck(ack) => ack.append(out),
+        Apdu::ComplexAck(ack) => ack.append(out),
+        Apdu::SegmentAck(ack) => ack.append(out),
+        Apdu::Error(answer) => answer.append(out),
+        Apdu::Reject(reject) => reject.append(out),
+        Apdu::Abort(abort) => abort.append(out),
+        Apdu::Segment(segment) => segment.append(out),
+    }
+}
+
+/// The canonical octets of an APDU: its least spelling.
+///
+/// # Errors
+/// `OutOfMemory` where memory is refused.
+pub fn encode_apdu(alloc: Global, apdu: &Apdu) -> Result<Vec<u8>, OutOfMemory>
+    ensures { IfOk result (λ out. IsLeast (SpellsApdu (value_of apdu.now)) out.items) }
+{
+    let mut out = Vec::new(alloc);
+    append_apdu(apdu, &mut out)?;
+    Ok(out)
+}
