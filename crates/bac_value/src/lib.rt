@@ -22,6 +22,7 @@ mod priority;
 mod ranged_numbers;
 mod real;
 mod signed_integer;
+mod thirteen;
 mod time_value;
 mod unsigned16;
 mod unsigned32;

@@ -20,9 +20,10 @@ use crate::prim_ref::PrimRef;
 use crate::primitives::Primitive;
 use crate::real::RealBits;
 use crate::signed_integer::Signed;
+use crate::thirteen::{at_number, at_value};
 use crate::time_value::Time;
 use crate::unsigned_integer::Unsigned;
-use crate::variants::{hopeless_variant, lengths_of, read_variant};
+use crate::variants::{application_number_of, hopeless_variant, lengths_of, read_variant};
 use bac_tag::{OutOfMemory, Refusal, Why};
 use std::alloc::Global;
 
@@ -61,21 +62,7 @@ impl PrimitiveValue {
         ensures length { IfErr result (λ refusal. refusal.why ≡ Why.Length → (refusal.place ≡ 0) × (IsBegun (ContentsOf number) [] (length octets.now) → ⊥)) }
         ensures content { IfErr result (λ refusal. refusal.why ≡ Why.Content → IsHopelessAt (ContentsOf number) octets.now (length octets.now) refusal.place) }
     {
-        match number {
-            0 => read_variant::<Null>(alloc, octets),
-            1 => read_variant::<Boolean>(alloc, octets),
-            2 => read_variant::<Unsigned>(alloc, octets),
-            3 => read_variant::<Signed>(alloc, octets),
-            4 => read_variant::<RealBits>(alloc, octets),
-            5 => read_variant::<DoubleBits>(alloc, octets),
-            6 => read_variant::<Octets>(alloc, octets),
-            7 => read_variant::<Text>(alloc, octets),
-            8 => read_variant::<Bits>(alloc, octets),
-            9 => read_variant::<Enumerated>(alloc, octets),
-            10 => read_variant::<Date>(alloc, octets),
-            11 => read_variant::<Time>(alloc, octets),
-            _ => read_variant::<ObjectId>(alloc, octets),
-        }
+        at_number!(number, read_variant(alloc, octets))
     }
 
     /// The least and the largest number of octets of contents of the type with that application number.
@@ -84,21 +71,7 @@ impl PrimitiveValue {
         ensures lengths { AreLengths (ContentsOf number) result.0 result.1 }
         ensures limit { (result.0 ≤ result.1) × (result.1 ≤ 1048576) }
     {
-        match number {
-            0 => lengths_of::<Null>(),
-            1 => lengths_of::<Boolean>(),
-            2 => lengths_of::<Unsigned>(),
-            3 => lengths_of::<Signed>(),
-            4 => lengths_of::<RealBits>(),
-            5 => lengths_of::<DoubleBits>(),
-            6 => lengths_of::<Octets>(),
-            7 => lengths_of::<Text>(),
-            8 => lengths_of::<Bits>(),
-            9 => lengths_of::<Enumerated>(),
-            10 => lengths_of::<Date>(),
-            11 => lengths_of::<Time>(),
-            _ => lengths_of::<ObjectId>(),
-        }
+        at_number!(number, lengths_of())
     }
 
     /// The first place at which the octets in front no longer begin contents of that size of the type with
@@ -110,42 +83,14 @@ impl PrimitiveValue {
         ensures none { IfNone result (IsBegun (ContentsOf number) front.now size) }
         ensures some { IfSome result (λ place. IsHopelessAt (ContentsOf number) front.now size place) }
     {
-        match number {
-            0 => hopeless_variant::<Null>(front, size),
-            1 => hopeless_variant::<Boolean>(front, size),
-            2 => hopeless_variant::<Unsigned>(front, size),
-            3 => hopeless_variant::<Signed>(front, size),
-            4 => hopeless_variant::<RealBits>(front, size),
-            5 => hopeless_variant::<DoubleBits>(front, size),
-            6 => hopeless_variant::<Octets>(front, size),
-            7 => hopeless_variant::<Text>(front, size),
-            8 => hopeless_variant::<Bits>(front, size),
-            9 => hopeless_variant::<Enumerated>(front, size),
-            10 => hopeless_variant::<Date>(front, size),
-            11 => hopeless_variant::<Time>(front, size),
-            _ => hopeless_variant::<ObjectId>(front, size),
-        }
+        at_number!(number, hopeless_variant(front, size))
     }
 
     /// The number of the application tag of its type, 0 to 12.
     pub fn number(&self) -> u8
         ensures { result ≡ application_number self.now }
     {
-        match self {
-            Self::Null(_) => Null::APP,
-            Self::Boolean(_) => Boolean::APP,
-            Self::Unsigned(_) => Unsigned::APP,
-            Self::Signed(_) => Signed::APP,
-            Self::RealBits(_) => RealBits::APP,
-            Self::DoubleBits(_) => DoubleBits::APP,
-            Self::Octets(_) => Octets::APP,
-            Self::Text(_) => Text::APP,
-            Self::Bits(_) => Bits::APP,
-            Self::Enumerated(_) => Enumerated::APP,
-            Self::Date(_) => Date::APP,
-            Self::Time(_) => Time::APP,
-            Self::ObjectId(_) => ObjectId::APP,
-        }
+        at_value!(self, value => application_number_of(value))
     }
 
     /// How many octets of contents are written.
@@ -153,21 +98,7 @@ impl PrimitiveValue {
         ensures value { IsPrim self.now }
         ensures len { result ≡ length (prim_written self.now) }
     {
-        match self {
-            Self::Null(value) => value.written_len(),
-            Self::Boolean(value) => value.written_len(),
-            Self::Unsigned(value) => value.written_len(),
-            Self::Signed(value) => value.written_len(),
-            Self::RealBits(value) => value.written_len(),
-            Self::DoubleBits(value) => value.written_len(),
-            Self::Octets(value) => value.written_len(),
-            Self::Text(value) => value.written_len(),
-            Self::Bits(value) => value.written_len(),
-            Self::Enumerated(value) => value.written_len(),
-            Self::Date(value) => value.written_len(),
-            Self::Time(value) => value.written_len(),
-            Self::ObjectId(value) => value.written_len(),
-        }
+        at_value!(self, value => value.written_len())
     }
 
     /// The first place at which contents of the value differ from those that are written, and none where they
@@ -177,21 +108,7 @@ impl PrimitiveValue {
         ensures none { IfNone result (octets.now ≡ prim_written self.now) }
         ensures some { IfSome result (FirstDifference octets.now (prim_written self.now)) }
     {
-        match self {
-            Self::Null(value) => value.mark(octets),
-            Self::Boolean(value) => value.mark(octets),
-            Self::Unsigned(value) => value.mark(octets),
-            Self::Signed(value) => value.mark(octets),
-            Self::RealBits(value) => value.mark(octets),
-            Self::DoubleBits(value) => value.mark(octets),
-            Self::Octets(value) => value.mark(octets),
-            Self::Text(value) => value.mark(octets),
-            Self::Bits(value) => value.mark(octets),
-            Self::Enumerated(value) => value.mark(octets),
-            Self::Date(value) => value.mark(octets),
-            Self::Time(value) => value.mark(octets),
-            Self::ObjectId(value) => value.mark(octets),
-        }
+        at_value!(self, value => value.mark(octets))
     }
 
     /// Appends the written contents. Where memory is refused `out` stays as it was.
@@ -200,21 +117,7 @@ impl PrimitiveValue {
         ensures ok { OnOk result (out.new.items ≡ out.old.items ++ prim_written self.now) }
         ensures err { OnErr result (out.new.items ≡ out.old.items) }
     {
-        match self {
-            Self::Null(value) => value.write(out),
-            Self::Boolean(value) => value.write(out),
-            Self::Unsigned(value) => value.write(out),
-            Self::Signed(value) => value.write(out),
-            Self::RealBits(value) => value.write(out),
-            Self::DoubleBits(value) => value.write(out),
-            Self::Octets(value) => value.write(out),
-            Self::Text(value) => value.write(out),
-            Self::Bits(value) => value.write(out),
-            Self::Enumerated(value) => value.write(out),
-            Self::Date(value) => value.write(out),
-            Self::Time(value) => value.write(out),
-            Self::ObjectId(value) => value.write(out),
-        }
+        at_value!(self, value => value.write(out))
     }
 
     /// The same value, borrowed.

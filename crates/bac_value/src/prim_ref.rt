@@ -17,6 +17,7 @@ use crate::octet_string::Octets;
 use crate::primitives::Primitive;
 use crate::real::RealBits;
 use crate::signed_integer::Signed;
+use crate::thirteen::at_number;
 use crate::time_value::Time;
 use crate::unsigned_integer::Unsigned;
 use crate::variants::borrow_variant;
@@ -60,21 +61,7 @@ impl<'a> PrimRef<'a> {
         ensures value { (prim : PrimitiveValue) → ContentsOf number prim octets.now → prim_of result ≡ prim }
         ensures packed { IsPackedRef result }
     {
-        match number {
-            0 => borrow_variant::<Null>(octets),
-            1 => borrow_variant::<Boolean>(octets),
-            2 => borrow_variant::<Unsigned>(octets),
-            3 => borrow_variant::<Signed>(octets),
-            4 => borrow_variant::<RealBits>(octets),
-            5 => borrow_variant::<DoubleBits>(octets),
-            6 => borrow_variant::<Octets>(octets),
-            7 => borrow_variant::<Text>(octets),
-            8 => borrow_variant::<Bits>(octets),
-            9 => borrow_variant::<Enumerated>(octets),
-            10 => borrow_variant::<Date>(octets),
-            11 => borrow_variant::<Time>(octets),
-            _ => borrow_variant::<ObjectId>(octets),
-        }
+        at_number!(number, borrow_variant(octets))
     }
 
     /// The number of the application tag of its type, 0 to 12.

@@ -70,6 +70,13 @@ pub(crate) trait Variant: Primitive {
     ghost is_written: { (value : Self) → prim_written (wrapped value) ≡ Self.written value };
 }
 
+/// The number of the application tag of the value's type.
+pub(crate) fn application_number_of<T: Primitive>(_value: &T) -> u8
+    ensures { result ≡ T.APP }
+{
+    T::APP
+}
+
 /// The value of this type whose contents are these octets.
 pub(crate) fn read_variant<T: Variant>(
     alloc: Global,

@@ -1,0 +1,46 @@
+//! The thirteen primitive types, of which a match takes one.
+
+/// The call at the type with that application number, at most 12.
+macro_rules! at_number {
+    ($number:expr, $call:ident($($argument:expr),*)) => {
+        match $number {
+            0 => $call::<$crate::null_value::Null>($($argument),*),
+            1 => $call::<$crate::boolean_value::Boolean>($($argument),*),
+            2 => $call::<$crate::unsigned_integer::Unsigned>($($argument),*),
+            3 => $call::<$crate::signed_integer::Signed>($($argument),*),
+            4 => $call::<$crate::real::RealBits>($($argument),*),
+            5 => $call::<$crate::double::DoubleBits>($($argument),*),
+            6 => $call::<$crate::octet_string::Octets>($($argument),*),
+            7 => $call::<$crate::character_string::Text>($($argument),*),
+            8 => $call::<$crate::bit_string::Bits>($($argument),*),
+            9 => $call::<$crate::enumeration::Enumerated>($($argument),*),
+            10 => $call::<$crate::date_value::Date>($($argument),*),
+            11 => $call::<$crate::time_value::Time>($($argument),*),
+            _ => $call::<$crate::object_identifier::ObjectId>($($argument),*),
+        }
+    };
+}
+
+/// What is asked of the value, whichever type it has.
+macro_rules! at_value {
+    ($prim:expr, $value:ident => $asked:expr) => {
+        match $prim {
+            Self::Null($value) => $asked,
+            Self::Boolean($value) => $asked,
+            Self::Unsigned($value) => $asked,
+            Self::Signed($value) => $asked,
+            Self::RealBits($value) => $asked,
+            Self::DoubleBits($value) => $asked,
+            Self::Octets($value) => $asked,
+            Self::Text($value) => $asked,
+            Self::Bits($value) => $asked,
+            Self::Enumerated($value) => $asked,
+            Self::Date($value) => $asked,
+            Self::Time($value) => $asked,
+            Self::ObjectId($value) => $asked,
+        }
+    };
+}
+
+pub(crate) use at_number;
+pub(crate) use at_value;
