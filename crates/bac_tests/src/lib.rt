@@ -5,6 +5,8 @@
 #[cfg(test)]
 mod data;
 #[cfg(test)]
+mod examples;
+#[cfg(test)]
 mod tables;
 #[cfg(test)]
 mod tag;
