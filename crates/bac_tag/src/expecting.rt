@@ -1,4 +1,4 @@
-//! The heads that a reader goes on with.
+//! The heads that a reader accepts at a place.
 
 ghost use Rattle.std.specs.Prelude.{◌≡◌, ◌↔◌, IsTrue};
 ghost use Rattle.bac_tag.specs.Expected.{HasNumber, Fits};
@@ -6,7 +6,10 @@ ghost use Rattle.bac_tag.specs.Reading.{HasLvt, Uses, example_of, least_of, most
 
 use crate::TagHead;
 
-/// The heads that may stand at a place. Lengths are of the contents, in octets, both ends included.
+/// The heads that a reader accepts at a place. `least` and `most` limit the length of the contents in octets, and
+/// are themselves accepted.
+///
+/// A reader wants numbers that their class uses, and `least` no greater than `most`.
 #[derive(Clone, Copy, Debug, PartialEq, Eq)]
 pub enum Expected {
     /// Each valid head.
@@ -17,21 +20,21 @@ pub enum Expected {
         least: u32,
         most: u32,
     },
-    /// The application Boolean.
+    /// The application Boolean, false or true.
     AppBool,
-    /// Context class with this number, at most 254, or with any where none is named.
+    /// Context class with this number, 0 to 254, or with any number where it is None.
     Ctx {
         number: Option<u8>,
         least: u32,
         most: u32,
     },
-    /// An opening tag with this number, or with any.
+    /// An opening tag with this number, 0 to 254, or with any number where it is None.
     Open(Option<u8>),
-    /// A closing tag with this number, or with any.
+    /// A closing tag with this number, 0 to 254, or with any number where it is None.
     Close(Option<u8>),
 }
 
-/// Whether the number is the one that is named, or none is.
+/// Whether the number is the one that is named, or none is named.
 #[inline(always)]
 fn has_number(named: Option<u8>, number: u8) -> bool
     ensures { IsTrue result ↔ HasNumber named number }
@@ -51,7 +54,7 @@ fn has_lvt(lvt: u8, least: u32, most: u32) -> bool
 }
 
 impl Expected {
-    /// Whether the head is among those expected.
+    /// Whether the head is among those expected. That it is valid is not looked at.
     pub fn fits(self, head: TagHead) -> bool
         ensures { IsTrue result ↔ Fits self head }
     {

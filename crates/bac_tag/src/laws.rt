@@ -8,8 +8,7 @@ ghost use Rattle.bac_tag.specs.Heads.{IsValid, LengthFits, Heads};
 ghost use Rattle.bac_tag.specs.declared.heads.TagHead.{TagHead};
 ghost use Rattle.bac_tag.specs.declared.refusals.Refusal.{Refusal};
 
-/// Values and the lists that spell them, whatever they are: the laws that hold of every way to spell are stated over
-/// this.
+/// Any values, and the lists that spell them. The laws that hold of every such relation are stated over this trait.
 pub trait Spelled {
     /// The values.
     ghost Value: { Type 0 };
@@ -43,7 +42,8 @@ pub fn heads_end_themselves()
     ensures { EndsItself Heads }
 {}
 
-/// A head of a smaller length has no longer least spelling.
+/// The canonical octets of a head are no more than those of any spelling of a head with the same number and a
+/// greater length.
 pub fn shorter_lengths_have_no_longer_heads()
     ensures application { (number n m : ℕ) (b c : List ℕ) → n ≤ m → IsLeast (Heads (TagHead.App number n)) b → Heads (TagHead.App number m) c → length b ≤ length c }
     ensures context { (number n m : ℕ) (b c : List ℕ) → n ≤ m → IsLeast (Heads (TagHead.Ctx number n)) b → Heads (TagHead.Ctx number m) c → length b ≤ length c }
@@ -71,7 +71,8 @@ pub fn joined_parts_are_viable_in_turn<A: Spelled, B: Spelled>()
         → (b : List ℕ) → IsViable (JoinedBy A.spells (λ _. B.spells)) b ↔ (IsViable A.spells b ⊎ IsPartway A.spells (λ _. B.spells) b) }
 {}
 
-/// Of the refusals of one input by two readings, the farther is that of a reader that takes either.
+/// Two readers refuse one input. The refusal that came farther is right for a reader that accepts what either of
+/// them accepts.
 pub fn farther_refusals_are_those_of_a_choice<A: Spelled, B: Spelled>()
     ensures { (input : List ℕ) (first second : Refusal) → IsRefusal A.spells input first → IsRefusal B.spells input second
         → IsRefusal (OneOf A.spells B.spells) input (farther_of first second) }

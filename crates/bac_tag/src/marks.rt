@@ -7,7 +7,8 @@ ghost use Rattle.bac_tag.specs.Heads.{IsValid, Heads};
 
 use crate::{TagHead, head_len, write_head};
 
-/// The first place where two lists of octets differ or one of them ends, and none where they are equal.
+/// Returns the offset of the first octet that differs between the two lists, or at which the shorter one ends. It
+/// returns None where the lists are equal.
 pub fn first_difference(a: &[u8], b: &[u8]) -> Option<usize>
     ensures none { IfNone result (a.now ≡ b.now) }
     ensures some { IfSome result (FirstDifference a.now b.now) }
@@ -25,8 +26,10 @@ pub fn first_difference(a: &[u8], b: &[u8]) -> Option<usize>
     }
 }
 
-/// The first place where the octets of some head differ from the least spelling of this one, and none where
-/// they are that spelling.
+/// Returns the offset of the first octet of `taken` that differs from the canonical octets of `head`, or None
+/// where `taken` is canonical.
+///
+/// `head` must be valid, and `taken` a spelling of some head, not necessarily of this one.
 pub fn mark_head(taken: &[u8], head: TagHead) -> Option<usize>
     requires valid { IsValid head }
     requires spelled { IsSpelling Heads taken.now }
@@ -35,8 +38,8 @@ pub fn mark_head(taken: &[u8], head: TagHead) -> Option<usize>
     first_difference(taken, write_head(head).as_slice())
 }
 
-/// What [`mark_head`] tells, of octets whose head `read` is known, as behind `read_head`. Where they are the least
-/// spelling, it looks at none of them.
+/// Returns what [`mark_head`] returns. `taken` must be a spelling of `read`: [`read_head`](crate::read_head) has
+/// told its head already, so canonical octets need not be compared.
 #[inline(always)]
 pub fn mark_read_head(taken: &[u8], read: TagHead, head: TagHead) -> Option<usize>
     requires valid { IsValid head }
@@ -51,7 +54,8 @@ pub fn mark_read_head(taken: &[u8], read: TagHead, head: TagHead) -> Option<usiz
     }
 }
 
-/// The mark of two parts, one behind the other, by their marks and the number of octets of the first.
+/// Returns the mark of two parts, one behind the other: that of the first part, or else that of the second behind
+/// the `count` octets of the first. That sum must be below 2^64.
 #[inline(always)]
 pub fn joined_marks(first: Option<usize>, count: usize, second: Option<usize>) -> Option<usize>
     requires { IfSome second (λ place. count + place < 2 ^ 64) }

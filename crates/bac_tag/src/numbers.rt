@@ -3,7 +3,8 @@
 ghost use Rattle.std.specs.Prelude.{◌≡◌, ℕ, ◌+◌, ◌*◌, ◌^◌, ◌<◌, ◌≤◌, ◌↔◌, ◌⊎◌, length, IsTrue, IfSome, IfNone, IfOk, IfErr, OnOk};
 ghost use Rattle.bac_tag.specs.Number.{number, BeginsNumber, MissesAt};
 
-/// The number that at most eight octets spell.
+/// Returns the number that the octets spell, the most significant octet first, and 0 where there are none. They
+/// must be at most eight.
 pub fn number_of(octets: &[u8]) -> u64
     requires { length octets.now ≤ 8 }
     ensures { result ≡ number octets.now }
@@ -15,7 +16,7 @@ pub fn number_of(octets: &[u8]) -> u64
     number
 }
 
-/// Whether a number, with so many octets still to come behind it, misses a range whatever they are.
+/// Whether the number lies outside the range whatever the `unread` octets are that still come behind it.
 fn misses(number: u64, unread: u32, low: u64, high: u64) -> bool
     requires unread { unread < 8 }
     requires room { (number + 1) * 256 ^ unread ≤ 2 ^ 64 }
@@ -26,11 +27,14 @@ fn misses(number: u64, unread: u32, low: u64, high: u64) -> bool
     lowest > high || lowest + (worth - 1) < low
 }
 
-/// The number that the octets in front spell, the most significant first, where they can become `width` octets of
-/// a number from `low` to `high`. There are at most as many as `width`, which is at most 8 and has room for `low`.
+/// Returns the number that the octets in `front` spell, the most significant octet first, where they begin some
+/// `width` octets whose number is from `low` to `high`.
+///
+/// `front` must have at most `width` octets, and `width` must be at most 8. `low` must be no greater than `high`,
+/// and below 256^`width`.
 ///
 /// # Errors
-/// The first place at which they no longer can.
+/// The offset of the first octet with which they begin none. The octets before it begin some.
 #[inline]
 pub fn number_within(front: &[u8], width: usize, low: u64, high: u64) -> Result<u64, usize>
     requires sized { length front.now ≤ width }
@@ -51,8 +55,10 @@ pub fn number_within(front: &[u8], width: usize, low: u64, high: u64) -> Result<
     Ok(number)
 }
 
-/// The first place at which the octets in front can no longer become `width` octets of a number between `low`
-/// and `high`, and none where they still can.
+/// Returns the offset of the first octet with which those in `front` begin no `width` octets whose number is from
+/// `low` to `high`, or None where they begin some.
+///
+/// The arguments must be as [`number_within`] wants them.
 pub fn first_hopeless(front: &[u8], width: usize, low: u64, high: u64) -> Option<usize>
     requires sized { length front.now ≤ width }
     requires within { width ≤ 8 }

@@ -101,7 +101,7 @@ fn read_front(octets: &[u8], expected: Expected) -> Result<(Front, usize), Refus
     ))
 }
 
-/// The number of so many octets at the front, which lies between `low` and `high`.
+/// The number that the first `width` octets spell, which lies from `low` to `high`.
 fn read_number(octets: &[u8], width: usize, low: u64, high: u64) -> Result<u64, Refusal>
     requires within { width ≤ 8 }
     requires range { low ≤ high }
@@ -190,11 +190,14 @@ fn read_length(octets: &[u8], lvt: u8, least: u32, most: u32) -> Result<(u32, us
     Ok((len, 1))
 }
 
-/// Reads an expected head at the front of the octets, and how many octets it takes.
+/// Reads an expected head at the front of the octets, in any tolerated spelling. Returns it, and how many octets
+/// it takes; more may follow.
+///
+/// The expectation must be sound: its numbers are used by its class, and `least` is no greater than `most`.
 ///
 /// # Errors
-/// The place is that of the first octet with which no expected head begins: `Tag` or `Length` as that octet
-/// says, or `Short` where the octets end before there is one.
+/// The place is that of the first octet with which no expected head begins, and the reason is `Tag` or `Length`.
+/// Where the octets end before there is such an octet, it is `Short`, and the place is their number.
 #[inline(always)]
 pub fn read_expected(octets: &[u8], expected: Expected) -> Result<(TagHead, usize), Refusal>
     requires { IsSound expected }
@@ -227,11 +230,27 @@ pub fn read_expected(octets: &[u8], expected: Expected) -> Result<(TagHead, usiz
     }
 }
 
-/// Reads the head at the front of the octets, and how many octets it takes. Each tolerated spelling is read
-/// (clause 20.2.1): a number 0 to 14 in an extra octet, a length in a wider form than it needs.
+/// Reads the head at the front of the octets (clause 20.2.1). Returns it, and how many octets it takes; more may
+/// follow.
+///
+/// Each tolerated spelling is read: a number 0 to 14 in an octet of its own, and a length in a wider form than it
+/// needs.
 ///
 /// # Errors
-/// As [`read_expected`], with every valid head expected.
+/// The place is that of the first octet with which no valid head begins, and the reason is `Tag` or `Length`.
+/// Where the octets end before there is such an octet, it is `Short`, and the place is their number.
+///
+/// # Examples
+/// ```rust
+/// use bac_tag::{TagHead, read_head};
+///
+/// // Context class, number 1: one octet of contents follows.
+/// let (head, taken) = read_head(&[0x19, 0x55])?;
+/// assert_eq!(rt; head, TagHead::Ctx { number: 1, len: 1 });
+/// assert_eq!(rt; taken, 1);
+/// // A tolerated spelling of the same head has the number in an octet of its own.
+/// assert_eq!(rt; read_head(&[0xF9, 0x01, 0x55]), Ok((head, 2)));
+/// ```
 pub fn read_head(octets: &[u8]) -> Result<(TagHead, usize), Refusal>
     ensures found { IfOk result (Takes Heads octets.now) }
     ensures refused { IfErr result (IsRefusal Heads octets.now) }
@@ -270,10 +289,15 @@ fn refusal_of_all(octets: &[u8], expected: &[Expected]) -> Refusal
     refusal.farther(refusal_of_all(octets, others))
 }
 
-/// Reads a head that one of several expectations has, and how many octets it takes.
+/// Reads a head that one of several expectations has, in any tolerated spelling. Returns it, and how many octets
+/// it takes; more may follow.
+///
+/// There must be at least one expectation, and each must be sound, as [`read_expected`] says.
 ///
 /// # Errors
-/// As [`read_expected`]: the place is the farthest that any of the expectations allows, with its reason there.
+/// The place is that of the first octet with which a head of none of the expectations begins, and the reason is
+/// `Tag` or `Length`. Where the octets end before there is such an octet, it is `Short`, and the place is their
+/// number.
 pub fn read_one_of(octets: &[u8], expected: &[Expected]) -> Result<(TagHead, usize), Refusal>
     requires some { 0 < length expected.now }
     requires sound { AllByRecursion IsSound expected.now }

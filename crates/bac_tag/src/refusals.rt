@@ -13,7 +13,7 @@ use std::fmt::Display;
 pub enum Why {
     /// The input ends where more must come.
     Short = 1,
-    /// The input goes on behind a whole value.
+    /// Octets follow a whole value.
     Trailing,
     /// The version octet is not 1 (clause 6.2.1).
     Version,
@@ -23,22 +23,22 @@ pub enum Why {
     PduType,
     /// A window size that is not 1 to 127 (clause 20.1.2.8).
     Window,
-    /// A tag that can not stand here.
+    /// A tag that cannot stand here.
     Tag,
-    /// A length that can not stand here.
+    /// A length that cannot stand here.
     Length,
-    /// Contents that are of no value.
+    /// Contents that no value has.
     Content,
     /// A group inside too many others.
     Depth,
-    /// A spelling that is tolerated and not the canonical one. Strict calls alone tell it.
+    /// A spelling that is tolerated and not canonical. Only strict calls tell it.
     NotCanonical,
-    /// Memory was wanted and refused. The place is 0.
+    /// Memory was refused. The place is 0.
     OutOfMemory,
 }
 
 impl Why {
-    /// The name of the reason, as the program prints it.
+    /// Returns the name of the reason, as the program prints it: that of the variant.
     pub fn name(self) -> &'static str
         ensures { result.now ≡ name_of self }
     {
@@ -66,11 +66,25 @@ impl Display for Why {
 }
 
 /// Where and why an input is refused.
+///
+/// # Examples
+/// ```rust
+/// use bac_tag::{Refusal, Why, read_head};
+///
+/// // The first octet says that a length octet follows, and the input ends.
+/// let refusal = Refusal {
+///     place: 1,
+///     why: Why::Short,
+/// };
+/// assert_eq!(rt; read_head(&[0x1D]), Err(refusal));
+/// assert_eq!(rt; format!(in rt.alloc(); "{refusal}")?.as_str(), "Short at 1");
+/// ```
 #[derive(Clone, Copy, Debug, PartialEq, Eq)]
 pub struct Refusal {
-    /// The place of the first octet with which no accepted input begins, counted from 0; the number of
-    /// octets where the input is only too short.
+    /// The offset of the first octet with which no accepted input begins, counted from 0. It is the number of
+    /// octets where the input is only too short, and 0 where memory was refused.
     pub place: usize,
+    /// The reason.
     pub why: Why,
 }
 
@@ -89,8 +103,9 @@ impl Why {
 }
 
 impl Refusal {
-    /// Of two refusals of one input, by two readings of it, the one that came farther. At one place `Depth`
-    /// goes before `Length`, and `Length` before the other reasons.
+    /// Returns the refusal with the greater place: of two readings of one input, the one that came farther. At one
+    /// place `Depth` goes before `Length`, and `Length` before the other reasons. Where that decides nothing it is
+    /// `self`.
     #[inline(always)]
     pub fn farther(self, other: Refusal) -> Refusal
         ensures { result ≡ farther_of self other }
@@ -104,8 +119,8 @@ impl Refusal {
         }
     }
 
-    /// The same refusal where so many octets stand in front of those that it speaks of: the place is later by as
-    /// many, and has to be below 2^64.
+    /// Returns the same refusal of an input with `count` more octets in front: the place is greater by `count`. That
+    /// sum must be below 2^64.
     #[inline(always)]
     pub fn behind(self, count: usize) -> Refusal
         requires { count + self.place < 2 ^ 64 }
@@ -127,7 +142,7 @@ impl Display for Refusal {
 
 impl Error for Refusal {}
 
-/// Memory was wanted and refused.
+/// Memory was refused.
 #[derive(Clone, Copy, Debug, PartialEq, Eq)]
 pub struct OutOfMemory;
 

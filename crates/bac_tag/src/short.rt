@@ -7,8 +7,10 @@ ghost use Rattle.bac_tag.specs.Short.{headed, BeginsShort, BeginsWith};
 
 use crate::reading::initial_parts;
 
-/// The length of a head of this class and number, where the octets begin with its least spelling and that is one
-/// octet.
+/// Returns the length in the head with this class and number, 0 to 4, where the first octet alone is the canonical
+/// spelling of such a head. Else it returns None.
+///
+/// The number must be one that the class uses: 0 to 254 where `context` is true, else 0 or 2 to 12.
 #[inline(always)]
 pub fn short_len(octets: &[u8], context: bool, number: u8) -> Option<usize>
     requires { IsValid (headed context number 0) }
@@ -27,7 +29,8 @@ pub fn short_len(octets: &[u8], context: bool, number: u8) -> Option<usize>
     }
 }
 
-/// Whether the octets begin with the least spelling of the opening tag of this number, and that is one octet.
+/// Whether the first octet alone is the canonical spelling of the opening tag with this number, which must be at
+/// most 254.
 #[inline(always)]
 pub fn is_short_opening(octets: &[u8], number: u8) -> bool
     requires { IsValid (Open number) }
@@ -36,7 +39,8 @@ pub fn is_short_opening(octets: &[u8], number: u8) -> bool
     begins_tag(octets, number, 6)
 }
 
-/// Whether the octets begin with the least spelling of the closing tag of this number, and that is one octet.
+/// Whether the first octet alone is the canonical spelling of the closing tag with this number, which must be at
+/// most 254.
 #[inline(always)]
 pub fn is_short_closing(octets: &[u8], number: u8) -> bool
     requires { IsValid (Close number) }

@@ -66,7 +66,22 @@ fn with_length(context: bool, number: u8, len: u32) -> ArrayVec<u8, 7>
     }
 }
 
-/// The least list of octets that spells the head.
+/// Returns the canonical octets of the head (clause 20.2.1): the least list that spells it, of at most 7 octets.
+/// The head must be valid, as [`TagHead::is_valid`] tells.
+///
+/// # Examples
+/// ```rust
+/// use bac_tag::{TagHead, head_len, write_head};
+///
+/// let head = TagHead::Ctx {
+///     number: 15,
+///     len: 300,
+/// };
+/// assert!(rt; head.is_valid());
+/// let octets = [0xFD, 0x0F, 0xFE, 0x01, 0x2C];
+/// assert_eq!(rt; write_head(head).as_slice(), octets.as_slice());
+/// assert_eq!(rt; head_len(head), 5);
+/// ```
 #[inline(always)]
 pub fn write_head(head: TagHead) -> ArrayVec<u8, 7>
     requires { IsValid head }
@@ -107,7 +122,7 @@ fn length_len(len: u32) -> usize
     }
 }
 
-/// How many octets the least list of octets that spells the head has, 1 to 7. None is written.
+/// Returns how many octets [`write_head`] writes of the head, 1 to 7, without writing them. The head must be valid.
 #[inline(always)]
 pub fn head_len(head: TagHead) -> usize
     requires { IsValid head }
