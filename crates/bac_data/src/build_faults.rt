@@ -4,21 +4,20 @@ use std::error::Error;
 use std::fmt;
 use std::fmt::Display;
 
-/// Why a builder takes no further step. They are told in the order Number, Depth, NothingOpen, StillOpen,
-/// TooLong, OutOfMemory.
+/// Why a builder takes no further step. Where several hold, `Number` is told first and `OutOfMemory` last.
 #[derive(Clone, Copy, Debug, PartialEq, Eq)]
 pub enum BuildFault {
-    /// 255 is no tag number.
+    /// The number is 255, which is no tag number.
     Number = 1,
-    /// Thirty-two groups are open.
+    /// 32 groups are open, so that no other one may begin.
     Depth,
-    /// There is no group to close.
+    /// No group is open, so that none can be closed.
     NothingOpen,
     /// A group is still open.
     StillOpen,
     /// Memory was refused.
     OutOfMemory,
-    /// Contents of more than 1,048,576 octets.
+    /// The contents have more than 1,048,576 octets.
     TooLong,
 }
 

@@ -19,6 +19,20 @@ use std::marker::Model;
 const MAX_GROUPS: usize = 32;
 
 /// An open value (clause 20.2) that is being built, event by event. After each fault it is as it was.
+///
+/// # Examples
+/// ```rust
+/// use bac_data::AnyBuilder;
+/// use bac_value::{Prim, Unsigned};
+///
+/// let mut builder = AnyBuilder::new(rt.alloc())?;
+/// builder.open(2)?;
+/// builder.push(Prim::Unsigned(Unsigned(5)))?;
+/// builder.push_ctx(1, &[0x55])?;
+/// builder.close()?;
+/// let value = builder.finish()?;
+/// assert_eq!(rt; value.count(), 4);
+/// ```
 #[derive(Debug, Drop)]
 pub struct AnyBuilder {
     octets: Vec<u8>,
@@ -45,7 +59,10 @@ impl Model for AnyBuilder {
 }
 
 impl AnyBuilder {
-    /// A builder with no event.
+    /// Returns a builder with no event.
+    ///
+    /// # Errors
+    /// `OutOfMemory` where memory is refused.
     pub fn new(alloc: Global) -> Result<AnyBuilder, OutOfMemory>
         ensures { IfOk result (λ builder. builder ≡ []) }
     {
@@ -57,7 +74,10 @@ impl AnyBuilder {
         })
     }
 
-    /// Appends an application primitive (clause 20.2.1.4). Where memory is refused it comes back.
+    /// Appends an application primitive (clause 20.2.1.4).
+    ///
+    /// # Errors
+    /// `OutOfMemory` where memory is refused. The primitive comes back, and the builder stays as it was.
     pub fn push(&mut self, prim: Prim) -> Result<(), (Prim, BuildFault)>
         ensures ok { OnOk result (self.new ≡ self.old ++ application prim ∷ []) }
         ensures err { IfErr result (λ back. (back.0 ≡ prim) × (back.1 ≡ BuildFault.OutOfMemory) × (self.new ≡ self.old)) }
@@ -65,11 +85,15 @@ impl AnyBuilder {
         append_primitive(&mut self.octets, &mut self.nodes, prim)
     }
 
-    /// Appends a context primitive (clause 20.2.1.5): its number, at most 254, and its contents, at most 1,048,576
-    /// octets, which are copied.
+    /// Appends a context primitive (clause 20.2.1.5) with this number, at most 254, and a copy of these contents, at
+    /// most 1,048,576 octets.
     ///
     /// # Errors
-    /// `Number` for 255, else `TooLong` for more octets, else `OutOfMemory`.
+    /// The builder stays as it was.
+    ///
+    /// - `Number` where the number is 255.
+    /// - Else `TooLong` where there are more than 1,048,576 octets.
+    /// - Else `OutOfMemory` where memory is refused.
     pub fn push_ctx(&mut self, number: u8, octets: &[u8]) -> Result<(), BuildFault>
         ensures ok { OnOk result (self.new ≡ self.old ++ contextual number octets.now ∷ []) }
         ensures number { IsErrOf result BuildFault.Number ↔ (number ≡ 255) }
@@ -89,7 +113,11 @@ impl AnyBuilder {
     /// Begins a group with this number, at most 254 (clause 20.2.1.3.2).
     ///
     /// # Errors
-    /// `Number` for 255, else `Depth` where thirty-two groups are open, else `OutOfMemory`.
+    /// The builder stays as it was.
+    ///
+    /// - `Number` where the number is 255.
+    /// - Else `Depth` where 32 groups are open.
+    /// - Else `OutOfMemory` where memory is refused.
     pub fn open(&mut self, number: u8) -> Result<(), BuildFault>
         ensures ok { OnOk result (self.new ≡ self.old ++ opening number ∷ []) }
         ensures number { IsErrOf result BuildFault.Number ↔ (number ≡ 255) }
@@ -113,10 +141,13 @@ impl AnyBuilder {
         Ok(())
     }
 
-    /// Ends the innermost group.
+    /// Ends the innermost open group (clause 20.2.1.3.2).
     ///
     /// # Errors
-    /// `NothingOpen` where no group is open, else `OutOfMemory`.
+    /// The builder stays as it was.
+    ///
+    /// - `NothingOpen` where no group is open.
+    /// - Else `OutOfMemory` where memory is refused.
     pub fn close(&mut self) -> Result<(), BuildFault>
         ensures ok { OnOk result ((number : ℕ) × IsInnermost 32 self.old number × (self.new ≡ self.old ++ closing number ∷ [])) }
         ensures nothing_open { IsErrOf result BuildFault.NothingOpen ↔ HasOpen 32 self.old 0 }
@@ -137,8 +168,8 @@ impl AnyBuilder {
         Ok(())
     }
 
-    /// Whether one group more may begin, and the number that ends the innermost group, or the value, which has
-    /// this one.
+    /// Whether another group may begin, and the number of the innermost open group: where none is open, that of
+    /// the value, which is handed in.
     pub(crate) fn place(&self, number: u8) -> (bool, u8)
         requires { number ≤ 254 }
         ensures place { IsPlace 32 number self.now result.0 result.1 }
@@ -177,7 +208,10 @@ impl AnyBuilder {
         }
     }
 
-    /// The value with the events so far. Where a group is still open the builder comes back. It takes no memory.
+    /// Returns the value with the events so far. It takes no memory.
+    ///
+    /// # Errors
+    /// `StillOpen` where a group is still open, and nowhere else. The builder comes back as it was.
     pub fn finish(self) -> Result<Any, (AnyBuilder, BuildFault)>
         ensures value { IfOk result (λ value. events value ≡ self) }
         ensures complete { IsOk result ↔ HasOpen 32 self 0 }

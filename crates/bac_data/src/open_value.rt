@@ -14,8 +14,9 @@ use crate::walking::{Event, Events};
 use std::alloc::AllocError;
 use std::marker::Model;
 
-/// An open value: a list of elements, each an application primitive, a context primitive (its number and its
-/// contents) or a group (its number and its elements). At most 32 groups nest.
+/// An open value: a list of elements, which may be empty. Each is an application primitive, a context primitive
+/// (its number and its contents) or a group (its number and its elements). Numbers are 0 to 254, contents have at
+/// most 1,048,576 octets, and at most 32 groups nest.
 #[derive(Debug, Drop)]
 pub struct Any {
     octets: Vec<u8>,
@@ -108,7 +109,22 @@ impl Any {
         (&self.octets, &self.nodes)
     }
 
-    /// A walk over the value. It takes no memory.
+    /// Returns a walk over the events of the value, in their order. The tags around the value are none of them. The
+    /// walk takes no memory.
+    ///
+    /// # Examples
+    /// ```rust
+    /// use bac_data::{Event, read_any};
+    ///
+    /// // A group of number 2 with one context primitive, between tags of number 3.
+    /// let octets = [0x3E, 0x2E, 0x19, 0x55, 0x2F, 0x3F];
+    /// let (value, _) = read_any(rt.alloc(), &octets, 3)?;
+    /// let mut events = value.events();
+    /// assert_eq!(rt; events.next(), Some(Event::Open(2)));
+    /// assert_eq!(rt; events.next(), Some(Event::Ctx(1, &[0x55])));
+    /// assert_eq!(rt; events.next(), Some(Event::Close(2)));
+    /// assert_eq!(rt; events.next(), None);
+    /// ```
     pub fn events(&self) -> Events<'_>
         ensures events { result ≡ events self.now }
         ensures value { IsOpenValue 32 self.now }
@@ -116,8 +132,8 @@ impl Any {
         Events::over(&self.octets, &self.nodes)
     }
 
-    /// How many events a walk over the value has. They are no more than the octets of any of its spellings, the
-    /// tags around it not counted.
+    /// Returns how many events a walk over the value has. They are no more than the octets between the tags of any
+    /// of its spellings.
     pub fn count(&self) -> usize
         ensures count { result ≡ length (events self.now) }
         ensures most { (b : List ℕ) → SpellsAll self.now b → result ≤ length b }

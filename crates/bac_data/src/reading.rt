@@ -76,13 +76,40 @@ fn read_value(
     }
 }
 
-/// Reads the open value (clause 20.2) at the front of the octets, between an opening and a closing tag of this
-/// number (clause 20.2.1.3.2), which is at most 254, and how many octets it takes with its tags.
+/// Reads the open value (clause 20.2) at the front of the octets, in any tolerated spelling. Returns it, and how
+/// many octets it takes with its tags; more may follow.
+///
+/// Octets: the opening tag with this number (clause 20.2.1.3.2), which must be at most 254; the elements in their
+/// order; the closing tag with this number. The contents of an element have at most 1,048,576 octets, and at most
+/// 32 groups nest between the two tags.
 ///
 /// # Errors
-/// At the first octet with which no such value begins: `Tag`, `Length` or `Depth` in a head, `Content` in
-/// contents, or `Short` where the octets end before there is such an octet. `OutOfMemory` at 0 where memory is
-/// refused.
+/// The place is that of the first octet with which no such value begins. The reason is one of these:
+///
+/// - `Short` where the octets end before there is such an octet, and nowhere else: the place is their number;
+/// - `Depth` only at the first octet of another group inside 32 open ones;
+/// - `Tag`, `Length` or `Content`;
+/// - `OutOfMemory` where memory is refused: the place is 0.
+///
+/// # Examples
+/// ```rust
+/// use bac_data::{Event, read_any};
+/// use bac_tag::{Refusal, Why};
+/// use bac_value::{PrimRef, Unsigned};
+///
+/// // The Unsigned 5 between tags of number 3. The octet behind them is not taken.
+/// let (value, taken) = read_any(rt.alloc(), &[0x3E, 0x21, 0x05, 0x3F, 0x49], 3)?;
+/// assert_eq!(rt; taken, 4);
+/// for event in &value {
+///     assert_eq!(rt; event, Event::App(PrimRef::Unsigned(Unsigned(5))));
+/// }
+/// // A closing tag of another number is refused.
+/// let refusal = Refusal {
+///     place: 1,
+///     why: Why::Tag,
+/// };
+/// assert_eq!(rt; read_any(rt.alloc(), &[0x3E, 0x4F], 3).err(), Some(refusal));
+/// ```
 pub fn read_any(alloc: Global, octets: &[u8], number: u8) -> Result<(Any, usize), Refusal>
     requires { number ≤ 254 }
     ensures found { IfOk result (Takes (SpellsOpen 32 number) octets.now) }
@@ -95,11 +122,12 @@ pub fn read_any(alloc: Global, octets: &[u8], number: u8) -> Result<(Any, usize)
     Ok((value, taken))
 }
 
-/// Reads the same, and the first place where its octets, the tags among them, differ from the canonical ones:
-/// None where they are canonical.
+/// Reads what [`read_any`] reads. Returns the value, how many octets it takes with its tags, and the offset of the
+/// first of these octets that differs from the canonical ones, or None where they are canonical. `number` must be
+/// at most 254.
 ///
 /// # Errors
-/// As [`read_any`].
+/// As those of [`read_any`].
 pub fn read_any_marked(
     alloc: Global,
     octets: &[u8],

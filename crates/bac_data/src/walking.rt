@@ -10,19 +10,20 @@ use bac_value::PrimRef;
 use std::marker::Model;
 
 /// One step of a walk over an open value: a primitive, or the opening or closing tag of a group (clause 20.2.1).
+/// Numbers are 0 to 254.
 #[derive(Clone, Copy, Debug, PartialEq, Eq)]
 pub enum Event<'a> {
     /// An application primitive.
     App(PrimRef<'a>),
-    /// A context primitive: its number and its contents.
+    /// A context primitive: its number and its contents, at most 1,048,576 octets.
     Ctx(u8, &'a [u8]),
     /// A group with this number begins.
     Open(u8),
-    /// The innermost group, which has this number, ends.
+    /// The innermost open group ends. It has this number.
     Close(u8),
 }
 
-/// A walk over an open value. It takes no memory.
+/// A walk over an open value, which gives its events one after another. It takes no memory.
 #[derive(Debug, Drop)]
 pub struct Events<'a> {
     octets: &'a [u8],

@@ -105,8 +105,24 @@ fn append_any(value: &Any, number: u8, out: &mut Vec<u8>) -> Result<(), OutOfMem
     append_head(TagHead::Close(number), out)
 }
 
-/// Appends the least spelling of an open value (clause 20.2), with the opening and the closing tag of this
-/// number around it (clause 20.2.1.3.2), which is at most 254. Where memory is refused `out` stays as it was.
+/// Appends the canonical octets of an open value (clause 20.2), the least that spell it: the opening tag with this
+/// number (clause 20.2.1.3.2), which must be at most 254; the elements in their order; the closing tag with this
+/// number.
+///
+/// # Errors
+/// `OutOfMemory` where memory is refused. `out` then stays as it was.
+///
+/// # Examples
+/// ```rust
+/// use bac_data::{read_any, write_any};
+///
+/// // The Unsigned 5 in two octets, which are more than it needs.
+/// let (value, _) = read_any(rt.alloc(), &[0x3E, 0x22, 0x00, 0x05, 0x3F], 3)?;
+/// let mut out = Vec::new(rt.alloc());
+/// write_any(&value, 3, &mut out)?;
+/// let canonical = [0x3E, 0x21, 0x05, 0x3F];
+/// assert_eq!(rt; out.as_slice(), canonical.as_slice());
+/// ```
 pub fn write_any(value: &Any, number: u8, out: &mut Vec<u8>) -> Result<(), OutOfMemory>
     requires { number ≤ 254 }
     ensures ok { OnOk result (Appends (IsLeast (SpellsOpen 32 number value.now)) out.old.items out.new.items) }
