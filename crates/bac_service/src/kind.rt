@@ -9,13 +9,13 @@ ghost use Rattle.bac_service.specs.ServiceTable.{service_error, rows, production
 /// The APDUs that carry a service (clause 20.1).
 #[derive(Clone, Copy, Debug, PartialEq, Eq, Hash)]
 pub enum Kind {
-    /// A request that wants an answer.
+    /// A request that wants an answer (clause 20.1.2).
     Confirmed,
-    /// A request that wants none.
+    /// A request that wants no answer (clause 20.1.3).
     Unconfirmed,
-    /// An answer with contents.
+    /// An answer with contents (clause 20.1.5).
     ComplexAck,
-    /// The answer to a request that failed.
+    /// The answer to a request that failed (clause 20.1.7).
     Error,
 }
 

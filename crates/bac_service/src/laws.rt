@@ -53,8 +53,8 @@ pub fn services_have_canonical_octets()
     parts_have_spellings::<Fields<WritePropertyMultipleError>>();
 }
 
-/// Only services are spelled: of this kind and with this choice, which is an octet, with the production that they
-/// name; and where they name none, by nothing but its own octets.
+/// Only services are spelled. What is spelled has this kind and this choice, which is an octet, and the production
+/// that these name. Where they name none, it is spelled by its own octets alone.
 pub fn only_services_are_spelled()
     ensures placed { (kind : Kind) (choice : ℕ) (v : ServiceValue) (b : List ℕ) → SpellsService true 32 kind choice v b → (v.kind ≡ kind) × (v.choice ≡ choice) × IsPlaced v }
     ensures opaque { (kind : Kind) (choice : ℕ) (v : ServiceValue) (b : List ℕ) → SpellsService true 32 kind choice v b → IsNone v.production → (v ≡ opaque kind choice b) × IsOctets b }
@@ -85,8 +85,8 @@ pub fn canonical_octets_tell_the_service()
     services_have_one_value();
 }
 
-/// A service that was spelled while WritePropertyMultiple was opaque and 16 groups nested, and is none of the two of
-/// choice 16 that are typed now, is spelled by the same lists, and has the same canonical octets.
+/// Formerly WritePropertyMultiple and its error were opaque, and at most 16 groups nested. Each other service that was
+/// spelled then is still spelled by the same lists, and has the same canonical octets.
 pub fn former_services_are_kept()
     ensures spelled { (kind : Kind) (choice : ℕ) (v : ServiceValue) (b : List ℕ) → IsUnchanged kind choice → SpellsService false 16 kind choice v b → SpellsService true 32 kind choice v b }
     ensures least { (kind : Kind) (choice : ℕ) (v : ServiceValue) (b : List ℕ) → IsUnchanged kind choice → IsLeast (SpellsService false 16 kind choice v) b → IsLeast (SpellsService true 32 kind choice v) b }

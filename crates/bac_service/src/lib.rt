@@ -1,5 +1,13 @@
-//! Services (clause 21): the requests, answers and notifications that an APDU carries. A kind and a service
-//! choice name the production by which the octets are decoded; those without a production are opaque.
+//! Services of BACnet (ANSI/ASHRAE 135, clause 21): the requests, answers and notifications that an APDU carries.
+//! A kind and a service choice name the production by which the octets are decoded. Services of any other kind and
+//! choice are opaque: their octets are kept as they are.
+//!
+//! [`decode_service`] reads a service, and [`encode_service`] and [`append_service`] write one. The octets of a
+//! service are those behind the service choice in the APDU (clause 20.1). At each type of a service the doc comment
+//! lists its parts in their order. There `[n]` is contents under a context tag with number n, and `[n] { }` is
+//! everything between an opening and a closing tag with number n (clause 20.2.1).
+//!
+//! In the examples `rt` is the program's `HostRuntime`.
 #![tactic(auto)]
 
 mod kind;

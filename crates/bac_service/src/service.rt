@@ -18,7 +18,7 @@ use crate::services::write_property::WriteProperty;
 use crate::services::write_property_multiple::WritePropertyMultiple;
 use crate::services::write_property_multiple_error::WritePropertyMultipleError;
 
-/// A service: a typed one, or any other, which means its octets.
+/// A service: a typed one, whose kind and choice have a production, or an opaque one, which is its octets.
 #[derive(Debug, Drop)]
 pub enum Service {
     /// ReadProperty: a confirmed request, choice 12.
@@ -51,7 +51,7 @@ pub enum Service {
 }
 
 impl Service {
-    /// The kind of APDU that carries it.
+    /// Returns the kind of APDU that carries the service.
     pub fn kind(&self) -> Kind
         ensures { result ≡ (value_of self.now).kind }
     {
@@ -70,7 +70,7 @@ impl Service {
         }
     }
 
-    /// Its service choice (clause 21).
+    /// Returns the service choice (clause 21).
     pub fn choice(&self) -> u8
         ensures { result ≡ (value_of self.now).choice }
     {

@@ -101,14 +101,21 @@ fn decode_kind(alloc: Global, kind: Kind, choice: u8, octets: &[u8]) -> Result<M
     }
 }
 
-/// Decodes the service that all the octets spell, of this kind and with this service choice, and gives the place
-/// of the first octet that differs from the canonical ones.
+/// Decodes what [`decode_service`] decodes. Returns the service, and the offset of the first octet that differs from
+/// its canonical ones, or None where the octets are canonical.
 ///
 /// # Errors
-/// At the first octet with which no spelling of such a service goes on: `Trailing` where the octets in front of it
-/// spell one, else `Tag`, `Length`, `Content` or, in a thirty-third group of an open value, `Depth`; `Short` where
-/// all the octets begin a spelling. `OutOfMemory` at 0 where memory is refused. ReadProperty, SubscribeCOV, I-Am,
-/// Who-Is and the errors of typed services want no memory. An opaque service takes any octets.
+/// As those of [`decode_service`].
+///
+/// # Examples
+/// ```rust
+/// use bac_service::{Kind, decode_service_marked};
+///
+/// // ReadProperty with the property in two octets, which are more than it needs.
+/// let octets = [0x0C, 0x00, 0x00, 0x00, 0x05, 0x1A, 0x00, 0x55];
+/// let (_, mark) = decode_service_marked(rt.alloc(), Kind::Confirmed, 12, &octets)?;
+/// assert_eq!(rt; mark, Some(5));
+/// ```
 pub fn decode_service_marked(
     alloc: Global,
     kind: Kind,
@@ -124,10 +131,39 @@ pub fn decode_service_marked(
     decode_kind(alloc, kind, choice, octets)
 }
 
-/// Decodes the service that all the octets spell, of this kind and with this service choice.
+/// Decodes the service of this kind and with this service choice that all the octets spell, in any tolerated
+/// spelling. Its type lists its octets in their order (clause 21).
+///
+/// Where the kind and the choice have no production the service is [`Service::Opaque`], with any octets.
 ///
 /// # Errors
-/// As [`decode_service_marked`].
+/// The place is that of the first octet with which no spelling of such a service begins. The reason is one of these:
+///
+/// - `Short` where all the octets begin a spelling, and nowhere else: the place is their number;
+/// - `Trailing` where the octets in front of the place spell such a service, and nowhere else;
+/// - `Tag`, `Length`, `Content` or `Depth`;
+/// - `OutOfMemory` where memory is refused: the place is 0. It is never told of ReadProperty, SubscribeCOV, I-Am,
+///   Who-Is and the errors of choice 1, 5, 12, 14, 15 and 16.
+///
+/// # Examples
+/// ```rust
+/// use bac_service::{Kind, Service, WhoIs, decode_service};
+/// use bac_tag::{Refusal, Why};
+///
+/// // Unconfirmed, service choice 8: Who-Is. Without octets it asks for all devices.
+/// let service = decode_service(rt.alloc(), Kind::Unconfirmed, 8, &[])?;
+/// let Service::WhoIs(request) = &service else {
+///     panic!(rt; "{service:?}");
+/// };
+/// assert_eq!(rt; *request, WhoIs { limits: None });
+/// // A low limit needs a high one behind it.
+/// let refusal = Refusal {
+///     place: 2,
+///     why: Why::Short,
+/// };
+/// let found = decode_service(rt.alloc(), Kind::Unconfirmed, 8, &[0x09, 0x64]);
+/// assert_eq!(rt; found.err(), Some(refusal));
+/// ```
 pub fn decode_service(
     alloc: Global,
     kind: Kind,

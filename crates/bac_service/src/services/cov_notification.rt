@@ -16,15 +16,15 @@ use bac_value::{ObjectId, Unsigned32};
 /// object identifier, `[3]` time remaining, `[4] {` list of values `}`. They are the same for both services.
 #[derive(Debug, Drop)]
 pub struct CovNotification {
-    /// Whether the notification wants an answer.
+    /// Whether it is a ConfirmedCOVNotification, which wants an answer, or an UnconfirmedCOVNotification.
     pub confirmed: bool,
-    /// The process of the subscriber for which the notification is.
+    /// The number of the subscriber's process.
     pub process_identifier: Unsigned32,
-    /// The device that notifies.
+    /// The device that sends the notification.
     pub device: ObjectId,
-    /// The object that is watched.
+    /// The object whose values are told.
     pub object: ObjectId,
-    /// For how many seconds the subscription goes on; 0 where it has no end.
+    /// For how many seconds the subscription goes on; 0 is without end.
     pub time_remaining: Unsigned32,
     /// The values of the object, in their order. There may be none.
     pub values: Vec<PropertyValue>,

@@ -14,9 +14,9 @@ use bac_value::Enumerated;
 /// (Enumerated).
 #[derive(Clone, Copy, Debug, PartialEq, Eq)]
 pub struct ErrorCause {
-    /// What the error has to do with, as a device, an object or a property. Any class is kept.
+    /// What failed, as a device, an object or a property. Any number below 2^32 is kept.
     pub class: Enumerated,
-    /// What went wrong. Any code is kept.
+    /// How it failed. Any number below 2^32 is kept.
     pub code: Enumerated,
 }
 

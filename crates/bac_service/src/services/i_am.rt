@@ -19,10 +19,10 @@ use bac_value::{Enumerated, ObjectId, Unsigned16, Unsigned32};
 pub struct IAm {
     /// The device.
     pub device: ObjectId,
-    /// The most octets of an APDU that it takes.
+    /// The length of the longest APDU that it accepts, in octets.
     pub max_apdu_length: Unsigned32,
-    /// Which messages in segments it can do: 0, it sends and takes them; 1, it sends them; 2, it takes them;
-    /// 3, neither. Other numbers are kept.
+    /// Whether it sends and accepts segmented messages: 0, it does both; 1, it only sends them; 2, it only accepts
+    /// them; 3, it does neither. Other numbers are kept.
     pub segmentation: Enumerated,
     /// The number of its vendor.
     pub vendor: Unsigned16,

@@ -15,10 +15,10 @@ use std::fmt;
 use std::fmt::Display;
 use std::marker::Model;
 
-/// Why there is no such opaque service. Typed comes first.
+/// Why no such opaque service is made. `Typed` is told first.
 #[derive(Clone, Copy, Debug, PartialEq, Eq)]
 pub enum OpaqueFault {
-    /// The kind and the choice have a production.
+    /// The kind and the choice have a production, so that the service is a typed one.
     Typed = 1,
     /// Memory was refused.
     OutOfMemory,
@@ -35,7 +35,7 @@ impl Display for OpaqueFault {
 
 impl Error for OpaqueFault {}
 
-/// A service of a kind and a choice without a production. It means its octets, whatever they are and however many.
+/// A service of a kind and a choice without a production. It is its octets, whatever they are and however many.
 #[derive(Debug, Drop)]
 pub struct Opaque {
     kind: Kind,
@@ -58,10 +58,10 @@ impl Model for Opaque {
 }
 
 impl Opaque {
-    /// The service of this kind and choice with these octets, copied.
+    /// Returns the service of this kind and choice with a copy of these octets, which may be any.
     ///
     /// # Errors
-    /// `Typed` where the kind and the choice have a production, else `OutOfMemory`.
+    /// `Typed` where the kind and the choice have a production, else `OutOfMemory` where memory is refused.
     pub fn new(alloc: Global, kind: Kind, choice: u8, octets: &[u8]) -> Result<Opaque, OpaqueFault>
         ensures value { IfOk result (λ service. service ≡ record { kind = kind; choice = choice; octets = octets.now }) }
         ensures typed { IsErrOf result OpaqueFault.Typed ↔ IsSome (production_of true kind choice) }
@@ -79,21 +79,21 @@ impl Opaque {
         })
     }
 
-    /// Its kind.
+    /// Returns the kind of APDU that carries the service.
     pub fn kind(&self) -> Kind
         ensures { result ≡ self.now.kind }
     {
         self.kind
     }
 
-    /// Its service choice.
+    /// Returns the service choice.
     pub fn choice(&self) -> u8
         ensures { result ≡ self.now.choice }
     {
         self.choice
     }
 
-    /// Its octets, in their order.
+    /// Returns the octets of the service, in their order.
     pub fn octets(&self) -> &[u8]
         ensures octets { result.now ≡ self.now.octets }
         ensures untyped { IsNone (production_of true self.now.kind self.now.choice) }

@@ -16,7 +16,7 @@ use bac_value::{Enumerated, Unsigned32};
 pub struct PropertyReference {
     /// The identifier of the property.
     pub property: Enumerated,
-    /// The index of the element, where the property is an array.
+    /// The index of the element, where the property is an array and one element is meant.
     pub index: Option<Unsigned32>,
 }
 

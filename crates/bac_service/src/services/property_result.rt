@@ -36,7 +36,7 @@ pub enum ReadResult {
 pub struct PropertyResult {
     /// The identifier of the property.
     pub property: Enumerated,
-    /// The index of the element, where the property is an array.
+    /// The index of the element, where the property is an array and one element is meant.
     pub index: Option<Unsigned32>,
     /// The value, or the error.
     pub result: ReadResult,

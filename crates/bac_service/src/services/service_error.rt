@@ -14,7 +14,7 @@ use bac_tag::OutOfMemory;
 use bac_value::Enumerated;
 use std::marker::Model;
 
-/// Why a request of one of the typed confirmed services failed.
+/// Why a request failed whose service choice is 1, 5, 12, 14 or 15.
 ///
 /// Octets (clause 21): those of its [`ErrorCause`]. The choice stands in front of them, in the header of the
 /// APDU.
@@ -40,7 +40,8 @@ impl Model for ServiceError {
 }
 
 impl ServiceError {
-    /// The error of the service with this choice, which is 1, 5, 12, 14 or 15, with a class and a code.
+    /// Returns the error of this service choice with this class and this code, or None where the choice is not 1, 5,
+    /// 12, 14 or 15.
     pub fn new(choice: u8, class: u32, code: u32) -> Option<ServiceError>
         ensures some { IsSome result ↔ (production_of true Error choice ≡ Some service_error) }
         ensures value { IfSome result (λ error. error ≡ record { choice = choice; cause = record { class = record { 0 = class }; code = record { 0 = code } } }) }
@@ -63,7 +64,7 @@ impl ServiceError {
         ServiceError { choice, cause }
     }
 
-    /// The choice of the service that failed.
+    /// Returns the choice of the service that failed: 1, 5, 12, 14 or 15.
     pub fn choice(&self) -> u8
         ensures choice { result ≡ self.now.choice }
         ensures typed { production_of true Error result ≡ Some service_error }
@@ -71,14 +72,14 @@ impl ServiceError {
         self.choice
     }
 
-    /// The class of the error (clause 18).
+    /// Returns the class of the error (clause 18).
     pub fn class(&self) -> u32
         ensures { result ≡ self.now.cause.class.0 }
     {
         self.cause.class.0
     }
 
-    /// The code of the error (clause 18).
+    /// Returns the code of the error (clause 18).
     pub fn code(&self) -> u32
         ensures { result ≡ self.now.cause.code.0 }
     {

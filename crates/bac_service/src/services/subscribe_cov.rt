@@ -13,8 +13,8 @@ use crate::service::Service;
 use bac_tag::OutOfMemory;
 use bac_value::{Boolean, ObjectId, Unsigned32};
 
-/// A request to be told of changes of an object's values or, with neither `confirmed` nor `lifetime`, to be
-/// told no more.
+/// A request to be notified of changes of an object's values or, with neither `confirmed` nor `lifetime`, not to be
+/// notified any more.
 ///
 /// Octets (clause 21): `[0]` subscriber process identifier, `[1]` monitored object identifier, `[2]` issue
 /// confirmed notifications (optional), `[3]` lifetime (optional).
@@ -24,9 +24,9 @@ pub struct SubscribeCov {
     pub process_identifier: Unsigned32,
     /// The object to watch.
     pub object: ObjectId,
-    /// Whether the notifications are to be confirmed.
+    /// Whether the notifications are to be confirmed requests.
     pub confirmed: Option<bool>,
-    /// For how many seconds; 0: without end.
+    /// For how many seconds notifications are wanted; 0 is without end.
     pub lifetime: Option<Unsigned32>,
 }
 

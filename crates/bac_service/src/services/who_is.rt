@@ -11,12 +11,13 @@ use crate::service::Service;
 use bac_tag::OutOfMemory;
 use bac_value::Instance;
 
-/// A question for devices: for those whose instances lie within limits, or for all of them.
+/// A request for devices to name themselves: those whose instances lie within limits, or all of them.
 ///
 /// Octets (clause 21): none, or `[0]` low limit and `[1]` high limit. Each limit is 0 to 4,194,303.
 #[derive(Clone, Copy, Debug, PartialEq, Eq)]
 pub struct WhoIs {
-    /// The lowest instance that is asked for, and the highest.
+    /// The lowest and the highest instance that is asked for, each 0 to 4,194,303. None asks for all devices. The
+    /// lowest may be the greater one.
     pub limits: Option<(Instance, Instance)>,
 }
 

@@ -18,15 +18,15 @@ use bac_value::{Enumerated, ObjectId, Unsigned32};
 /// index (optional) `}`.
 #[derive(Clone, Copy, Debug, PartialEq, Eq)]
 pub struct WritePropertyMultipleError {
-    /// What the error has to do with, as a device, an object or a property. Any class is kept.
+    /// What failed, as a device, an object or a property. Any number below 2^32 is kept.
     pub class: Enumerated,
-    /// What went wrong. Any code is kept.
+    /// How it failed. Any number below 2^32 is kept.
     pub code: Enumerated,
     /// The object that has the property that could not be written.
     pub object: ObjectId,
     /// The identifier of that property.
     pub property: Enumerated,
-    /// The index of the element, where the property is an array.
+    /// The index of the element, where the property is an array and one element is meant.
     pub index: Option<Unsigned32>,
 }
 
