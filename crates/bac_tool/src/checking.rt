@@ -84,10 +84,11 @@ impl Job for Check {
     }
 }
 
-/// Writes a line for each record: its number, and whether the record is canonical, tolerated or refused.
+/// Writes a line for each record: its number, and whether the record is canonical, tolerated or refused. Returns how
+/// many records there were.
 ///
 /// # Errors
-/// As [`RunFault`] says. Refused records do not stop the run.
+/// As [`RunFault`] says, but never `Frame`: refused records do not stop the run.
 pub fn run_check<R: Input, W: Output>(
     alloc: Global,
     mode: Mode,

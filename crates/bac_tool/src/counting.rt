@@ -10,8 +10,8 @@ const RETRIES: u32 = 63;
 
 /// A standard reader or writer, with the number of its failures.
 ///
-/// In one call an interrupted call of the standard device is tried again after each of the first 63
-/// interruptions. The 64th, and any other error, is told as `Device::Failed`.
+/// A call of the standard device that is interrupted is tried again, up to 63 times. The 64th interruption in one
+/// call, and any other error, is told as `Device::Failed`.
 #[derive(Drop)]
 pub struct Counted<T> {
     pub device: T,
@@ -20,7 +20,7 @@ pub struct Counted<T> {
 }
 
 impl<T> Counted<T> {
-    /// The device, with no failure so far.
+    /// Returns the device with no failure so far.
     pub fn new(device: T) -> Counted<T>
         ensures device { result.device ≡ device }
         ensures none { result.failures ≡ 0 }

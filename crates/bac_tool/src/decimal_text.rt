@@ -7,7 +7,10 @@ ghost use Rattle.bac_tool.specs.Appending.{Extends};
 
 use bac_tag::OutOfMemory;
 
-/// Appends the decimal digits of a number. Where memory is refused `out` stays as it was.
+/// Appends the decimal digits of a number.
+///
+/// # Errors
+/// `OutOfMemory` where memory is refused. `out` then stays as it was.
 pub fn push_decimal(out: &mut Vec<u8>, number: u64) -> Result<(), OutOfMemory>
     ensures ok { OnOk result (out.new.items ≡ out.old.items ++ decimal number) }
     ensures err { OnErr result (out.new.items ≡ out.old.items) }
@@ -25,7 +28,10 @@ pub fn push_decimal(out: &mut Vec<u8>, number: u64) -> Result<(), OutOfMemory>
     Ok(())
 }
 
-/// Appends a name and a number. Where memory is refused the name may be there.
+/// Appends a name and the decimal digits of a number.
+///
+/// # Errors
+/// `OutOfMemory` where memory is refused. Some of the octets may then be there.
 pub fn push_named(out: &mut Vec<u8>, name: &[u8], number: u64) -> Result<(), OutOfMemory>
     ensures ok { OnOk result (out.new.items ≡ out.old.items ++ named name.now number) }
     ensures err { OnErr result (Extends out.old.items out.new.items) }

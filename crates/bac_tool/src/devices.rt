@@ -20,8 +20,11 @@ pub trait Input {
     /// How often a read has failed. It stays at the largest `u64`.
     ghost failures: { Self → ℕ };
 
-    /// Puts octets at the front of the buffer, and says how many; fewer than there are, perhaps. None in a
-    /// buffer with room is the end.
+    /// Reads octets into the front of the buffer. Returns how many, which may be fewer than there are. It returns 0
+    /// at the end, or where the buffer has no room.
+    ///
+    /// # Errors
+    /// `Failed`: no octet was read, and the count of failures rises.
     fn read(&mut self, buffer: &mut [u8]) -> Result<usize, Device>
         ensures bound { ReadsAtMost result buffer.new }
         ensures octets { ReadConsumes (left self.old) (left self.new) result buffer.new }
@@ -36,7 +39,10 @@ pub trait Output {
     /// How often a write has failed, or has taken none of some octets. It stays at the largest `u64`.
     ghost failures: { Self → ℕ };
 
-    /// Takes octets from the front, and says how many; fewer than there are, perhaps.
+    /// Takes octets from the front of these. Returns how many, which may be fewer than there are.
+    ///
+    /// # Errors
+    /// `Failed`: no octet was taken, and the count of failures rises.
     fn write(&mut self, octets: &[u8]) -> Result<usize, Device>
         ensures bound { WritesAtMost result octets.now }
         ensures octets { WriteAppends (taken self.old) (taken self.new) result octets.now }

@@ -9,25 +9,26 @@ pub enum StreamFault {
     /// The reader ended inside a record.
     #[error("truncated")]
     Truncated,
-    /// A record's length octets tell more than 65,535 octets. As two octets tell no more, no call answers it.
+    /// A record has more than 65,535 octets. Its two length octets cannot say so, and no call tells it.
     #[error("too long")]
     RecordTooLong,
     /// A read failed.
     #[error("read fault")]
     ReadFault,
-    /// A write failed, or took none of some octets. The number is that of the octets that were taken.
+    /// A write failed, or took none of some octets. So many octets were taken before.
     #[error("write fault after {0} octets")]
     WriteFault(u128),
-    /// More octets came after 1,000,000 records. Runs alone tell it.
+    /// More octets came after 1,000,000 records. Only runs tell it.
     #[error("more than 1000000 records")]
     TooManyFrames,
-    /// Memory was wanted and refused.
+    /// Memory was refused.
     #[error("out of memory")]
     OutOfMemory,
 }
 
-/// Why a run stopped. `at` is the number of the record at fault, from 1: one more than the number of records
-/// that were dealt with whole.
+/// Why a run stopped. `at` is the number of the record at fault, counted from 1: one more than the number of records
+/// that were dealt with whole. Their output was written, and nothing more; or, after `WriteFault(k)`, the first `k`
+/// octets of their output and that of the record at fault.
 #[derive(Clone, Copy, Debug, PartialEq, Eq, Error)]
 pub enum RunFault {
     /// The stream goes no further.

@@ -15,8 +15,8 @@ use bac_tag::{
 use bac_value::Primitive;
 use std::alloc::Global;
 
-/// A part that was read: its value, how many octets it takes, and the first of them that differs from the
-/// written ones.
+/// A part that was read: its value, how many octets it takes, and the offset of the first of these that differs from
+/// the canonical ones, or None where they are canonical.
 #[derive(Drop)]
 pub struct Part<T> {
     pub value: T,
@@ -66,11 +66,12 @@ fn field_mark<T: Primitive>(head: &[u8], value: &T, number: u8, contents: &[u8])
     joined_marks(mark, head.len(), value.mark(contents))
 }
 
-/// Reads the field of this number at the front of the octets.
+/// Reads the field of this number, which must be at most 254, at the front of the octets: a context head with the
+/// number, then the contents.
 ///
 /// # Errors
-/// At the first octet with which no such field begins: `Tag`, `Length` or `Content` as that octet is one of
-/// a head, of its length or of the contents, or `Short` where the octets end before there is one.
+/// The place is that of the first octet with which no such field begins, and the reason is `Tag`, `Length` or
+/// `Content`. Where the octets end before there is such an octet, it is `Short`, and the place is their number.
 pub fn read_field<T: Primitive>(
     alloc: Global,
     octets: &[u8],
@@ -122,7 +123,10 @@ pub fn field_len<T: Primitive>(number: u8, value: &T) -> usize
     head.len() + len
 }
 
-/// Appends the written octets of a field. Where memory is refused some of them may be there.
+/// Appends the canonical octets of a field.
+///
+/// # Errors
+/// `OutOfMemory` where memory is refused. Some octets of the field may then be there.
 pub fn append_field<T: Primitive>(
     number: u8,
     value: &T,

@@ -60,7 +60,7 @@ pub use thin_header::ThinHeader;
 pub use tool::run_tool;
 pub use words::job;
 
-/// The status where the words or the standard streams can not be had.
+/// The status where the words or the standard streams cannot be had.
 const FAILED: u8 = 2;
 
 fn main(rt: HostRuntime) -> ExitCode {

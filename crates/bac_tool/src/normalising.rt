@@ -96,10 +96,11 @@ impl Job for Normalise {
     }
 }
 
-/// Writes the canonical octets of each frame as a record, up to the first record that is refused.
+/// Writes the canonical octets of each frame as a record, up to the first record that is refused. Returns what it
+/// counted.
 ///
 /// # Errors
-/// As [`RunFault`] says; `Frame` names the first refused record.
+/// As [`RunFault`] says. `Frame` tells the first refused record.
 pub fn run_normalise<R: Input, W: Output>(
     alloc: Global,
     mode: Mode,

@@ -68,10 +68,14 @@ fn next_record<R: Input>(alloc: Global, reader: &mut R) -> Result<Option<Vec<u8>
     Ok(Some(read_octets(alloc, reader, length)?))
 }
 
-/// The octets of the next record, or `None` where the reader is at its end.
+/// Reads the next record, and no octet behind it. Returns its octets, or None where the reader is at its end.
 ///
-/// No octet behind the record is read, and behind length octets for which memory is refused none at all.
-/// `RecordTooLong`, `TooManyFrames` and `WriteFault` never come.
+/// Octets: two of length, the most significant first, then as many as these say, at most 65,535.
+///
+/// # Errors
+/// - `Truncated` where the reader ends inside the record.
+/// - `ReadFault` where a read failed. Less than a record was read.
+/// - `OutOfMemory` where memory is refused. The length octets alone were read.
 pub fn read_record<R: Input>(alloc: Global, reader: &mut R) -> Result<Option<Vec<u8>>, StreamFault>
     ensures found { IfOk result (λ found. GivesRecord (R.left reader.old) (R.left reader.new) (option_map (λ octets. octets.items) found)) }
     ensures stops { IfErr result (StopsReading (R.left reader.old) (R.left reader.new)) }
@@ -84,8 +88,11 @@ pub fn read_record<R: Input>(alloc: Global, reader: &mut R) -> Result<Option<Vec
     next_record(alloc, reader)
 }
 
-/// Writes the octets, 65,535 at most, as a record. The one fault is `WriteFault`, with the number of the record's octets that
-/// were taken, length octets included.
+/// Writes the octets, of which there must be at most 65,535, as a record: two octets of length, the most significant
+/// first, then the octets.
+///
+/// # Errors
+/// `WriteFault`, with the number of octets that were taken, the length octets among them.
 pub fn write_record<W: Output>(writer: &mut W, octets: &[u8]) -> Result<(), StreamFault>
     requires { IsRecord octets.now }
     ensures ok { OnOk result (Appends (W.taken writer.old) (W.taken writer.new) (record_of octets.now)) }

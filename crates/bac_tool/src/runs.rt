@@ -69,10 +69,10 @@ fn run_pieces<J: Job, R: Input, W: Output>(
 
 /// Deals with each record of a file, in order, to its end or to a fault, and writes what the job makes of it.
 ///
-/// `at` of a fault is one more than the number of records that were dealt with whole. After a fault their
-/// outputs were written and no more; after `WriteFault(k)` the first `k` octets of the outputs up to and with
-/// that of the record at fault. It takes memory for 65,537 octets of input and for the outputs of the records
-/// that lie in them.
+/// It takes memory for 65,537 octets of input and for the outputs of the records that lie in them.
+///
+/// # Errors
+/// As [`RunFault`] says.
 pub(crate) fn run<J: Job, R: Input, W: Output>(
     alloc: Global,
     job: &J,

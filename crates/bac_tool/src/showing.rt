@@ -71,10 +71,11 @@ impl Job for Show {
     }
 }
 
-/// Writes a line for each record: its number and what the frame says, or why the record is refused.
+/// Writes a line for each record: its number and what the frame says, or why the record is refused. Returns what it
+/// counted.
 ///
 /// # Errors
-/// As [`RunFault`] says. Refused records do not stop the run.
+/// As [`RunFault`] says, but never `Frame`: refused records do not stop the run.
 pub fn run_show<R: Input, W: Output>(
     alloc: Global,
     mode: Mode,

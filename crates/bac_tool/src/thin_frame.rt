@@ -96,13 +96,16 @@ fn read_index(alloc: Global, octets: &[u8]) -> Result<(Option<ArrayIndex>, Optio
 }
 
 impl ThinFrame {
-    /// Reads the thin frame that all the octets spell, and its mark: the first place where they differ from
-    /// the written octets, and None where they are those. No memory is taken.
+    /// Reads the thin frame that all the octets spell, in any tolerated spelling. Returns it, and the offset of the
+    /// first octet that differs from its canonical ones, or None where the octets are canonical. No memory is taken.
     ///
     /// # Errors
-    /// At the first octet with which no thin frame begins: `Version` at octet 0, `PduType` at octet 2,
-    /// `Content` at octets 1 and 5, and as [`read_field`] says behind them. `Short`, where the octets end
-    /// before there is one; `Trailing`, where the octets in front of it are a thin frame.
+    /// The place is that of the first octet with which no thin frame begins.
+    ///
+    /// - `Short` where the octets end before there is such an octet, and nowhere else: the place is their number.
+    /// - `Trailing` where the octets in front of the place are a thin frame, and nowhere else.
+    /// - Else, as tests show, `Version` at octet 0, `Content` at octets 1 and 5, `PduType` at octet 2, and one of
+    ///   [`read_field`] behind these. `NotCanonical` and `OutOfMemory` are never told.
     pub fn decode_marked(
         alloc: Global,
         octets: &[u8],
@@ -143,8 +146,10 @@ impl ThinFrame {
         }
     }
 
-    /// Appends the canonical octets: of all that spell the frame the least. Where memory is refused `out`
-    /// stays as it was.
+    /// Appends the canonical octets of the frame, the least that spell it.
+    ///
+    /// # Errors
+    /// `OutOfMemory` where memory is refused. `out` then stays as it was.
     pub fn encode(&self, out: &mut Vec<u8>) -> Result<(), OutOfMemory>
         ensures ok { OnOk result (out.new.items ≡ out.old.items ++ thin_octets self.now) }
         ensures least { OnOk result (IsLeast (SpellsThin self.now) (thin_octets self.now)) }
@@ -158,7 +163,7 @@ impl ThinFrame {
         appended
     }
 
-    /// How many octets [`ThinFrame::encode`] appends.
+    /// Returns how many octets [`ThinFrame::encode`] appends.
     pub fn encoded_len(&self) -> usize
         ensures { result ≡ length (thin_octets self.now) }
     {

@@ -65,7 +65,7 @@ fn has_bit(octet: u8, place: u32) -> bool
     (octet >> place) & 1 == 1
 }
 
-/// Why an octet can not stand at this place of a header, and None where it can. An octet of 8 and more at
+/// Returns why an octet cannot stand at this place of a header, or None where it can. An octet of 8 and more at
 /// place 2 has another type, or SEG.
 fn reason_against(place: usize, octet: u8) -> Option<Why>
     ensures none { IfNone result (Allows place octet) }
@@ -147,8 +147,8 @@ impl ThinHeader {
     /// Reads the header at the front of the octets.
     ///
     /// # Errors
-    /// At the first octet that can not stand at its place: `Version`, `PduType` or `Content`, or `Short`
-    /// where the octets end before there is one.
+    /// `Version`, `PduType` or `Content` at the first octet that cannot stand at its place, or `Short` where the
+    /// octets end before there is such an octet.
     pub(crate) fn read(octets: &[u8]) -> Result<Part<ThinHeader>, Refusal>
         ensures found { IfOk result (λ part. Takes SpellsHeader octets.now (part.value, part.taken)) }
         ensures mark { IfOk result (λ part. IsMark (take part.taken octets.now) (header_octets part.value) part.mark) }

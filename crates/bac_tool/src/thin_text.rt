@@ -38,7 +38,10 @@ impl ThinFrame {
     }
 
     /// Appends the text: `prio=P reply=R conf id=I sa=A segs=S resp=M ReadProperty object=T:I property=N`
-    /// and, where there is an index, ` index=N`. Where memory is refused `out` stays as it was.
+    /// and, where there is an index, ` index=N`.
+    ///
+    /// # Errors
+    /// `OutOfMemory` where memory is refused. `out` then stays as it was.
     pub fn push_text(&self, out: &mut Vec<u8>) -> Result<(), OutOfMemory>
         ensures ok { OnOk result (out.new.items ≡ out.old.items ++ thin_text self.now) }
         ensures err { OnErr result (out.new.items ≡ out.old.items) }

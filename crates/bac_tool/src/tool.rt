@@ -120,9 +120,11 @@ fn status_of(answer: &Result<Summary, RunFault>) -> u8
     }
 }
 
-/// Runs the program: what the words ask for, from the input to the output, with one line on the errors where it
-/// fails. Gives the exit status: 0 where all went well, 1 where a frame was refused and nothing worse happened,
-/// and 2 for the words, a device, the framing and memory. What the errors do not take is dropped.
+/// Runs the program: does what the words ask for, from the input to the output, with one line on `errors` where it
+/// fails. What `errors` does not take is dropped.
+///
+/// Returns the exit status: 0 where all went well, and where help was asked for and written; 1 where a frame was
+/// refused and nothing worse happened; 2 where the words, a device, the framing or memory failed.
 pub fn run_tool<R: Input, W: Output, E: Output>(
     alloc: Global,
     words: &[&str],

@@ -101,11 +101,11 @@ fn named_job<'a>(alloc: Global, words: &'a [&'a str]) -> Result<Job, Error>
     Ok(Job::Normalise(mode))
 }
 
-/// The job that the words ask for. The first word is the program's name.
+/// Returns the job that the words ask for. The first word is the program's name.
 ///
 /// # Errors
-/// What the command line's own rules refuse, with a text for the user (also where help is asked for), and want
-/// of memory. Where the words break none of these rules it is want of memory alone.
+/// Where the words break a rule of the command line, or ask for help, the error has a text for the user. Where they
+/// do neither, the only error is want of memory.
 pub fn job<'a>(alloc: Global, words: &'a [&'a str]) -> Result<Job, Error>
     ensures named { IfOk result (NamesJob (subcommand_of bactool (map (λ word. word.now) words.entry.now))) }
     ensures taken { IfErr result (λ error. takes bactool (map (λ word. word.now) words.entry.now) ≡ true → kind_of error ≡ ErrorKind.OutOfMemory) }
