@@ -9,7 +9,7 @@ use crate::TagHead;
 /// The heads that a reader accepts at a place. `least` and `most` limit the length of the contents in octets, and
 /// are themselves accepted.
 ///
-/// A reader wants numbers that their class uses, and `least` no greater than `most`.
+/// Readers want numbers that their class uses, and a `least` no greater than `most`.
 #[derive(Clone, Copy, Debug, PartialEq, Eq)]
 pub enum Expected {
     /// Each valid head.
@@ -54,7 +54,7 @@ fn has_lvt(lvt: u8, least: u32, most: u32) -> bool
 }
 
 impl Expected {
-    /// Whether the head is among those expected. That it is valid is not looked at.
+    /// Whether the head is among those expected. Whether it is valid is not looked at.
     pub fn fits(self, head: TagHead) -> bool
         ensures { IsTrue result ↔ Fits self head }
     {

@@ -84,8 +84,8 @@ impl Job for Check {
     }
 }
 
-/// Writes a line for each record: its number, and whether the record is canonical, tolerated or refused. Returns how
-/// many records there were.
+/// Writes a line for each record: its number, and whether the record is canonical, tolerated or refused. Returns what
+/// it counted.
 ///
 /// # Errors
 /// As [`RunFault`] says, but never `Frame`: refused records do not stop the run.

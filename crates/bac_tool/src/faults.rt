@@ -15,7 +15,7 @@ pub enum StreamFault {
     /// A read failed.
     #[error("read fault")]
     ReadFault,
-    /// A write failed, or took none of some octets. So many octets were taken before.
+    /// A write failed, or took none of some octets. The number is that of the octets that were taken before.
     #[error("write fault after {0} octets")]
     WriteFault(u128),
     /// More octets came after 1,000,000 records. Only runs tell it.

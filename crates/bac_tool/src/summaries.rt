@@ -8,7 +8,7 @@ use crate::runs::MOST;
 /// How many records a run dealt with.
 #[derive(Clone, Copy, Debug, Default, PartialEq, Eq)]
 pub struct Summary {
-    /// All of them.
+    /// How many records there were.
     pub records: u32,
     /// How many of them are canonical.
     pub canonical: u32,

@@ -104,8 +104,8 @@ impl ThinFrame {
     ///
     /// - `Short` where the octets end before there is such an octet, and nowhere else: the place is their number.
     /// - `Trailing` where the octets in front of the place are a thin frame, and nowhere else.
-    /// - Else, as tests show, `Version` at octet 0, `Content` at octets 1 and 5, `PduType` at octet 2, and one of
-    ///   [`read_field`] behind these. `NotCanonical` and `OutOfMemory` are never told.
+    /// - Else, as tests show, `Version` at octet 0, `Content` at octets 1 and 5, `PduType` at octet 2, and behind these
+    ///   a reason of [`read_field`]. `NotCanonical` and `OutOfMemory` are never told.
     pub fn decode_marked(
         alloc: Global,
         octets: &[u8],

@@ -124,7 +124,7 @@ fn status_of(answer: &Result<Summary, RunFault>) -> u8
 /// fails. What `errors` does not take is dropped.
 ///
 /// Returns the exit status: 0 where all went well, and where help was asked for and written; 1 where a frame was
-/// refused and nothing worse happened; 2 where the words, a device, the framing or memory failed.
+/// refused and nothing worse happened; 2 where the words have a fault, or a device, the framing or memory failed.
 pub fn run_tool<R: Input, W: Output, E: Output>(
     alloc: Global,
     words: &[&str],

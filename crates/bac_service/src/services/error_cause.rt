@@ -14,9 +14,9 @@ use bac_value::Enumerated;
 /// (Enumerated).
 #[derive(Clone, Copy, Debug, PartialEq, Eq)]
 pub struct ErrorCause {
-    /// What failed, as a device, an object or a property. Any number below 2^32 is kept.
+    /// What the error concerns, as a device, an object or a property (clause 18). Any number below 2^32 is kept.
     pub class: Enumerated,
-    /// How it failed. Any number below 2^32 is kept.
+    /// What went wrong (clause 18). Any number below 2^32 is kept.
     pub code: Enumerated,
 }
 

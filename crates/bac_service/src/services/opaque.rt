@@ -15,7 +15,7 @@ use std::fmt;
 use std::fmt::Display;
 use std::marker::Model;
 
-/// Why no such opaque service is made. `Typed` is told first.
+/// Why no opaque service is made. `Typed` is told first.
 #[derive(Clone, Copy, Debug, PartialEq, Eq)]
 pub enum OpaqueFault {
     /// The kind and the choice have a production, so that the service is a typed one.

@@ -19,7 +19,7 @@ use bac_value::ObjectId;
 pub struct ReadAccessResult {
     /// The object that has the properties.
     pub object: ObjectId,
-    /// The results, in their order. An empty list has its tags, and is another value than None.
+    /// The results, in their order. An empty list has its tags, and is another value than `None`.
     pub results: Option<Vec<PropertyResult>>,
 }
 

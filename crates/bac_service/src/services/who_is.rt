@@ -16,8 +16,8 @@ use bac_value::Instance;
 /// Octets (clause 21): none, or `[0]` low limit and `[1]` high limit. Each limit is 0 to 4,194,303.
 #[derive(Clone, Copy, Debug, PartialEq, Eq)]
 pub struct WhoIs {
-    /// The lowest and the highest instance that is asked for, each 0 to 4,194,303. None asks for all devices. The
-    /// lowest may be the greater one.
+    /// The low and the high limit, each 0 to 4,194,303. `None` asks for all devices. The low limit may be the greater
+    /// one.
     pub limits: Option<(Instance, Instance)>,
 }
 

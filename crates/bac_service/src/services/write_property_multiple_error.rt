@@ -18,9 +18,9 @@ use bac_value::{Enumerated, ObjectId, Unsigned32};
 /// index (optional) `}`.
 #[derive(Clone, Copy, Debug, PartialEq, Eq)]
 pub struct WritePropertyMultipleError {
-    /// What failed, as a device, an object or a property. Any number below 2^32 is kept.
+    /// What the error concerns, as a device, an object or a property (clause 18). Any number below 2^32 is kept.
     pub class: Enumerated,
-    /// How it failed. Any number below 2^32 is kept.
+    /// What went wrong (clause 18). Any number below 2^32 is kept.
     pub code: Enumerated,
     /// The object that has the property that could not be written.
     pub object: ObjectId,
