@@ -7,15 +7,15 @@ use Rattle.bac_tag.specs.OctetsLaws.{NoGreater-append, NoGreater-refl}
 use Rattle.bac_tag.specs.Spelling.{IsLeast}
 use Rattle.bac_tag.specs.Heads.{Heads}
 use Rattle.bac_tag.proofs.WritingLemmas.{app_grows}
-use Rattle.bac_value.specs.declared.boolean_value.Boolean.{Boolean as BooleanValue}
+use Rattle.bac_value.specs.declared.types.boolean_value.Boolean.{Boolean as BooleanValue}
 use Rattle.bac_value.specs.declared.prim.PrimitiveValue.{PrimitiveValue}
 use Rattle.bac_value.specs.declared.prim.PrimitiveValue.TheVariants.{Boolean}
 use Rattle.bac_value.specs.OctetStringContents.{IsOctetString}
 use Rattle.bac_value.specs.PrimContents.{application_number, PrimContents, prim_written, IsWrittenOf}
-use Rattle.bac_value.specs.PrimLaws.{prim_written_least, prim_limit}
+use Rattle.bac_value.specs.Laws.Prim.{prim_written_least, prim_limit}
 use Rattle.bac_value.specs.PrimOfContents.{prim_of_contents}
-use Rattle.bac_value.specs.PrimOfContentsLaws.{prim_of_contents_is}
-use Rattle.bac_value.specs.VariantsOfPrim.{boolean_variant}
+use Rattle.bac_value.specs.Laws.PrimOfContents.{prim_of_contents_is}
+use Rattle.bac_value.specs.Laws.VariantsOfPrim.{boolean_variant}
 use Rattle.bac_data.specs.Spells.{SpellsContents, SpellsPrimitive, SpellsContext}
 
 -- ---- application primitives

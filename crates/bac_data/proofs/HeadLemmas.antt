@@ -6,10 +6,10 @@ use Rattle.bac_tag.specs.declared.heads.TagHead.TheVariants.{App, AppBool, Ctx, 
 use Rattle.bac_tag.specs.Heads.{Heads}
 use Rattle.bac_tag.specs.HeadsLaws.{heads_end}
 use Rattle.bac_tag.specs.Spelling.{EndsItself}
-use Rattle.bac_value.specs.declared.boolean_value.Boolean.{Boolean as BooleanValue}
+use Rattle.bac_value.specs.declared.types.boolean_value.Boolean.{Boolean as BooleanValue}
 use Rattle.bac_value.specs.declared.prim.PrimitiveValue.TheVariants.{Boolean}
 use Rattle.bac_value.specs.PrimContents.{application_number, PrimContents}
-use Rattle.bac_value.specs.PrimLaws.{prim_once}
+use Rattle.bac_value.specs.Laws.Prim.{prim_once}
 use Rattle.bac_data.specs.Under.{Under}
 use Rattle.bac_data.specs.Events.{Event, application, contextual, opening, closing, SpellsEvent}
 

@@ -15,9 +15,9 @@ use Rattle.bac_value.specs.declared.prim.PrimitiveValue.{PrimitiveValue}
 use Rattle.bac_value.specs.declared.prim.PrimitiveValue.TheVariants.{Boolean}
 use Rattle.bac_value.specs.OctetStringContents.{IsOctetString}
 use Rattle.bac_value.specs.PrimContents.{application_number, PrimContents, ContentsOf, prim_written}
-use Rattle.bac_value.specs.PrimLaws.{prim_limit, prim_written_contents, prim_only_values}
+use Rattle.bac_value.specs.Laws.Prim.{prim_limit, prim_written_contents, prim_only_values}
 use Rattle.bac_value.specs.PrimOfContents.{prim_of_contents}
-use Rattle.bac_value.specs.PrimOfContentsLaws.{prim_of_contents_is}
+use Rattle.bac_value.specs.Laws.PrimOfContents.{prim_of_contents_is}
 use Rattle.bac_data.specs.declared.items.Item.{Item}
 use Rattle.bac_data.specs.declared.items.Item.TheVariants as item
 use Rattle.bac_data.specs.OpenValue.{Elements, depth}

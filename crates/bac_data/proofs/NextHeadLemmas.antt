@@ -8,21 +8,21 @@ use Rattle.bac_value.specs.declared.prim.PrimitiveValue.TheVariants as prim
 use Rattle.bac_value.specs.Primitives.{IsBegun, AreLengths}
 use Rattle.bac_value.specs.PrimContents.{application_number, PrimContents, ContentsOf}
 use Rattle.bac_value.specs.Variants.{begun_into}
-use Rattle.bac_value.specs.VariantsOfPrim.{null_variant, unsigned_variant, signed_variant, real_variant, double_variant, octets_variant, text_variant, bits_variant, enumerated_variant, date_variant, time_variant, object_id_variant}
-use Rattle.bac_value.specs.NullLaws.{null_lengths, null_each_length}
-use Rattle.bac_value.specs.NumbersLaws.{number_lengths}
-use Rattle.bac_value.specs.UnsignedLaws.{unsigned_each_length}
-use Rattle.bac_value.specs.EnumeratedLaws.{enumerated_each_length}
-use Rattle.bac_value.specs.SignedLaws.{signed_lengths}
-use Rattle.bac_value.specs.SignedValuesLaws.{signed_each_length}
-use Rattle.bac_value.specs.RealLaws.{real_lengths, real_each_length}
-use Rattle.bac_value.specs.DoubleLaws.{double_lengths, double_each_length}
-use Rattle.bac_value.specs.OctetStringLaws.{octet_string_lengths, octet_string_each_length}
-use Rattle.bac_value.specs.TextLaws.{text_lengths, text_each_length}
-use Rattle.bac_value.specs.BitsLaws.{bits_lengths, bits_each_length}
-use Rattle.bac_value.specs.DateLaws.{date_lengths, date_each_length}
-use Rattle.bac_value.specs.TimeLaws.{time_lengths, time_each_length}
-use Rattle.bac_value.specs.IdentifierLaws.{identifier_lengths, identifier_each_length}
+use Rattle.bac_value.specs.Laws.VariantsOfPrim.{null_variant, unsigned_variant, signed_variant, real_variant, double_variant, octets_variant, text_variant, bits_variant, enumerated_variant, date_variant, time_variant, object_id_variant}
+use Rattle.bac_value.specs.Laws.Null.{null_lengths, null_each_length}
+use Rattle.bac_value.specs.Laws.Numbers.{number_lengths}
+use Rattle.bac_value.specs.Laws.Unsigned.{unsigned_each_length}
+use Rattle.bac_value.specs.Laws.Enumerated.{enumerated_each_length}
+use Rattle.bac_value.specs.Laws.Signed.{signed_lengths}
+use Rattle.bac_value.specs.Laws.SignedValues.{signed_each_length}
+use Rattle.bac_value.specs.Laws.Real.{real_lengths, real_each_length}
+use Rattle.bac_value.specs.Laws.Double.{double_lengths, double_each_length}
+use Rattle.bac_value.specs.Laws.OctetString.{octet_string_lengths, octet_string_each_length}
+use Rattle.bac_value.specs.Laws.Text.{text_lengths, text_each_length}
+use Rattle.bac_value.specs.Laws.Bits.{bits_lengths, bits_each_length}
+use Rattle.bac_value.specs.Laws.Date.{date_lengths, date_each_length}
+use Rattle.bac_value.specs.Laws.Time.{time_lengths, time_each_length}
+use Rattle.bac_value.specs.Laws.Identifier.{identifier_lengths, identifier_each_length}
 use Rattle.bac_data.specs.Reading.{next_heads}
 
 -- contents have the lengths of a number's type

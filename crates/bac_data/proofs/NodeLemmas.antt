@@ -7,9 +7,9 @@ use Rattle.bac_value.specs.declared.prim.PrimitiveValue.{PrimitiveValue}
 use Rattle.bac_value.specs.declared.prim.PrimitiveValue.TheVariants as prim
 use Rattle.bac_value.specs.OctetStringContents.{IsOctetString}
 use Rattle.bac_value.specs.PrimContents.{application_number, IsPrim, PrimContents, ContentsOf, prim_written, IsWrittenOf}
-use Rattle.bac_value.specs.PrimLaws.{prim_written_contents}
+use Rattle.bac_value.specs.Laws.Prim.{prim_written_contents}
 use Rattle.bac_value.specs.PrimOfContents.{prim_of_contents}
-use Rattle.bac_value.specs.PrimOfContentsLaws.{prim_of_contents_is}
+use Rattle.bac_value.specs.Laws.PrimOfContents.{prim_of_contents_is}
 use Rattle.bac_data.specs.declared.nodes.Node.{Node}
 use Rattle.bac_data.specs.declared.nodes.Node.TheVariants.{Application, Context, Open, Close}
 use Rattle.bac_data.specs.Events.{Event, application, contextual, opening, closing}

@@ -4,8 +4,8 @@ use Rattle.std.proofs.Common.{sym, subst}
 use Rattle.std.specs.List.{slice_range, AllByRecursion}
 use Rattle.bac_value.specs.OctetStringContents.{IsOctetString}
 use Rattle.bac_value.specs.PrimContents.{IsPrim}
-use Rattle.bac_value.specs.PrimLaws.{prim_only_values}
-use Rattle.bac_value.specs.PrimOfContentsLaws.{prim_of_contents_is}
+use Rattle.bac_value.specs.Laws.Prim.{prim_only_values}
+use Rattle.bac_value.specs.Laws.PrimOfContents.{prim_of_contents_is}
 use Rattle.bac_data.specs.declared.nodes.Node.{Node}
 use Rattle.bac_data.specs.declared.nodes.Node.TheVariants.{Application, Context, Open, Close}
 use Rattle.bac_data.specs.OpenValue.{Elements, AreElements}

@@ -10,7 +10,7 @@ use Rattle.bac_tag.proofs.WritingLemmas.{some_least}
 use Rattle.bac_value.specs.declared.prim.PrimitiveValue.{PrimitiveValue}
 use Rattle.bac_value.specs.declared.prim.PrimitiveValue.TheVariants.{Null, Boolean, Unsigned, Signed, RealBits, DoubleBits, Octets, Text, Bits, Enumerated, Date, Time, ObjectId}
 use Rattle.bac_value.specs.PrimContents.{application_number, IsPrim, prim_written}
-use Rattle.bac_value.specs.PrimLaws.{prim_limit, prim_only_values, prim_written_contents}
+use Rattle.bac_value.specs.Laws.Prim.{prim_limit, prim_only_values, prim_written_contents}
 use Rattle.bac_data.specs.OpenValue.{Element, primitive, context, group, Elements, none, more, IsElement, AreElements, IsOpenValue}
 use Rattle.bac_data.specs.Spells.{SpellsPrimitive, Spells, SpellsAll, SpellsOpen}
 use Rattle.bac_data.specs.Events.{Event, application, contextual, opening, closing, SpellsEvent, SpellsEvents}

@@ -4,9 +4,9 @@ use Rattle.bac_value.specs.Primitives.{IsTheList}
 use Rattle.bac_value.specs.Numbers.{NumberContents}
 use Rattle.bac_value.specs.Identifier.{Identifier, IsIdentifier, identifier_octets}
 use Rattle.bac_value.specs.BooleanContents.{IsBoolean, boolean_octets}
-use Rattle.bac_value.specs.declared.enumeration.Enumerated.{Enumerated}
-use Rattle.bac_value.specs.declared.unsigned16.Unsigned16.{Unsigned16}
-use Rattle.bac_value.specs.declared.unsigned32.Unsigned32.{Unsigned32}
+use Rattle.bac_value.specs.declared.types.enumeration.Enumerated.{Enumerated}
+use Rattle.bac_value.specs.declared.types.unsigned16.Unsigned16.{Unsigned16}
+use Rattle.bac_value.specs.declared.types.unsigned32.Unsigned32.{Unsigned32}
 use Rattle.bac_service.specs.Fields.{heading, IsField}
 
 -- ---- under a context tag

@@ -2,7 +2,7 @@
 use Rattle.std.specs.Prelude.{ℕ, List, refl}
 use Rattle.bac_tag.specs.Spelling.{Joins, Joined}
 use Rattle.bac_value.specs.Identifier.{Identifier}
-use Rattle.bac_value.specs.declared.unsigned32.Unsigned32.{Unsigned32}
+use Rattle.bac_value.specs.declared.types.unsigned32.Unsigned32.{Unsigned32}
 use Rattle.bac_service.specs.declared.services.property_value.PropertyValue.{PropertyValue}
 use Rattle.bac_service.specs.declared.services.cov_notification.CovNotification.{CovNotification}
 use Rattle.bac_service.specs.Contents.{ObjectField, UnsignedField}

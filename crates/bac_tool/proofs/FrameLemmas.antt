@@ -7,13 +7,13 @@ use Rattle.bac_tag.specs.OctetsLaws.{NoGreater-length, NoGreater-same}
 use Rattle.bac_tag.specs.Spelling.{EndsItself, IsLeast, IsRefusal, Takes, JoinedBy, IsWholeRefusal}
 use Rattle.bac_tag.specs.SpellingLaws.{JoinedBy-end, IsLeast-joined, refused_first}
 use Rattle.bac_value.specs.Primitives.{IsTheList}
-use Rattle.bac_value.specs.PrimitivesLaws.{the_list_once, the_list_written, the_list_least}
+use Rattle.bac_value.specs.Laws.Primitives.{the_list_once, the_list_written, the_list_least}
 use Rattle.bac_value.specs.Numbers.{NumberContents, least_number}
-use Rattle.bac_value.specs.NumbersLaws.{number_range, number_written, number_least, number_lengths}
-use Rattle.bac_value.specs.EnumeratedLaws.{one_enumerated}
+use Rattle.bac_value.specs.Laws.Numbers.{number_range, number_written, number_least, number_lengths}
+use Rattle.bac_value.specs.Laws.Enumerated.{one_enumerated}
 use Rattle.bac_value.specs.Identifier.{Identifier, IsIdentifier, identifier_octets}
-use Rattle.bac_value.specs.IdentifierLaws.{identifier_once, identifier_lengths}
-use Rattle.bac_value.specs.declared.enumeration.Enumerated.{Enumerated}
+use Rattle.bac_value.specs.Laws.Identifier.{identifier_once, identifier_lengths}
+use Rattle.bac_value.specs.declared.types.enumeration.Enumerated.{Enumerated}
 use Rattle.bac_tool.specs.declared.array_index.ArrayIndex.{ArrayIndex}
 use Rattle.bac_tool.specs.declared.thin_frame.ThinFrame.{ThinFrame}
 use Rattle.bac_tool.specs.ArrayIndexLaws.{one_array_index}

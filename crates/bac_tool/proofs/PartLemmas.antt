@@ -9,7 +9,7 @@ use Rattle.bac_tag.specs.Octets.{IsMark, joined_mark}
 use Rattle.bac_tag.specs.OctetsLaws.{mark-append}
 use Rattle.bac_tag.specs.Spelling.{EndsItself, IsViable, IsRefusal, Takes, JoinedBy, IsWholeRefusal}
 use Rattle.bac_tag.specs.SpellingLaws.{refused_second, splits}
-use Rattle.bac_value.specs.PrimitivesLaws.{nothing_left}
+use Rattle.bac_value.specs.Laws.Primitives.{nothing_left}
 use Rattle.bac_tool.specs.Fields.{Optional}
 use Rattle.bac_tool.specs.Appending.{Extends}
 

@@ -3,7 +3,7 @@ use Rattle.std.proofs.Common.{◌≡◌, ℕ, ◌≤◌, ◌^◌, ◌-◌, List,
 use Rattle.bac_tool.specs.declared.array_index.ArrayIndex.{ArrayIndex}
 use Rattle.bac_value.specs.Primitives.{IsBegun}
 use Rattle.bac_value.specs.Numbers.{NumberContents}
-use Rattle.bac_value.specs.NumbersLaws.{number_each_length}
+use Rattle.bac_value.specs.Laws.Numbers.{number_each_length}
 
 abbrev pub array_index_number : ArrayIndex → ℕ
 array_index_number value = value.0

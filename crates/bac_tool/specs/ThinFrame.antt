@@ -7,7 +7,7 @@ use Rattle.bac_tag.specs.declared.refusals.Why.TheVariants.{Short, Version, PduT
 use Rattle.bac_value.specs.Primitives.{IsTheList}
 use Rattle.bac_value.specs.Numbers.{NumberContents, least_number}
 use Rattle.bac_value.specs.Identifier.{Identifier, IsIdentifier, identifier_octets}
-use Rattle.bac_value.specs.declared.enumeration.Enumerated.{Enumerated}
+use Rattle.bac_value.specs.declared.types.enumeration.Enumerated.{Enumerated}
 use Rattle.bac_tool.specs.declared.array_index.ArrayIndex.{ArrayIndex}
 use Rattle.bac_tool.specs.declared.thin_frame.ThinFrame.{ThinFrame}
 use Rattle.bac_tool.specs.Fields.{Field, least_field, Optional, optional_octets}

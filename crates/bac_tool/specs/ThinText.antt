@@ -1,7 +1,7 @@
 -- The text of thin frames: numbers are decimal, and one blank stands between two parts.
 use Rattle.std.specs.Prelude.{ℕ, Option, List, ◌++◌, codes}
 use Rattle.bac_value.specs.Identifier.{Identifier}
-use Rattle.bac_value.specs.declared.enumeration.Enumerated.{Enumerated}
+use Rattle.bac_value.specs.declared.types.enumeration.Enumerated.{Enumerated}
 use Rattle.bac_tool.specs.declared.array_index.ArrayIndex.{ArrayIndex}
 use Rattle.bac_tool.specs.declared.thin_frame.ThinFrame.{ThinFrame}
 use Rattle.bac_tool.specs.Fields.{optional_octets}

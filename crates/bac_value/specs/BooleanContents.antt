@@ -1,6 +1,6 @@
 -- A Boolean as contents, those of the context form (clause 20.2.3).
 use Rattle.std.specs.Prelude.{ℕ, List, [], ◌∷◌, if◌then◌else◌}
-use Rattle.bac_value.specs.declared.boolean_value.Boolean.{Boolean}
+use Rattle.bac_value.specs.declared.types.boolean_value.Boolean.{Boolean}
 
 -- each of the two is a value
 abbrev pub IsBoolean : Boolean → Type 0

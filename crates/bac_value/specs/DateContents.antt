@@ -1,7 +1,7 @@
 -- A Date as contents (clause 20.2.12).
 use Rattle.std.specs.Prelude.{◌≡◌, ℕ, List, length}
 use Rattle.bac_tag.specs.Octets.{IsOctets}
-use Rattle.bac_value.specs.declared.date_value.Date.{Date}
+use Rattle.bac_value.specs.declared.types.date_value.Date.{Date}
 
 -- four octets: the year less 1900, the month, the day, the day of the week. Any octets are kept, those of no day too.
 abbrev pub IsDate : Date → Type 0

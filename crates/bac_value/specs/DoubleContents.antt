@@ -1,7 +1,7 @@
 -- A Double as contents (clause 20.2.7). Its bits are kept as they are, whatever number they stand for.
 use Rattle.std.specs.Prelude.{ℕ, ◌<◌, ◌^◌, List}
 use Rattle.std.specs.Int.{w64, to_be_bytes}
-use Rattle.bac_value.specs.declared.double.DoubleBits.{DoubleBits}
+use Rattle.bac_value.specs.declared.types.double.DoubleBits.{DoubleBits}
 
 -- 64 bits
 abbrev pub IsDouble : DoubleBits → Type 0

@@ -1,7 +1,7 @@
 -- A Real as contents (clause 20.2.6). Its bits are kept as they are, whatever number they stand for.
 use Rattle.std.specs.Prelude.{ℕ, ◌<◌, ◌^◌, List}
 use Rattle.std.specs.Int.{w32, to_be_bytes}
-use Rattle.bac_value.specs.declared.real.RealBits.{RealBits}
+use Rattle.bac_value.specs.declared.types.real.RealBits.{RealBits}
 
 -- 32 bits
 abbrev pub IsReal : RealBits → Type 0

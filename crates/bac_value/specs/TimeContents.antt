@@ -1,7 +1,7 @@
 -- A Time as contents (clause 20.2.13).
 use Rattle.std.specs.Prelude.{◌≡◌, ℕ, List, length}
 use Rattle.bac_tag.specs.Octets.{IsOctets}
-use Rattle.bac_value.specs.declared.time_value.Time.{Time}
+use Rattle.bac_value.specs.declared.types.time_value.Time.{Time}
 
 -- four octets: the hour, the minute, the second, the hundredths of a second. Any octets are kept, those of no time too.
 abbrev pub IsTime : Time → Type 0

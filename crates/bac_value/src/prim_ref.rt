@@ -5,21 +5,21 @@ ghost use Rattle.bac_value.specs.declared.prim.PrimitiveValue.{PrimitiveValue};
 ghost use Rattle.bac_value.specs.PrimContents.{application_number, ContentsOf, IsWrittenOf};
 ghost use Rattle.bac_value.specs.PrimRefValue.{prim_of, IsPackedRef};
 
-use crate::bit_string::Bits;
-use crate::boolean_value::Boolean;
-use crate::character_string::Text;
-use crate::date_value::Date;
-use crate::double::DoubleBits;
-use crate::enumeration::Enumerated;
-use crate::null_value::Null;
-use crate::object_identifier::ObjectId;
-use crate::octet_string::Octets;
 use crate::primitives::Primitive;
-use crate::real::RealBits;
-use crate::signed_integer::Signed;
 use crate::thirteen::at_number;
-use crate::time_value::Time;
-use crate::unsigned_integer::Unsigned;
+use crate::types::bit_string::Bits;
+use crate::types::boolean_value::Boolean;
+use crate::types::character_string::Text;
+use crate::types::date_value::Date;
+use crate::types::double::DoubleBits;
+use crate::types::enumeration::Enumerated;
+use crate::types::null_value::Null;
+use crate::types::object_identifier::ObjectId;
+use crate::types::octet_string::Octets;
+use crate::types::real::RealBits;
+use crate::types::signed_integer::Signed;
+use crate::types::time_value::Time;
+use crate::types::unsigned_integer::Unsigned;
 use crate::variants::borrow_variant;
 
 /// A value of any primitive type, under the name of its type. The octets of the three strings are those of

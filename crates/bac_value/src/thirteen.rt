@@ -4,19 +4,19 @@
 macro_rules! at_number {
     ($number:expr, $call:ident($($argument:expr),*)) => {
         match $number {
-            0 => $call::<$crate::null_value::Null>($($argument),*),
-            1 => $call::<$crate::boolean_value::Boolean>($($argument),*),
-            2 => $call::<$crate::unsigned_integer::Unsigned>($($argument),*),
-            3 => $call::<$crate::signed_integer::Signed>($($argument),*),
-            4 => $call::<$crate::real::RealBits>($($argument),*),
-            5 => $call::<$crate::double::DoubleBits>($($argument),*),
-            6 => $call::<$crate::octet_string::Octets>($($argument),*),
-            7 => $call::<$crate::character_string::Text>($($argument),*),
-            8 => $call::<$crate::bit_string::Bits>($($argument),*),
-            9 => $call::<$crate::enumeration::Enumerated>($($argument),*),
-            10 => $call::<$crate::date_value::Date>($($argument),*),
-            11 => $call::<$crate::time_value::Time>($($argument),*),
-            _ => $call::<$crate::object_identifier::ObjectId>($($argument),*),
+            0 => $call::<$crate::types::null_value::Null>($($argument),*),
+            1 => $call::<$crate::types::boolean_value::Boolean>($($argument),*),
+            2 => $call::<$crate::types::unsigned_integer::Unsigned>($($argument),*),
+            3 => $call::<$crate::types::signed_integer::Signed>($($argument),*),
+            4 => $call::<$crate::types::real::RealBits>($($argument),*),
+            5 => $call::<$crate::types::double::DoubleBits>($($argument),*),
+            6 => $call::<$crate::types::octet_string::Octets>($($argument),*),
+            7 => $call::<$crate::types::character_string::Text>($($argument),*),
+            8 => $call::<$crate::types::bit_string::Bits>($($argument),*),
+            9 => $call::<$crate::types::enumeration::Enumerated>($($argument),*),
+            10 => $call::<$crate::types::date_value::Date>($($argument),*),
+            11 => $call::<$crate::types::time_value::Time>($($argument),*),
+            _ => $call::<$crate::types::object_identifier::ObjectId>($($argument),*),
         }
     };
 }

@@ -4,8 +4,8 @@ use Rattle.std.proofs.Common.{inl, inr, sym, ap, subst}
 use Rattle.bac_tag.specs.Spelling.{OneOf, Joins, Joined}
 use Rattle.bac_data.specs.OpenValue.{Elements}
 use Rattle.bac_data.specs.Spells.{SpellsOpen}
-use Rattle.bac_value.specs.declared.enumeration.Enumerated.{Enumerated}
-use Rattle.bac_value.specs.declared.unsigned32.Unsigned32.{Unsigned32}
+use Rattle.bac_value.specs.declared.types.enumeration.Enumerated.{Enumerated}
+use Rattle.bac_value.specs.declared.types.unsigned32.Unsigned32.{Unsigned32}
 use Rattle.bac_service.specs.declared.services.error_cause.ErrorCause.{ErrorCause}
 use Rattle.bac_service.specs.declared.services.property_result.ReadResult.{ReadResult}
 use Rattle.bac_service.specs.declared.services.property_result.ReadResult.TheVariants.{Value, Error}

@@ -4,8 +4,8 @@ use Rattle.std.specs.Option.{option_map}
 use Rattle.std.proofs.Common.{ap}
 use Rattle.bac_tag.specs.Spelling.{Joins, Joined}
 use Rattle.bac_value.specs.Identifier.{Identifier}
-use Rattle.bac_value.specs.declared.boolean_value.Boolean.{Boolean}
-use Rattle.bac_value.specs.declared.unsigned32.Unsigned32.{Unsigned32}
+use Rattle.bac_value.specs.declared.types.boolean_value.Boolean.{Boolean}
+use Rattle.bac_value.specs.declared.types.unsigned32.Unsigned32.{Unsigned32}
 use Rattle.bac_service.specs.declared.services.subscribe_cov.SubscribeCov.{SubscribeCov}
 use Rattle.bac_service.specs.Contents.{UnsignedField, ObjectField, BooleanField}
 use Rattle.bac_service.specs.Productions.{Optional, IsRecordOf}

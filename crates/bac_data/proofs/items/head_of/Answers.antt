@@ -1,5 +1,5 @@
 use Rattle.std.proofs.Common.{subst, arith}
-use Rattle.bac_value.specs.PrimLaws.{prim_limit}
+use Rattle.bac_value.specs.Laws.Prim.{prim_limit}
 use Rattle.bac_data.specs.Reading.{IsItem}
 use Rattle.bac_data.proofs.items.head_of.Goals as goal
 

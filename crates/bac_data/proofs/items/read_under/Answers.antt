@@ -7,7 +7,7 @@ use Rattle.bac_tag.specs.OctetsLaws.{octets_at, octets_take}
 use Rattle.bac_tag.specs.Spelling.{IsRefusal}
 use Rattle.bac_value.specs.PrimContents.{PrimContents}
 use Rattle.bac_value.specs.PrimOfContents.{prim_of_contents}
-use Rattle.bac_value.specs.PrimOfContentsLaws.{prim_of_contents_is}
+use Rattle.bac_value.specs.Laws.PrimOfContents.{prim_of_contents_is}
 use Rattle.bac_data.specs.Events.{application, contextual}
 use Rattle.bac_data.specs.Under.{Under, HasContents}
 use Rattle.bac_data.proofs.StandingLemmas.{refused_contents, refused_of, short_context}

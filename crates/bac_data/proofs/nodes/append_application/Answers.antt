@@ -1,6 +1,6 @@
 use Rattle.std.proofs.Common.{◌∙◌, sym, ap, subst, length, arith}
-use Rattle.bac_value.specs.PrimOfContentsLaws.{prim_of_contents_is}
-use Rattle.bac_value.specs.PrimLaws.{prim_only_values}
+use Rattle.bac_value.specs.Laws.PrimOfContents.{prim_of_contents_is}
+use Rattle.bac_value.specs.Laws.Prim.{prim_only_values}
 use Rattle.bac_value.specs.declared.prim.PrimitiveValue.{PrimitiveValue}
 use Rattle.bac_data.specs.Events.{application}
 use Rattle.bac_data.specs.Adding.{Adds}

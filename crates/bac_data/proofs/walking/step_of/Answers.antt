@@ -1,6 +1,6 @@
 use Rattle.std.proofs.Common.{◌∙◌, sym, ap, subst}
 use Rattle.std.specs.List.{slice_range}
-use Rattle.bac_value.specs.PrimOfContentsLaws.{prim_of_contents_is}
+use Rattle.bac_value.specs.Laws.PrimOfContents.{prim_of_contents_is}
 use Rattle.bac_data.specs.declared.nodes.Node.TheVariants.{Application}
 use Rattle.bac_data.specs.Events.{application}
 use Rattle.bac_data.specs.Nodes.{node_event, IsNode}

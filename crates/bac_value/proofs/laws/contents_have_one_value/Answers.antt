@@ -1,5 +1,5 @@
 use Rattle.std.proofs.Common.{sym, ◌∙◌}
-use Rattle.bac_value.specs.PrimLaws.{prim_once}
+use Rattle.bac_value.specs.Laws.Prim.{prim_once}
 use Rattle.bac_value.proofs.laws.contents_have_one_value.Goals as goal
 
 pub returns : goal.returns

@@ -1,4 +1,4 @@
-use Rattle.bac_value.specs.PrimLaws.{prim_limit}
+use Rattle.bac_value.specs.Laws.Prim.{prim_limit}
 use Rattle.bac_value.proofs.laws.contents_keep_the_limit.Goals as goal
 
 pub returns : goal.returns

@@ -1,4 +1,4 @@
-use Rattle.bac_value.specs.PrimLaws.{prim_only_values}
+use Rattle.bac_value.specs.Laws.Prim.{prim_only_values}
 use Rattle.bac_value.proofs.laws.only_values_have_contents.Goals as goal
 
 pub returns : goal.returns

@@ -1,4 +1,4 @@
-use Rattle.bac_value.specs.NumbersLaws.{low_fits}
+use Rattle.bac_value.specs.Laws.Numbers.{low_fits}
 use Rattle.bac_value.proofs.ranged_numbers.hopeless_number.Goals as goal
 
 pub first_hopeless-requires-clause-room : goal.first_hopeless-requires-clause-room

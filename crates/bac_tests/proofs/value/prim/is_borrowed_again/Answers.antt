@@ -1,6 +1,6 @@
 use Rattle.std.proofs.Common.{◌≡◌, sym, ◌∙◌, ap, subst, ◌++◌, List, ℕ}
 use Rattle.bac_value.specs.PrimContents.{PrimContents, prim_written}
-use Rattle.bac_value.specs.PrimLaws.{prim_written_contents}
+use Rattle.bac_value.specs.Laws.Prim.{prim_written_contents}
 use Rattle.bac_tests.proofs.value.prim.is_borrowed_again.Goals as goal
 
 pub of_contents-requires-clause-written : goal.of_contents-requires-clause-written

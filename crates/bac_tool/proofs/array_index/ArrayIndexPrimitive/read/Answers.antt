@@ -1,7 +1,7 @@
 use Rattle.std.proofs.Common.{arith, refl, ◌^◌, ◌-◌}
 use Rattle.std.proofs.lemmas.Result.{err_from_is_err_and}
 use Rattle.bac_tag.specs.OctetsLaws.{octets_at}
-use Rattle.bac_value.specs.NumbersLaws.{number_hopeless}
+use Rattle.bac_value.specs.Laws.Numbers.{number_hopeless}
 use Rattle.bac_tool.specs.ArrayIndexLaws.{array_index_number, array_index_of}
 use Rattle.bac_tool.proofs.array_index.ArrayIndexPrimitive.read.Goals as goal
 

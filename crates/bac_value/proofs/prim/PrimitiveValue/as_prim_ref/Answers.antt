@@ -1,6 +1,6 @@
 use Rattle.std.proofs.Common.{ap, sym, ◌∙◌}
 use Rattle.bac_value.specs.declared.prim.PrimitiveValue.TheVariants.{Bits}
-use Rattle.bac_value.specs.BitsLaws.{bits_in_packed, packed_is_packed}
+use Rattle.bac_value.specs.Laws.Bits.{bits_in_packed, packed_is_packed}
 use Rattle.bac_value.proofs.prim.PrimitiveValue.as_prim_ref.Goals as goal
 
 pub returns-in-Bits-clause-value : goal.returns-in-Bits-clause-value

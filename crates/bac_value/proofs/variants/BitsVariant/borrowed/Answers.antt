@@ -1,6 +1,6 @@
 use Rattle.std.proofs.Common.{ap}
 use Rattle.bac_value.specs.declared.prim.PrimitiveValue.TheVariants.{Bits}
-use Rattle.bac_value.specs.BitsLaws.{bits_behind_count, packed_behind_count}
+use Rattle.bac_value.specs.Laws.Bits.{bits_behind_count, packed_behind_count}
 use Rattle.bac_value.proofs.variants.BitsVariant.borrowed.Goals as goal
 
 pub returns-clause-value : goal.returns-clause-value

@@ -1,4 +1,4 @@
-use Rattle.bac_value.specs.BitsLaws.{bits_same_length}
+use Rattle.bac_value.specs.Laws.Bits.{bits_same_length}
 use Rattle.bac_value.proofs.variants.BitsVariant.written_len_of.Goals as goal
 
 pub returns : goal.returns

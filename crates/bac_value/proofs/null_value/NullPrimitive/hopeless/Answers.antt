@@ -1,5 +1,0 @@
-use Rattle.bac_value.specs.NullLaws.{null_begun}
-use Rattle.bac_value.proofs.null_value.NullPrimitive.hopeless.Goals as goal
-
-pub returns-clause-none : goal.returns-clause-none
-returns-clause-none c = null_begun c.args._front.now c.args._size c.requires.sized c.requires.size.1

@@ -1,0 +1,11 @@
+use Rattle.std.proofs.Common.{ℕ, arith, refl}
+use Rattle.std.proofs.lemmas.Result.{err_from_is_err_and}
+use Rattle.bac_tag.specs.OctetsLaws.{octets_at}
+use Rattle.bac_value.specs.Laws.Numbers.{number_hopeless}
+use Rattle.bac_value.proofs.types.priority.PriorityPrimitive.read.Goals as goal
+
+pub returns-in_err-read_number-clause-content : goal.returns-in_err-read_number-clause-content
+returns-in_err-read_number-clause-content c =
+    let p = err_from_is_err_and c.from_residual.result c.from_residual.ensures.1 in
+    rw (p.1, p.2) (λ why. let h = c.in_err-read_number.ensures.content why in
+    number_hopeless (λ (n : ℕ). n) (λ n. n) (λ n. refl) 1 16 c.args.octets.now _ _ (octets_at _ (λ k. omega (arith, c.type_inv.octets k))) h.0 h.1)

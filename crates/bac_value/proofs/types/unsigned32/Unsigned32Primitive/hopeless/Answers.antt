@@ -1,0 +1,17 @@
+use Rattle.std.proofs.Common.{arith, refl, ◌^◌, ◌-◌}
+use Rattle.std.proofs.lemmas.Option.{IfSome_then}
+use Rattle.bac_tag.specs.OctetsLaws.{octets_at}
+use Rattle.bac_value.specs.Laws.Primitives.{IfNone_then}
+use Rattle.bac_value.specs.Laws.Numbers.{number_begun, number_hopeless}
+use Rattle.bac_value.specs.Laws.Bounded.{unsigned32_number, unsigned32_of}
+use Rattle.bac_value.proofs.types.unsigned32.Unsigned32Primitive.hopeless.Goals as goal
+
+pub returns-clause-none : goal.returns-clause-none
+returns-clause-none c =
+    IfNone_then c.hopeless_number.result _ _ c.hopeless_number.ensures.none
+    (number_begun unsigned32_number unsigned32_of (λ n. refl) 0 (2 ^ 32 - 1) c.args.front.now c.args.size (octets_at _ (λ k. omega (arith, c.type_inv.front k))) c.requires.size)
+
+pub returns-clause-some : goal.returns-clause-some
+returns-clause-some c =
+    IfSome_then c.hopeless_number.result c.hopeless_number.ensures.some
+    (λ place. number_hopeless unsigned32_number unsigned32_of (λ n. refl) 0 (2 ^ 32 - 1) c.args.front.now c.args.size place (octets_at _ (λ k. omega (arith, c.type_inv.front k))) c.requires.size)

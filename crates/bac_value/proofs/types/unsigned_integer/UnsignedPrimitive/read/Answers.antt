@@ -1,0 +1,12 @@
+use Rattle.std.proofs.Common.{arith, refl, ◌^◌, ◌-◌}
+use Rattle.std.proofs.lemmas.Result.{err_from_is_err_and}
+use Rattle.bac_tag.specs.OctetsLaws.{octets_at}
+use Rattle.bac_value.specs.Laws.Numbers.{number_hopeless}
+use Rattle.bac_value.specs.Laws.Unsigned.{unsigned_number, unsigned_of}
+use Rattle.bac_value.proofs.types.unsigned_integer.UnsignedPrimitive.read.Goals as goal
+
+pub returns-in_err-read_number-clause-content : goal.returns-in_err-read_number-clause-content
+returns-in_err-read_number-clause-content c =
+    let p = err_from_is_err_and c.from_residual.result c.from_residual.ensures.1 in
+    rw (p.1, p.2) (λ why. let h = c.in_err-read_number.ensures.content why in
+    number_hopeless unsigned_number unsigned_of (λ n. refl) 0 (2 ^ 64 - 1) c.args.octets.now _ _ (octets_at _ (λ k. omega (arith, c.type_inv.octets k))) h.0 h.1)

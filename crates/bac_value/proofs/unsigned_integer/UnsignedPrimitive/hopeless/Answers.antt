@@ -1,7 +1,0 @@
-use Rattle.std.proofs.Common.{arith}
-use Rattle.bac_tag.specs.OctetsLaws.{octets_at}
-use Rattle.bac_value.specs.UnsignedLaws.{unsigned_begun}
-use Rattle.bac_value.proofs.unsigned_integer.UnsignedPrimitive.hopeless.Goals as goal
-
-pub returns-clause-none : goal.returns-clause-none
-returns-clause-none c = unsigned_begun c.args._front.now c.args._size (octets_at _ (λ k. omega (arith, c.type_inv._front k))) c.requires.sized c.requires.size

@@ -1,0 +1,21 @@
+-- What only proofs need: laws of the definitions, which no contract cites.
+pub mod Primitives
+pub mod Numbers
+pub mod Unsigned
+pub mod Bounded
+pub mod Enumerated
+pub mod Identifier
+pub mod Null
+pub mod Boolean
+pub mod Signed
+pub mod SignedValues
+pub mod Real
+pub mod Double
+pub mod Date
+pub mod Time
+pub mod OctetString
+pub mod Text
+pub mod Bits
+pub mod Prim
+pub mod VariantsOfPrim
+pub mod PrimOfContents

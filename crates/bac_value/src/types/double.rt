@@ -1,0 +1,92 @@
+//! Real numbers of double precision (clause 20.2.7).
+
+ghost use Rattle.std.specs.Prelude.{false, ◌≡◌};
+ghost use Rattle.std.proofs.Common.{lit≤};
+ghost use Rattle.bac_value.specs.Primitives.{IsTheList};
+ghost use Rattle.bac_value.specs.Laws.Primitives.{the_list_only_values, the_list_written, the_list_least, the_list_once};
+ghost use Rattle.bac_value.specs.DoubleContents.{IsDouble, double_octets};
+ghost use Rattle.bac_value.specs.Laws.Double.{double_once, double_lengths, double_each_length};
+
+use crate::primitives::Primitive;
+use bac_tag::{OutOfMemory, Refusal, Why};
+use std::alloc::Global;
+
+/// The bits of a real number of double precision, kept as they are: each pattern is a value, those that are
+/// no number too. Eight octets, the one with the sign first.
+#[derive(Clone, Copy, Debug, PartialEq, Eq)]
+pub struct DoubleBits(pub u64);
+
+impl DoubleBits {
+    /// The eight octets, the one with the sign first.
+    #[tactic(auto, unfolding(crate::specs::DoubleContents::double_octets))]
+    fn octets(&self) -> [u8; 8]
+        ensures value { IsDouble self.now }
+        ensures octets { result ≡ double_octets self.now }
+    {
+        self.0.to_be_bytes()
+    }
+}
+
+#[tactic(auto, unfolding(crate::specs::DoubleContents::double_octets))]
+impl Primitive for DoubleBits {
+    const APP: u8 = 5;
+
+    const SHORTEST: usize = 8;
+
+    const LONGEST: usize = 8;
+
+    ghost APP = { 5 };
+
+    ghost SHORTEST = { 8 };
+
+    ghost LONGEST = { 8 };
+
+    ghost is_value = { IsDouble };
+
+    ghost contents = { IsTheList IsDouble double_octets };
+
+    ghost written = { double_octets };
+
+    ghost wants_memory = { false };
+
+    fn read(_alloc: Global, octets: &[u8]) -> Result<DoubleBits, Refusal> {
+        let Ok(octets) = <[u8; 8]>::try_from(octets) else {
+            return Err(Refusal {
+                place: 0,
+                why: Why::Length,
+            });
+        };
+        Ok(DoubleBits(u64::from_be_bytes(octets)))
+    }
+
+    fn hopeless(_front: &[u8], _size: usize) -> Option<usize> {
+        None
+    }
+
+    fn written_len(&self) -> usize {
+        self.octets().len()
+    }
+
+    fn mark(&self, _octets: &[u8]) -> Option<usize> {
+        None
+    }
+
+    fn write(&self, out: &mut Vec<u8>) -> Result<(), OutOfMemory> {
+        out.extend_from_slice(&self.octets())?;
+        Ok(())
+    }
+
+    ghost only_values = { the_list_only_values IsDouble double_octets };
+
+    ghost one_value = { the_list_once IsDouble double_octets double_once };
+
+    ghost written_contents = { the_list_written IsDouble double_octets };
+
+    ghost written_least = { the_list_least IsDouble double_octets };
+
+    ghost lengths = { double_lengths };
+
+    ghost each_length = { double_each_length };
+
+    ghost within_limit = { (lit≤ tt, lit≤ tt) };
+}

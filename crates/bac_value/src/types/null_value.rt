@@ -1,0 +1,78 @@
+//! The value Null (clause 20.2.2).
+
+ghost use Rattle.std.specs.Prelude.{false};
+ghost use Rattle.std.proofs.Common.{lit≤};
+ghost use Rattle.bac_value.specs.Primitives.{IsTheList};
+ghost use Rattle.bac_value.specs.Laws.Primitives.{the_list_only_values, the_list_written, the_list_least, the_list_once};
+ghost use Rattle.bac_value.specs.NullContents.{IsNull, null_octets};
+ghost use Rattle.bac_value.specs.Laws.Null.{null_once, null_lengths, null_each_length};
+
+use crate::primitives::Primitive;
+use bac_tag::{OutOfMemory, Refusal, Why};
+use std::alloc::Global;
+
+/// The one value Null. Its contents are no octets.
+#[derive(Clone, Copy, Debug, PartialEq, Eq)]
+pub struct Null;
+
+impl Primitive for Null {
+    const APP: u8 = 0;
+
+    const SHORTEST: usize = 0;
+
+    const LONGEST: usize = 0;
+
+    ghost APP = { 0 };
+
+    ghost SHORTEST = { 0 };
+
+    ghost LONGEST = { 0 };
+
+    ghost is_value = { IsNull };
+
+    ghost contents = { IsTheList IsNull null_octets };
+
+    ghost written = { null_octets };
+
+    ghost wants_memory = { false };
+
+    fn read(_alloc: Global, octets: &[u8]) -> Result<Null, Refusal> {
+        if !octets.is_empty() {
+            return Err(Refusal {
+                place: 0,
+                why: Why::Length,
+            });
+        }
+        Ok(Null)
+    }
+
+    fn hopeless(_front: &[u8], _size: usize) -> Option<usize> {
+        None
+    }
+
+    fn written_len(&self) -> usize {
+        0
+    }
+
+    fn mark(&self, _octets: &[u8]) -> Option<usize> {
+        None
+    }
+
+    fn write(&self, _out: &mut Vec<u8>) -> Result<(), OutOfMemory> {
+        Ok(())
+    }
+
+    ghost only_values = { the_list_only_values IsNull null_octets };
+
+    ghost one_value = { the_list_once IsNull null_octets null_once };
+
+    ghost written_contents = { the_list_written IsNull null_octets };
+
+    ghost written_least = { the_list_least IsNull null_octets };
+
+    ghost lengths = { null_lengths };
+
+    ghost each_length = { null_each_length };
+
+    ghost within_limit = { (lit≤ tt, lit≤ tt) };
+}

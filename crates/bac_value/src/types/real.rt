@@ -1,0 +1,92 @@
+//! Real numbers (clause 20.2.6).
+
+ghost use Rattle.std.specs.Prelude.{false, ◌≡◌};
+ghost use Rattle.std.proofs.Common.{lit≤};
+ghost use Rattle.bac_value.specs.Primitives.{IsTheList};
+ghost use Rattle.bac_value.specs.Laws.Primitives.{the_list_only_values, the_list_written, the_list_least, the_list_once};
+ghost use Rattle.bac_value.specs.RealContents.{IsReal, real_octets};
+ghost use Rattle.bac_value.specs.Laws.Real.{real_once, real_lengths, real_each_length};
+
+use crate::primitives::Primitive;
+use bac_tag::{OutOfMemory, Refusal, Why};
+use std::alloc::Global;
+
+/// The bits of a real number of single precision, kept as they are: each pattern is a value, those that are
+/// no number too. Four octets, the one with the sign first.
+#[derive(Clone, Copy, Debug, PartialEq, Eq)]
+pub struct RealBits(pub u32);
+
+impl RealBits {
+    /// The four octets, the one with the sign first.
+    #[tactic(auto, unfolding(crate::specs::RealContents::real_octets))]
+    fn octets(&self) -> [u8; 4]
+        ensures value { IsReal self.now }
+        ensures octets { result ≡ real_octets self.now }
+    {
+        self.0.to_be_bytes()
+    }
+}
+
+#[tactic(auto, unfolding(crate::specs::RealContents::real_octets))]
+impl Primitive for RealBits {
+    const APP: u8 = 4;
+
+    const SHORTEST: usize = 4;
+
+    const LONGEST: usize = 4;
+
+    ghost APP = { 4 };
+
+    ghost SHORTEST = { 4 };
+
+    ghost LONGEST = { 4 };
+
+    ghost is_value = { IsReal };
+
+    ghost contents = { IsTheList IsReal real_octets };
+
+    ghost written = { real_octets };
+
+    ghost wants_memory = { false };
+
+    fn read(_alloc: Global, octets: &[u8]) -> Result<RealBits, Refusal> {
+        let Ok(octets) = <[u8; 4]>::try_from(octets) else {
+            return Err(Refusal {
+                place: 0,
+                why: Why::Length,
+            });
+        };
+        Ok(RealBits(u32::from_be_bytes(octets)))
+    }
+
+    fn hopeless(_front: &[u8], _size: usize) -> Option<usize> {
+        None
+    }
+
+    fn written_len(&self) -> usize {
+        self.octets().len()
+    }
+
+    fn mark(&self, _octets: &[u8]) -> Option<usize> {
+        None
+    }
+
+    fn write(&self, out: &mut Vec<u8>) -> Result<(), OutOfMemory> {
+        out.extend_from_slice(&self.octets())?;
+        Ok(())
+    }
+
+    ghost only_values = { the_list_only_values IsReal real_octets };
+
+    ghost one_value = { the_list_once IsReal real_octets real_once };
+
+    ghost written_contents = { the_list_written IsReal real_octets };
+
+    ghost written_least = { the_list_least IsReal real_octets };
+
+    ghost lengths = { real_lengths };
+
+    ghost each_length = { real_each_length };
+
+    ghost within_limit = { (lit≤ tt, lit≤ tt) };
+}
