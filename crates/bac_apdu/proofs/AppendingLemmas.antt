@@ -3,12 +3,12 @@ use Rattle.std.specs.Prelude.{◌≡◌, ℕ, ◌<◌, true, List, [], ◌∷◌
 use Rattle.std.proofs.Common.{get_or, sym, ◌∙◌, subst, append_assoc}
 use Rattle.std.proofs.lemmas.List.{append-nil}
 use Rattle.bac_tag.specs.Octets.{IsOctets}
-use Rattle.bac_tag.specs.OctetsLaws.{NoGreater-same, octets_back}
+use Rattle.bac_tag.specs.Laws.Octets.{NoGreater-same, octets_back}
 use Rattle.bac_tag.specs.Spelling.{AppendsLeast}
 use Rattle.bac_service.specs.declared.kind.Kind.{Kind}
 use Rattle.bac_service.specs.ServiceValues.{ServiceValue}
 use Rattle.bac_service.specs.Services.{SpellsService}
-use Rattle.bac_service.specs.laws.ServiceLaws.{octets_held}
+use Rattle.bac_service.specs.Laws.Service.{octets_held}
 use Rattle.bac_apdu.specs.HeadOctets.{least_head, AreParts}
 use Rattle.bac_apdu.specs.Apdus.{ApduValue, head_of, SpellsServiceOf, SpellsBody, SpellsApdu}
 use Rattle.bac_apdu.proofs.HeadOctetLemmas.{headed_least}

@@ -6,7 +6,7 @@ use Rattle.std.proofs.lemmas.List.{append-nil, take-append-drop, length-take-le}
 use Rattle.bac_tag.specs.declared.refusals.Refusal.{Refusal}
 use Rattle.bac_tag.specs.declared.refusals.Why.TheVariants.{Trailing, OutOfMemory}
 use Rattle.bac_tag.specs.Octets.{IsMark, joined_mark}
-use Rattle.bac_tag.specs.OctetsLaws.{NoGreater-same}
+use Rattle.bac_tag.specs.Laws.Octets.{NoGreater-same}
 use Rattle.bac_tag.specs.Spelling.{HasMark}
 use Rattle.bac_apdu.specs.HeadOctets.{least_head}
 use Rattle.bac_apdu.specs.FirstOctet.{type_at, ends_at, HasEnd, HasGoodWindow}

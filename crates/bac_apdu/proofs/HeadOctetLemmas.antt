@@ -2,7 +2,7 @@
 use Rattle.std.specs.Prelude.{slice_index, ◌^◌}
 use Rattle.std.proofs.Common.{◌≡◌, ℕ, suc, ◌/◌, ◌%◌, ◌<◌, ◌≤◌, inr, List, [], ◌∷◌, ◌++◌, length, Option, None, Some, Bool, true, false, refl, ap, arith}
 use Rattle.bac_tag.specs.Octets.{NoGreater, IsMark, joined_mark}
-use Rattle.bac_tag.specs.OctetsLaws.{NoGreater-append, mark-append}
+use Rattle.bac_tag.specs.Laws.Octets.{NoGreater-append, mark-append}
 use Rattle.bac_tag.specs.Spelling.{IsLeast, HasMark}
 use Rattle.bac_apdu.specs.HeadOctets.{Part, typed, limits, octet, window, HasBit, SpellsPart, Headed, bit_or_zero, least_part, least_head, IsPart, AreParts}
 

@@ -3,7 +3,7 @@ use Rattle.std.specs.Prelude.{◌≡◌, ℕ, ◌+◌, ◌*◌, ◌/◌, ◌%◌
 use Rattle.std.proofs.Common.{sym, ◌∙◌, ap, subst, arith}
 use Rattle.bac_tag.specs.declared.refusals.Why.TheVariants.{Short, Window, OutOfMemory}
 use Rattle.bac_tag.specs.Octets.{IsOctets, IsMark}
-use Rattle.bac_tag.specs.OctetsLaws.{octets_at, octets_drop}
+use Rattle.bac_tag.specs.Laws.Octets.{octets_at, octets_drop}
 use Rattle.bac_tag.specs.Spelling.{IsViable, HasMark}
 use Rattle.bac_apdu.specs.declared.confirmed_request.RequestHead.{RequestHead}
 use Rattle.bac_apdu.specs.declared.segment.SegHead.{SegHead}

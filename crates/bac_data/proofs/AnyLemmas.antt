@@ -7,7 +7,7 @@ use Rattle.bac_tag.specs.declared.heads.TagHead.{TagHead}
 use Rattle.bac_tag.specs.declared.heads.TagHead.TheVariants.{App, AppBool, Ctx, Open, Close}
 use Rattle.bac_tag.specs.declared.expecting.Expected.TheVariants as expected
 use Rattle.bac_tag.specs.Spelling.{IsViable, IsRefusal, Takes, JoinedBy, Joins}
-use Rattle.bac_tag.specs.SpellingLaws.{refused_first, refused_alike}
+use Rattle.bac_tag.specs.Laws.Spelling.{refused_first, refused_alike}
 use Rattle.bac_tag.specs.Heads.{Heads}
 use Rattle.bac_tag.specs.Expected.{ExpectedHeads}
 use Rattle.bac_tag.proofs.WritingLemmas.{some_least}

@@ -3,7 +3,7 @@ use Rattle.std.proofs.Common.{◌≡◌, ◌≢◌, ℕ, ◌<◌, ◌≤◌, Boo
 use Rattle.std.specs.Prelude.{◌==◌, if◌then◌else◌}
 use Rattle.bac_tag.specs.declared.heads.TagHead.TheVariants.{App, AppBool, Ctx}
 use Rattle.bac_tag.specs.Octets.{NoGreater}
-use Rattle.bac_tag.specs.OctetsLaws.{NoGreater-append, NoGreater-refl}
+use Rattle.bac_tag.specs.Laws.Octets.{NoGreater-append, NoGreater-refl}
 use Rattle.bac_tag.specs.Spelling.{IsLeast}
 use Rattle.bac_tag.specs.Heads.{Heads}
 use Rattle.bac_tag.proofs.WritingLemmas.{app_grows}

@@ -4,7 +4,7 @@ use Rattle.std.proofs.lemmas.List.{append_cancel_left}
 use Rattle.bac_tag.specs.declared.heads.TagHead.{TagHead}
 use Rattle.bac_tag.specs.declared.heads.TagHead.TheVariants.{App, AppBool, Ctx, Open, Close}
 use Rattle.bac_tag.specs.Heads.{Heads}
-use Rattle.bac_tag.specs.HeadsLaws.{heads_end}
+use Rattle.bac_tag.specs.Laws.Heads.{heads_end}
 use Rattle.bac_tag.specs.Spelling.{EndsItself}
 use Rattle.bac_value.specs.declared.types.boolean_value.Boolean.{Boolean as BooleanValue}
 use Rattle.bac_value.specs.declared.prim.PrimitiveValue.TheVariants.{Boolean}

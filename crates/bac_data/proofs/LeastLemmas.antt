@@ -1,7 +1,7 @@
 -- What is least, of parts that are least.
 use Rattle.std.proofs.Common.{◌≡◌, ℕ, suc, ◌+◌, ◌<◌, ◌≤◌, List, [], ◌∷◌, ◌++◌, map, take, length, get_or, take-suc, refl, sym, ◌∙◌, ap, subst, arith}
 use Rattle.bac_tag.specs.Octets.{NoGreater}
-use Rattle.bac_tag.specs.OctetsLaws.{NoGreater-append, NoGreater-same}
+use Rattle.bac_tag.specs.Laws.Octets.{NoGreater-append, NoGreater-same}
 use Rattle.std.proofs.lemmas.List.{map-append}
 use Rattle.bac_tag.specs.declared.heads.TagHead.TheVariants.{Open, Close}
 use Rattle.bac_tag.specs.Spelling.{IsLeast}

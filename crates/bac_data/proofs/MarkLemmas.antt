@@ -4,11 +4,11 @@ use Rattle.std.specs.Prelude.{IfNone, IfSome}
 use Rattle.bac_tag.specs.declared.heads.TagHead.{TagHead}
 use Rattle.bac_tag.specs.declared.heads.TagHead.TheVariants.{App, AppBool, Ctx, Open, Close}
 use Rattle.bac_tag.specs.Octets.{FirstDifference, IsMark, joined_mark}
-use Rattle.bac_tag.specs.OctetsLaws.{mark-append, mark_first, mark_by, difference_below}
+use Rattle.bac_tag.specs.Laws.Octets.{mark-append, mark_first, mark_by, difference_below}
 use Rattle.bac_tag.specs.Spelling.{IsLeast}
-use Rattle.bac_tag.specs.SpellingLaws.{IsLeast-one}
+use Rattle.bac_tag.specs.Laws.Spelling.{IsLeast-one}
 use Rattle.bac_tag.specs.Heads.{Heads}
-use Rattle.bac_tag.specs.HeadsLaws.{heads_end}
+use Rattle.bac_tag.specs.Laws.Heads.{heads_end}
 use Rattle.bac_tag.proofs.WritingLemmas.{some_least}
 use Rattle.bac_tag.proofs.ShortLemmas.{one_is_least}
 use Rattle.bac_value.specs.declared.prim.PrimitiveValue.{PrimitiveValue}

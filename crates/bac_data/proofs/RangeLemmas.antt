@@ -10,7 +10,7 @@ use Rattle.bac_data.specs.declared.nodes.Node.{Node}
 use Rattle.bac_data.specs.declared.nodes.Node.TheVariants.{Application, Context, Open, Close}
 use Rattle.bac_data.specs.OpenValue.{Elements, AreElements}
 use Rattle.bac_data.specs.Events.{Event, application, contextual, opening, closing}
-use Rattle.bac_data.specs.EventsLaws.{first_of, others_of, levels, value_of_events}
+use Rattle.bac_data.specs.Laws.Events.{first_of, others_of, levels, value_of_events}
 use Rattle.bac_data.specs.Nodes.{nodes_events, IsNode}
 
 -- what an event has lies in its range

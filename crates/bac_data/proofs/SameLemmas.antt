@@ -12,7 +12,7 @@ use Rattle.bac_data.specs.declared.nodes.Node.TheVariants.{Application, Context,
 use Rattle.bac_data.specs.Nodes.{nodes_events, IsNode, Ranges, AreNodes}
 use Rattle.bac_data.specs.Endings.{Endings, HoldEndings}
 use Rattle.bac_data.specs.Events.{Opens}
-use Rattle.bac_data.specs.EventsLaws.{value_of_events}
+use Rattle.bac_data.specs.Laws.Events.{value_of_events}
 use Rattle.bac_data.specs.OpenValue.{Elements}
 use Rattle.bac_data.specs.Same.{event_key, event_keys, same_values}
 use Rattle.bac_data.proofs.BalancedLemmas.{events-value_of_events}

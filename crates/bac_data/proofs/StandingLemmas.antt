@@ -6,12 +6,12 @@ use Rattle.bac_tag.specs.declared.refusals.Why.{Why}
 use Rattle.bac_tag.specs.declared.refusals.Why.TheVariants.{Short, Depth}
 use Rattle.bac_tag.specs.declared.heads.TagHead.{TagHead}
 use Rattle.bac_tag.specs.declared.heads.TagHead.TheVariants.{App, AppBool, Ctx, Open, Close}
-use Rattle.bac_tag.specs.OctetsLaws.{octets_filled, length-filled, zeros_to, octets_replicate}
+use Rattle.bac_tag.specs.Laws.Octets.{octets_filled, length-filled, zeros_to, octets_replicate}
 use Rattle.bac_tag.specs.Octets.{IsOctets}
 use Rattle.bac_tag.specs.Spelling.{EndsItself, IsViable, IsFurthest, IsRefusal, JoinedBy, Takes}
-use Rattle.bac_tag.specs.SpellingLaws.{refused_first, refused_second, refused_alike}
+use Rattle.bac_tag.specs.Laws.Spelling.{refused_first, refused_second, refused_alike}
 use Rattle.bac_tag.specs.Heads.{Heads}
-use Rattle.bac_tag.specs.HeadsLaws.{heads_end}
+use Rattle.bac_tag.specs.Laws.Heads.{heads_end}
 use Rattle.bac_tag.specs.declared.expecting.Expected.{Expected}
 use Rattle.bac_tag.specs.Expected.{FitsOne, HeadsOfOne}
 use Rattle.bac_value.specs.declared.prim.PrimitiveValue.TheVariants.{Boolean}

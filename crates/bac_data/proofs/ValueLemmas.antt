@@ -2,7 +2,7 @@
 use Rattle.std.specs.Prelude.{◌≡◌, ◌≢◌, ℕ, ◌≤◌, ◌<◌, List, [], ◌∷◌, ◌++◌, length, refl}
 use Rattle.std.proofs.Common.{sym, subst, inl, inr, arith}
 use Rattle.bac_tag.specs.Octets.{NoGreater}
-use Rattle.bac_tag.specs.OctetsLaws.{NoGreater-append}
+use Rattle.bac_tag.specs.Laws.Octets.{NoGreater-append}
 use Rattle.bac_tag.specs.declared.heads.TagHead.TheVariants.{App, AppBool, Ctx, Open, Close}
 use Rattle.bac_tag.specs.Spelling.{IsLeast, Joins}
 use Rattle.bac_tag.specs.Heads.{IsValid, Heads}

@@ -2,7 +2,6 @@ pub mod OpenValue
 pub mod Spells
 pub mod Parts
 pub mod Events
-pub mod EventsLaws
 pub mod Nodes
 pub mod Endings
 pub mod Walks
@@ -14,3 +13,4 @@ pub mod Under
 pub mod Reading
 pub mod Marks
 pub mod Same
+pub mod Laws

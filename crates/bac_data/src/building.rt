@@ -45,7 +45,7 @@ impl Model for AnyBuilder {
     ghost use Rattle.std.specs.Prelude.{List};
     ghost use Rattle.std.specs.Coded.{coded_list};
     ghost use Rattle.bac_data.specs.Events.{Event};
-    ghost use Rattle.bac_data.specs.EventsLaws.{event_code};
+    ghost use Rattle.bac_data.specs.Laws.Events.{event_code};
     ghost use Rattle.bac_data.specs.Nodes.{nodes_events};
     ghost use Rattle.bac_data.specs.Building.{IsBuilding};
 

@@ -26,7 +26,7 @@ pub struct Any {
 impl Model for Any {
     ghost use Rattle.std.specs.Prelude.{[]};
     ghost use Rattle.bac_data.specs.OpenValue.{Elements};
-    ghost use Rattle.bac_data.specs.EventsLaws.{elements_code, value_of_events};
+    ghost use Rattle.bac_data.specs.Laws.Events.{elements_code, value_of_events};
     ghost use Rattle.bac_data.specs.Nodes.{nodes_events, AreNodes};
     ghost use Rattle.bac_data.specs.Events.{Opens};
     ghost use Rattle.bac_data.specs.Endings.{HoldEndings};

@@ -34,7 +34,7 @@ impl<'a> Model for Events<'a> {
     ghost use Rattle.std.specs.Prelude.{ℕ, List};
     ghost use Rattle.std.specs.Coded.{coded_list};
     ghost use Rattle.bac_data.specs.Events.{Event};
-    ghost use Rattle.bac_data.specs.EventsLaws.{event_code};
+    ghost use Rattle.bac_data.specs.Laws.Events.{event_code};
     ghost use Rattle.bac_data.specs.Nodes.{nodes_events, AreNodes};
 
     ghost Value = { List Event };

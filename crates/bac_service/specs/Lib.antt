@@ -25,4 +25,4 @@ pub mod ServiceTable
 pub mod ServiceValues
 pub mod Services
 pub mod Decoded
-pub mod laws
+pub mod Laws

@@ -7,9 +7,9 @@ use Rattle.bac_tag.specs.declared.reading.Front.{Front}
 use Rattle.bac_tag.specs.declared.expecting.Expected.{Expected}
 use Rattle.bac_tag.specs.declared.expecting.Expected.TheVariants as expected
 use Rattle.bac_tag.specs.Spelling.{IsViable, IsRefusal}
-use Rattle.bac_tag.specs.SpellingLaws.{refused_at_first, short_at_start}
+use Rattle.bac_tag.specs.Laws.Spelling.{refused_at_first, short_at_start}
 use Rattle.bac_tag.specs.Heads.{NumberForm, in_nibble, in_octet, numbers, nibble_of, number_octets, class_bit}
-use Rattle.bac_tag.specs.HeadsLaws.{initial_parts, head_is, tail_is, class_bit_below, class_bit_one}
+use Rattle.bac_tag.specs.Laws.Heads.{initial_parts, head_is, tail_is, class_bit_below, class_bit_one}
 use Rattle.bac_tag.specs.Expected.{HasNumber, IsSound}
 use Rattle.bac_tag.specs.Reading.{IsUsed, Uses, number_or_zero, example_of, IsFront}
 

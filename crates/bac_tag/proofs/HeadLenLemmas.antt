@@ -5,9 +5,9 @@ use Rattle.std.proofs.lemmas.List.{append-nil, length-append}
 use Rattle.bac_tag.specs.declared.heads.TagHead.{TagHead}
 use Rattle.bac_tag.specs.declared.heads.TagHead.TheVariants.{App, AppBool, Ctx, Open, Close}
 use Rattle.bac_tag.specs.Spelling.{IsLeast}
-use Rattle.bac_tag.specs.SpellingLaws.{IsLeast-one}
+use Rattle.bac_tag.specs.Laws.Spelling.{IsLeast-one}
 use Rattle.bac_tag.specs.Heads.{IsValid, NumberForm, numbers, nibble_of, number_octets, LengthForm, lengths, lvt_of, length_octets, Opening, LengthIn, Heads, LengthFits}
-use Rattle.bac_tag.specs.HeadsLaws.{length_below}
+use Rattle.bac_tag.specs.Laws.Heads.{length_below}
 use Rattle.bac_tag.specs.Writing.{number_form, length_form, narrow_opening, narrow_head}
 use Rattle.bac_tag.proofs.WritingLemmas.{narrowest_number, narrowest_length, least_app, least_bool, least_ctx, least_open, least_close}
 

@@ -6,10 +6,10 @@ use Rattle.bac_tag.specs.declared.refusals.Refusal.{Refusal}
 use Rattle.bac_tag.specs.declared.refusals.Why.{Why}
 use Rattle.bac_tag.specs.declared.refusals.Why.TheVariants.{Short}
 use Rattle.bac_tag.specs.Octets.{IsOctets}
-use Rattle.bac_tag.specs.OctetsLaws.{octets_below}
+use Rattle.bac_tag.specs.Laws.Octets.{octets_below}
 use Rattle.bac_tag.specs.Number.{number, NumberIn}
 use Rattle.bac_tag.specs.Spelling.{IsViable, IsRefusal, Takes}
-use Rattle.bac_tag.specs.SpellingLaws.{short_at_start, refused_at_first, refused_behind}
+use Rattle.bac_tag.specs.Laws.Spelling.{short_at_start, refused_at_first, refused_behind}
 use Rattle.bac_tag.specs.Heads.{LengthForm, in_lvt, one_octet, two_octets, four_octets, lengths, lvt_of, length_octets}
 use Rattle.bac_tag.specs.Reading.{IsWide, LengthWithin}
 

@@ -4,9 +4,9 @@ use Rattle.std.specs.Prelude.{IfNone, IfSome}
 use Rattle.bac_tag.specs.declared.heads.TagHead.{TagHead}
 use Rattle.bac_tag.specs.Octets.{FirstDifference, IsMark}
 use Rattle.bac_tag.specs.Spelling.{IsLeast, IsSpelling}
-use Rattle.bac_tag.specs.SpellingLaws.{IsLeast-one, difference_within}
+use Rattle.bac_tag.specs.Laws.Spelling.{IsLeast-one, difference_within}
 use Rattle.bac_tag.specs.Heads.{Heads}
-use Rattle.bac_tag.specs.HeadsLaws.{heads_end}
+use Rattle.bac_tag.specs.Laws.Heads.{heads_end}
 
 mark_by : (h k : TagHead) (taken b : List ℕ) (r : Option ℕ) → Heads k taken → Heads h b → IfNone r (taken ≡ b) → IfSome r (FirstDifference taken b) → IsMark taken b r
 mark_by h k taken b None p q none some = none

@@ -4,7 +4,7 @@ use Rattle.std.proofs.lemmas.List.{take-take, take_all, take-append-le}
 use Rattle.bac_tag.specs.declared.refusals.Why.{Why}
 use Rattle.bac_tag.specs.declared.refusals.Why.TheVariants.{Short}
 use Rattle.bac_tag.specs.Octets.{IsOctets}
-use Rattle.bac_tag.specs.OctetsLaws.{octets_take, octets_append, octets_back}
+use Rattle.bac_tag.specs.Laws.Octets.{octets_take, octets_append, octets_back}
 use Rattle.bac_tag.specs.Number.{number, NumberIn, BeginsNumber, MissesAt}
 use Rattle.bac_tag.specs.Spelling.{IsViable, IsRefusal, Takes}
 

@@ -12,10 +12,10 @@ use Rattle.bac_tag.specs.declared.reading.Front.{Front}
 use Rattle.bac_tag.specs.declared.expecting.Expected.{Expected}
 use Rattle.bac_tag.specs.declared.expecting.Expected.TheVariants as expected
 use Rattle.bac_tag.specs.Spelling.{EndsItself, CanFollow, JoinedBy, OneOf, NoFront, IsRefusal, Takes}
-use Rattle.bac_tag.specs.SpellingLaws.{refused_first, refused_second, refused_alike, refused_either}
+use Rattle.bac_tag.specs.Laws.Spelling.{refused_first, refused_second, refused_alike, refused_either}
 use Rattle.bac_tag.specs.Refusals.{farther_of}
 use Rattle.bac_tag.specs.Heads.{IsValid, class_bit, class_of, number_of, in_lvt, four_octets, LengthIn, Opening, Ending, Heads}
-use Rattle.bac_tag.specs.HeadsLaws.{heads_end, openings_end, length_lvt, lvt_is_length, length_below, class_bit_below, class_bit_one}
+use Rattle.bac_tag.specs.Laws.Heads.{heads_end, openings_end, length_lvt, lvt_is_length, length_below, class_bit_below, class_bit_one}
 use Rattle.bac_tag.specs.Expected.{Fits, FitsOne, IsSound, ExpectedHeads, HeadsOfOne}
 use Rattle.bac_tag.specs.Reading.{HasLvt, IsUsed, Uses, least_of, most_of, LengthWithin, IsFront, IsBack}
 use Rattle.bac_tag.proofs.FrontLemmas.{uses_used, used_lvt}

@@ -4,9 +4,9 @@ use Rattle.std.proofs.lemmas.Bool.{cases_lt, lt-ltb, le-ltb}
 use Rattle.bac_tag.specs.declared.heads.TagHead.{TagHead}
 use Rattle.bac_tag.specs.declared.heads.TagHead.TheVariants.{App, Ctx, Open, Close}
 use Rattle.bac_tag.specs.Spelling.{IsLeast}
-use Rattle.bac_tag.specs.SpellingLaws.{IsLeast-one}
+use Rattle.bac_tag.specs.Laws.Spelling.{IsLeast-one}
 use Rattle.bac_tag.specs.Heads.{IsValid, class_bit, number_octets, length_octets, Heads}
-use Rattle.bac_tag.specs.HeadsLaws.{initial_parts, head_is, length_below, class_bit_below, class_bit_one}
+use Rattle.bac_tag.specs.Laws.Heads.{initial_parts, head_is, length_below, class_bit_below, class_bit_one}
 use Rattle.bac_tag.specs.Writing.{number_form, length_form, narrow_opening, narrow_head}
 use Rattle.bac_tag.specs.Short.{headed, BeginsShort, BeginsWith}
 use Rattle.bac_tag.proofs.WritingLemmas.{least_app, least_ctx, least_open, least_close}

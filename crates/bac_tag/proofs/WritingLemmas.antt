@@ -10,8 +10,8 @@ use Rattle.bac_tag.specs.Octets.{NoGreater}
 use Rattle.bac_tag.specs.Spelling.{IsLeast}
 use Rattle.bac_tag.specs.Heads.{IsValid, class_bit, class_of, number_of, NumberForm, in_nibble, in_octet, numbers, nibble_of, number_octets, LengthForm, in_lvt, one_octet, two_octets, four_octets, lengths, lvt_of, length_octets, Opening, LengthIn, Ending, Heads, LengthFits}
 use Rattle.bac_tag.specs.Writing.{number_form, length_form, narrow_opening, narrow_head}
-use Rattle.bac_tag.specs.OctetsLaws.{NoGreater-same}
-use Rattle.bac_tag.specs.SpellingLaws.{IsLeast-one}
+use Rattle.bac_tag.specs.Laws.Octets.{NoGreater-same}
+use Rattle.bac_tag.specs.Laws.Spelling.{IsLeast-one}
 
 pub initial_bits : (n c l : ℕ) → n < 16 → c < 2 → l < 8 → bit_or (bit_or (n * 16 % 256) (c * 8 % 256)) l ≡ 16 * n + 8 * c + l
 initial_bits n c l p q r =

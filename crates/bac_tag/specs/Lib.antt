@@ -1,13 +1,10 @@
 pub mod Octets
-pub mod OctetsLaws
 pub mod Number
-pub mod NumberLaws
 pub mod Refusals
 pub mod Spelling
-pub mod SpellingLaws
 pub mod Heads
-pub mod HeadsLaws
 pub mod Expected
 pub mod Reading
 pub mod Writing
 pub mod Short
+pub mod Laws

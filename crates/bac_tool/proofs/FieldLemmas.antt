@@ -7,11 +7,11 @@ use Rattle.bac_tag.specs.declared.heads.TagHead.{TagHead}
 use Rattle.bac_tag.specs.declared.heads.TagHead.TheVariants.{App, AppBool, Ctx, Open, Close}
 use Rattle.bac_tag.specs.declared.expecting.Expected.TheVariants as expected
 use Rattle.bac_tag.specs.Octets.{NoGreater, FirstDifference, IsMark, joined_mark}
-use Rattle.bac_tag.specs.OctetsLaws.{NoGreater-append, mark-append, mark_first, mark_by}
+use Rattle.bac_tag.specs.Laws.Octets.{NoGreater-append, mark-append, mark_first, mark_by}
 use Rattle.bac_tag.specs.Spelling.{EndsItself, IsLeast, IsRefusal, Takes, JoinedBy}
-use Rattle.bac_tag.specs.SpellingLaws.{refused_first, refused_second, refused_alike, IsLeast-one}
+use Rattle.bac_tag.specs.Laws.Spelling.{refused_first, refused_second, refused_alike, IsLeast-one}
 use Rattle.bac_tag.specs.Heads.{Heads}
-use Rattle.bac_tag.specs.HeadsLaws.{heads_end}
+use Rattle.bac_tag.specs.Laws.Heads.{heads_end}
 use Rattle.bac_tag.specs.Writing.{narrow_head}
 use Rattle.bac_tag.specs.Expected.{ExpectedHeads}
 use Rattle.bac_tag.proofs.WritingLemmas.{least_ctx, ctx_grows}

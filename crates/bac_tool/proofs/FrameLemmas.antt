@@ -3,9 +3,9 @@ use Rattle.std.proofs.Common.{◌≡◌, ℕ, ◌+◌, drop, ◌-◌, ◌^◌, �
 use Rattle.std.specs.Prelude.{IfSome}
 use Rattle.std.proofs.lemmas.List.{append_cancel_left}
 use Rattle.bac_tag.specs.declared.refusals.Refusal.{Refusal}
-use Rattle.bac_tag.specs.OctetsLaws.{NoGreater-length, NoGreater-same}
+use Rattle.bac_tag.specs.Laws.Octets.{NoGreater-length, NoGreater-same}
 use Rattle.bac_tag.specs.Spelling.{EndsItself, IsLeast, IsRefusal, Takes, JoinedBy, IsWholeRefusal}
-use Rattle.bac_tag.specs.SpellingLaws.{JoinedBy-end, IsLeast-joined, refused_first}
+use Rattle.bac_tag.specs.Laws.Spelling.{JoinedBy-end, IsLeast-joined, refused_first}
 use Rattle.bac_value.specs.Primitives.{IsTheList}
 use Rattle.bac_value.specs.Laws.Primitives.{the_list_once, the_list_written, the_list_least}
 use Rattle.bac_value.specs.Numbers.{NumberContents, least_number}
@@ -16,7 +16,7 @@ use Rattle.bac_value.specs.Laws.Identifier.{identifier_once, identifier_lengths}
 use Rattle.bac_value.specs.declared.types.enumeration.Enumerated.{Enumerated}
 use Rattle.bac_tool.specs.declared.array_index.ArrayIndex.{ArrayIndex}
 use Rattle.bac_tool.specs.declared.thin_frame.ThinFrame.{ThinFrame}
-use Rattle.bac_tool.specs.ArrayIndexLaws.{one_array_index}
+use Rattle.bac_tool.specs.Laws.ArrayIndex.{one_array_index}
 use Rattle.bac_tool.specs.Fields.{least_field, Optional}
 use Rattle.bac_tool.specs.ThinHeader.{Header, SpellsHeader, header_octets}
 use Rattle.bac_tool.specs.ThinFrame.{IsThinFrame, ObjectField, PropertyField, IndexField, SpellsRequest, SpellsRequired, SpellsThin, request_octets, index_octets, thin_octets, IsRequiredReason}

@@ -7,10 +7,10 @@ use Rattle.std.proofs.lemmas.List.{get_or_append_left, get_or-append_right, get_
 use Rattle.std.proofs.Math.Seq.{take-length}
 use Rattle.bac_tag.specs.declared.refusals.Why.{Why}
 use Rattle.bac_tag.specs.declared.refusals.Why.TheVariants.{Short}
-use Rattle.bac_tag.specs.OctetsLaws.{octets_append, octets_drop, octets_take}
+use Rattle.bac_tag.specs.Laws.Octets.{octets_append, octets_drop, octets_take}
 use Rattle.bac_tool.proofs.PartLemmas.{same_fronts}
 use Rattle.bac_tag.specs.Octets.{IsOctets, IsMark, NoGreater}
-use Rattle.bac_tag.specs.OctetsLaws.{differs_at}
+use Rattle.bac_tag.specs.Laws.Octets.{differs_at}
 use Rattle.bac_tag.specs.Spelling.{EndsItself, IsLeast, IsViable, IsRefusal}
 use Rattle.bac_tool.specs.ThinHeader.{Header, IsHeader, bit, SpellsControl, SpellsFlags, SpellsSizes, SpellsHeader, header_octets, Allows}
 

@@ -4,9 +4,9 @@ use Rattle.std.specs.Prelude.{slice_get, is_some, not, Bool}
 use Rattle.bac_tag.specs.declared.refusals.Refusal.{Refusal}
 use Rattle.bac_tag.specs.declared.refusals.Why.TheVariants.{NotCanonical}
 use Rattle.bac_tag.specs.Octets.{IsMark}
-use Rattle.bac_tag.specs.OctetsLaws.{NoGreater-length}
+use Rattle.bac_tag.specs.Laws.Octets.{NoGreater-length}
 use Rattle.bac_tag.specs.Spelling.{IsLeast}
-use Rattle.bac_tag.specs.SpellingLaws.{IsLeast-one}
+use Rattle.bac_tag.specs.Laws.Spelling.{IsLeast-one}
 use Rattle.bac_tool.specs.ThinFrame.{SpellsThin, thin_octets}
 use Rattle.bac_tool.specs.Judging.{IsCanonicalFor, IsCanonical, Accepts, IsRefused, IsHopeless, Refuses}
 use Rattle.bac_tool.specs.declared.thin_frame.ThinFrame.{ThinFrame}

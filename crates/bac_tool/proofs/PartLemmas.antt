@@ -6,9 +6,9 @@ use Rattle.bac_tag.specs.declared.refusals.Refusal.{Refusal}
 use Rattle.bac_tag.specs.declared.refusals.Why.{Why}
 use Rattle.bac_tag.specs.declared.refusals.Why.TheVariants.{Short, Trailing}
 use Rattle.bac_tag.specs.Octets.{IsMark, joined_mark}
-use Rattle.bac_tag.specs.OctetsLaws.{mark-append}
+use Rattle.bac_tag.specs.Laws.Octets.{mark-append}
 use Rattle.bac_tag.specs.Spelling.{EndsItself, IsViable, IsRefusal, Takes, JoinedBy, IsWholeRefusal}
-use Rattle.bac_tag.specs.SpellingLaws.{refused_second, splits}
+use Rattle.bac_tag.specs.Laws.Spelling.{refused_second, splits}
 use Rattle.bac_value.specs.Laws.Primitives.{nothing_left}
 use Rattle.bac_tool.specs.Fields.{Optional}
 use Rattle.bac_tool.specs.Appending.{Extends}

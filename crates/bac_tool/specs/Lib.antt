@@ -7,7 +7,6 @@ pub mod Runs
 pub mod Batches
 pub mod Files
 pub mod DecimalText
-pub mod ArrayIndexLaws
 pub mod Fields
 pub mod Appending
 pub mod ThinHeader
@@ -17,3 +16,4 @@ pub mod Judging
 pub mod Lines
 pub mod CommandLine
 pub mod Tool
+pub mod Laws

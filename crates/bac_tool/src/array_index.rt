@@ -4,7 +4,7 @@ ghost use Rattle.std.specs.Prelude.{false, ◌<◌, ◌^◌, ◌-◌};
 ghost use Rattle.std.proofs.Common.{lit≤};
 ghost use Rattle.bac_value.specs.Numbers.{NumberContents, least_number};
 ghost use Rattle.bac_value.specs.Laws.Numbers.{number_range, number_written, number_least, number_lengths};
-ghost use Rattle.bac_tool.specs.ArrayIndexLaws.{one_array_index, array_index_each_length};
+ghost use Rattle.bac_tool.specs.Laws.ArrayIndex.{one_array_index, array_index_each_length};
 
 use bac_tag::{OutOfMemory, Refusal};
 use bac_value::{

@@ -3,9 +3,9 @@
 ghost use Rattle.std.specs.Prelude.{◌&&◌, ◌||◌, ◌++◌, ◌⊎◌, not, false};
 ghost use Rattle.bac_tag.specs.Spelling.{OneOf};
 ghost use Rattle.bac_service.specs.Leads.{disjoint};
-ghost use Rattle.bac_service.specs.laws.LongestLaws.{either_lawful};
-ghost use Rattle.bac_service.specs.laws.ChoiceLaws.{either_of, either_inhabited};
-ghost use Rattle.bac_service.specs.laws.HasLeastLaws.{choice_least};
+ghost use Rattle.bac_service.specs.Laws.Longest.{either_lawful};
+ghost use Rattle.bac_service.specs.Laws.Choice.{either_of, either_inhabited};
+ghost use Rattle.bac_service.specs.Laws.HasLeast.{choice_least};
 
 use crate::production::{Front, Production, ReadFault};
 use bac_tag::OutOfMemory;

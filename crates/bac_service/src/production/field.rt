@@ -8,11 +8,11 @@ ghost use Rattle.bac_value.specs.Primitives.{OfSize};
 ghost use Rattle.bac_data.specs.Writing.{Extends};
 ghost use Rattle.bac_service.specs.Leads.{context, application};
 ghost use Rattle.bac_service.specs.Fields.{heading, expected_heading, IsHeading, IsField};
-ghost use Rattle.bac_service.specs.laws.FieldLaws.{field_lawful, field_inhabited, application_heading};
-ghost use Rattle.bac_service.specs.laws.TagLaws.{number_within};
+ghost use Rattle.bac_service.specs.Laws.Field.{field_lawful, field_inhabited, application_heading};
+ghost use Rattle.bac_service.specs.Laws.Tag.{number_within};
 ghost use Rattle.bac_service.specs.Reasons.{IsPartReason};
 ghost use Rattle.bac_service.specs.ReadFaults.{IfRefused, EndsOrGoesOn};
-ghost use Rattle.bac_service.specs.laws.HasLeastLaws.{field_least};
+ghost use Rattle.bac_service.specs.Laws.HasLeast.{field_least};
 
 use crate::production::{Front, Production, ReadFault, complete_at};
 use bac_tag::{

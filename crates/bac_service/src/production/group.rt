@@ -5,9 +5,9 @@ ghost use Rattle.bac_tag.specs.Spelling.{AppendsLeast};
 ghost use Rattle.bac_data.specs.Writing.{Extends};
 ghost use Rattle.bac_service.specs.Leads.{opening, closing, disjoint};
 ghost use Rattle.bac_service.specs.Productions.{Grouped};
-ghost use Rattle.bac_service.specs.laws.ProductionLaws.{group_lawful_sound};
-ghost use Rattle.bac_service.specs.laws.GroupLaws.{group_inhabited};
-ghost use Rattle.bac_service.specs.laws.HasLeastLaws.{group_least};
+ghost use Rattle.bac_service.specs.Laws.Production.{group_lawful_sound};
+ghost use Rattle.bac_service.specs.Laws.Group.{group_inhabited};
+ghost use Rattle.bac_service.specs.Laws.HasLeast.{group_least};
 
 use crate::production::tag::{Closing, Opening};
 use crate::production::{Front, Production, ReadFault};

@@ -3,9 +3,9 @@
 ghost use Rattle.std.specs.Prelude.{◌&&◌, ◌++◌, not, true, List, map};
 ghost use Rattle.bac_service.specs.Leads.{disjoint};
 ghost use Rattle.bac_service.specs.Productions.{Items};
-ghost use Rattle.bac_service.specs.laws.ProductionLaws.{list_lawful, record_lawful};
-ghost use Rattle.bac_service.specs.laws.ListLaws.{items_inhabited};
-ghost use Rattle.bac_service.specs.laws.HasLeastLaws.{items_least, record_least};
+ghost use Rattle.bac_service.specs.Laws.Production.{list_lawful, record_lawful};
+ghost use Rattle.bac_service.specs.Laws.List.{items_inhabited};
+ghost use Rattle.bac_service.specs.Laws.HasLeast.{items_least, record_least};
 
 use crate::production::record::{Fields, Record};
 use crate::production::{Front, Production, ReadFault, complete_at};

@@ -6,8 +6,8 @@ ghost use Rattle.bac_data.specs.OpenValue.{Elements};
 ghost use Rattle.bac_data.specs.Spells.{SpellsOpen};
 ghost use Rattle.bac_data.specs.Writing.{Extends};
 ghost use Rattle.bac_service.specs.Leads.{opening};
-ghost use Rattle.bac_service.specs.laws.OpenValueLaws.{open_lawful, open_inhabited};
-ghost use Rattle.bac_service.specs.laws.HasLeastLaws.{open_value_least};
+ghost use Rattle.bac_service.specs.Laws.OpenValue.{open_lawful, open_inhabited};
+ghost use Rattle.bac_service.specs.Laws.HasLeast.{open_value_least};
 
 use crate::production::{Front, Production, ReadFault, complete_at};
 use bac_data::{Any, read_any_marked, write_any};

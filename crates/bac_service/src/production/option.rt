@@ -3,9 +3,9 @@
 ghost use Rattle.std.specs.Prelude.{◌≡◌, ◌&&◌, ◌++◌, not, true, Option};
 ghost use Rattle.std.specs.Option.{option_map};
 ghost use Rattle.bac_service.specs.Productions.{Optional};
-ghost use Rattle.bac_service.specs.laws.ProductionLaws.{option_lawful};
-ghost use Rattle.bac_service.specs.laws.ReachLaws.{option_inhabited};
-ghost use Rattle.bac_service.specs.laws.HasLeastLaws.{option_least};
+ghost use Rattle.bac_service.specs.Laws.Production.{option_lawful};
+ghost use Rattle.bac_service.specs.Laws.Reach.{option_inhabited};
+ghost use Rattle.bac_service.specs.Laws.HasLeast.{option_least};
 
 use crate::production::field::Field;
 use crate::production::{Front, Production, ReadFault};

@@ -3,9 +3,9 @@
 ghost use Rattle.std.specs.Prelude.{◌&&◌, ◌||◌};
 ghost use Rattle.bac_tag.specs.Spelling.{Joined};
 ghost use Rattle.bac_service.specs.Leads.{and_where, disjoint};
-ghost use Rattle.bac_service.specs.laws.ProductionLaws.{pair_lawful};
-ghost use Rattle.bac_service.specs.laws.RefusalLaws.{sound_inhabited};
-ghost use Rattle.bac_service.specs.laws.HasLeastLaws.{pair_least};
+ghost use Rattle.bac_service.specs.Laws.Production.{pair_lawful};
+ghost use Rattle.bac_service.specs.Laws.Refusal.{sound_inhabited};
+ghost use Rattle.bac_service.specs.Laws.HasLeast.{pair_least};
 
 use crate::production::{Front, Production, ReadFault};
 use bac_tag::{OutOfMemory, joined_marks};

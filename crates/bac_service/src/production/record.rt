@@ -4,9 +4,9 @@ ghost use Rattle.std.specs.Prelude.{◌↔◌, ℕ, List, IsTrue, OnOk};
 ghost use Rattle.bac_tag.specs.Spelling.{AppendsLeast};
 ghost use Rattle.bac_data.specs.Writing.{Extends};
 ghost use Rattle.bac_service.specs.Productions.{IsRecordOf};
-ghost use Rattle.bac_service.specs.laws.ProductionLaws.{record_lawful};
-ghost use Rattle.bac_service.specs.laws.RecordLaws.{record_inhabited};
-ghost use Rattle.bac_service.specs.laws.HasLeastLaws.{record_least};
+ghost use Rattle.bac_service.specs.Laws.Production.{record_lawful};
+ghost use Rattle.bac_service.specs.Laws.Record.{record_inhabited};
+ghost use Rattle.bac_service.specs.Laws.HasLeast.{record_least};
 
 use crate::production::{Front, Production, ReadFault};
 use bac_tag::OutOfMemory;

@@ -73,7 +73,7 @@ impl Named for IAm {
     ghost use Rattle.std.proofs.Common.{lit<};
     ghost use Rattle.bac_service.specs.declared.kind.Kind.TheVariants.{Unconfirmed};
     ghost use Rattle.bac_service.specs.ServiceTable.{i_am};
-    ghost use Rattle.bac_service.specs.laws.ServiceLaws.{serves, never};
+    ghost use Rattle.bac_service.specs.Laws.Service.{serves, never};
 
     type Part = Fields<IAm>;
 

@@ -1,9 +1,9 @@
 //! What reading a property gave (the listOfResults of ReadAccessResult, clause 21).
 
 ghost use Rattle.std.specs.Prelude.{◌≡◌};
-ghost use Rattle.bac_service.specs.laws.ChoiceLaws.{either_of};
+ghost use Rattle.bac_service.specs.Laws.Choice.{either_of};
 ghost use Rattle.bac_service.specs.PropertyResult.{SpellsPropertyResult, read_result_of};
-ghost use Rattle.bac_service.specs.laws.PropertyResultLaws.{property_result_parts};
+ghost use Rattle.bac_service.specs.Laws.PropertyResult.{property_result_parts};
 
 use crate::production::Production;
 use crate::production::choice::Choice;

@@ -65,7 +65,7 @@ impl Named for ReadProperty {
     ghost use Rattle.std.proofs.Common.{lit<};
     ghost use Rattle.bac_service.specs.declared.kind.Kind.TheVariants.{Confirmed};
     ghost use Rattle.bac_service.specs.ServiceTable.{read_property};
-    ghost use Rattle.bac_service.specs.laws.ServiceLaws.{serves, never};
+    ghost use Rattle.bac_service.specs.Laws.Service.{serves, never};
 
     type Part = Fields<ReadProperty>;
 

@@ -74,7 +74,7 @@ impl Named for ReadPropertyAck {
     ghost use Rattle.std.proofs.Common.{lit<};
     ghost use Rattle.bac_service.specs.declared.kind.Kind.TheVariants.{ComplexAck};
     ghost use Rattle.bac_service.specs.ServiceTable.{read_property_ack};
-    ghost use Rattle.bac_service.specs.laws.ServiceLaws.{serves};
+    ghost use Rattle.bac_service.specs.Laws.Service.{serves};
 
     type Part = Fields<ReadPropertyAck>;
 

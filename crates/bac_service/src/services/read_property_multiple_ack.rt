@@ -77,7 +77,7 @@ impl NamedList for ReadPropertyMultipleAck {
     ghost use Rattle.bac_service.specs.ServiceTable.{read_property_multiple_ack};
     ghost use Rattle.bac_service.specs.ServiceValues.{value_of};
     ghost use Rattle.bac_service.specs.Services.{SpellsService};
-    ghost use Rattle.bac_service.specs.laws.ServiceLaws.{serves};
+    ghost use Rattle.bac_service.specs.Laws.Service.{serves};
 
     type Item = ReadAccessResult;
 

@@ -2,7 +2,7 @@
 
 ghost use Rattle.std.specs.Prelude.{◌≡◌};
 ghost use Rattle.bac_service.specs.SubscribeCov.{SpellsSubscribeCov};
-ghost use Rattle.bac_service.specs.laws.SubscribeCovLaws.{subscribe_cov_parts};
+ghost use Rattle.bac_service.specs.Laws.SubscribeCov.{subscribe_cov_parts};
 
 use crate::named::Named;
 use crate::production::Production;
@@ -75,7 +75,7 @@ impl Named for SubscribeCov {
     ghost use Rattle.std.proofs.Common.{lit<};
     ghost use Rattle.bac_service.specs.declared.kind.Kind.TheVariants.{Confirmed};
     ghost use Rattle.bac_service.specs.ServiceTable.{subscribe_cov};
-    ghost use Rattle.bac_service.specs.laws.ServiceLaws.{serves, never};
+    ghost use Rattle.bac_service.specs.Laws.Service.{serves, never};
 
     type Part = Fields<SubscribeCov>;
 

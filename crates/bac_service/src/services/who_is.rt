@@ -59,7 +59,7 @@ impl Named for WhoIs {
     ghost use Rattle.std.proofs.Common.{lit<};
     ghost use Rattle.bac_service.specs.declared.kind.Kind.TheVariants.{Unconfirmed};
     ghost use Rattle.bac_service.specs.ServiceTable.{who_is};
-    ghost use Rattle.bac_service.specs.laws.ServiceLaws.{serves, never};
+    ghost use Rattle.bac_service.specs.Laws.Service.{serves, never};
 
     type Part = Fields<WhoIs>;
 

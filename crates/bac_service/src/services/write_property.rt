@@ -81,7 +81,7 @@ impl Named for WriteProperty {
     ghost use Rattle.std.proofs.Common.{lit<};
     ghost use Rattle.bac_service.specs.declared.kind.Kind.TheVariants.{Confirmed};
     ghost use Rattle.bac_service.specs.ServiceTable.{write_property};
-    ghost use Rattle.bac_service.specs.laws.ServiceLaws.{serves};
+    ghost use Rattle.bac_service.specs.Laws.Service.{serves};
 
     type Part = Fields<WriteProperty>;
 

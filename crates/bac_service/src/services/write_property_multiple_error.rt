@@ -77,7 +77,7 @@ impl Named for WritePropertyMultipleError {
     ghost use Rattle.std.proofs.Common.{lit<};
     ghost use Rattle.bac_service.specs.declared.kind.Kind.TheVariants.{Error};
     ghost use Rattle.bac_service.specs.ServiceTable.{write_property_multiple_error};
-    ghost use Rattle.bac_service.specs.laws.ServiceLaws.{serves, never};
+    ghost use Rattle.bac_service.specs.Laws.Service.{serves, never};
 
     type Part = Fields<WritePropertyMultipleError>;
 

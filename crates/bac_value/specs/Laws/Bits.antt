@@ -12,7 +12,7 @@ use Rattle.std.proofs.lemmas.List.FromFn.{length-map-range_with_len, get_or-map-
 use Rattle.std.proofs.lemmas.Nat.Bits.{bit_at-lt}
 use Rattle.bac_tag.specs.Octets.{IsOctets, NoGreater, FirstDifference}
 use Rattle.bac_value.specs.Primitives.{IsBegun, IsHopelessAt}
-use Rattle.bac_tag.specs.OctetsLaws.{octets_below, octets_at, octets_replicate, octets_filled, length-filled, zeros_to, differs_at}
+use Rattle.bac_tag.specs.Laws.Octets.{octets_below, octets_at, octets_replicate, octets_filled, length-filled, zeros_to, differs_at}
 use Rattle.std.proofs.lemmas.List.{length-replicate}
 use Rattle.bac_value.specs.BitsContents.{bit_in, bits_in, HoldsBits, BitsContents, IsBits, worth, octet_from, octets_for, packed_bits, least_bits, bits_of, IsLeastBits, CountsUnused, IsPacked}
 

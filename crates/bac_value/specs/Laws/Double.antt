@@ -4,7 +4,7 @@ use Rattle.std.specs.Int.{w64, from_be_bytes}
 use Rattle.std.proofs.lemmas.List.{length-replicate}
 use Rattle.std.proofs.lemmas.Nat.{be_bytes_8, from_be_bytes-to_be_bytes_8}
 use Rattle.bac_tag.specs.Octets.{IsOctets}
-use Rattle.bac_tag.specs.OctetsLaws.{octets_below, octets_replicate}
+use Rattle.bac_tag.specs.Laws.Octets.{octets_below, octets_replicate}
 use Rattle.bac_value.specs.declared.types.double.DoubleBits.{DoubleBits}
 use Rattle.bac_value.specs.Primitives.{IsTheList, IsBegun}
 use Rattle.bac_value.specs.DoubleContents.{IsDouble, double_octets}

@@ -6,10 +6,10 @@ use Rattle.std.proofs.Math.Nat.{pow-le-pow_right, mul-le-mul_right}
 use Rattle.std.proofs.lemmas.Nat.{pow-add}
 use Rattle.std.proofs.lemmas.List.{get_or-take}
 use Rattle.std.proofs.lemmas.Int.Digits.{number_lt, number_more}
-use Rattle.bac_tag.specs.OctetsLaws.{octets_take, octets_drop}
+use Rattle.bac_tag.specs.Laws.Octets.{octets_take, octets_drop}
 use Rattle.bac_tag.specs.Octets.{IsOctets}
 use Rattle.bac_tag.specs.Number.{number}
-use Rattle.bac_tag.specs.NumberLaws.{number-append, begins_number, begins_number_only}
+use Rattle.bac_tag.specs.Laws.Number.{number-append, begins_number, begins_number_only}
 use Rattle.bac_value.specs.declared.types.enumeration.Enumerated.{Enumerated}
 use Rattle.bac_value.specs.Primitives.{IsBegun, IsHopelessAt}
 use Rattle.bac_value.specs.Numbers.{NumberContents}

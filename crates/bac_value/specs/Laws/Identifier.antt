@@ -2,7 +2,7 @@ use Rattle.std.proofs.Common.{◌≡◌, ℕ, ◌≤◌, ◌^◌, ◌*◌, ◌+�
 use Rattle.std.specs.Int.{w32, to_be_bytes, from_be_bytes}
 use Rattle.std.proofs.lemmas.Nat.{be_bytes_4, from_be_bytes-to_be_bytes_4, same_from_place}
 use Rattle.bac_tag.specs.Octets.{IsOctets}
-use Rattle.bac_tag.specs.OctetsLaws.{octets_below}
+use Rattle.bac_tag.specs.Laws.Octets.{octets_below}
 use Rattle.bac_value.specs.Primitives.{IsTheList, IsBegun}
 use Rattle.bac_value.specs.Identifier.{Identifier, IsIdentifier, identifier_octets}
 

@@ -8,9 +8,9 @@ use Rattle.std.proofs.lemmas.Nat.{pow_pos, from_be_bytes-to_be_bytes_8}
 use Rattle.std.proofs.lemmas.List.{get_or-drop}
 use Rattle.std.proofs.Math.Nat.{pow-le-pow_right, mul-le-mul_right}
 use Rattle.bac_tag.specs.Octets.{IsOctets, NoGreater}
-use Rattle.bac_tag.specs.OctetsLaws.{octets_take, octets_drop, octets_append, octets_back, NoGreater-by_length}
+use Rattle.bac_tag.specs.Laws.Octets.{octets_take, octets_drop, octets_append, octets_back, NoGreater-by_length}
 use Rattle.bac_tag.specs.Number.{number, BeginsNumber, MissesAt}
-use Rattle.bac_tag.specs.NumberLaws.{number_same, number_fits, number_after_is, begins_number}
+use Rattle.bac_tag.specs.Laws.Number.{number_same, number_fits, number_after_is, begins_number}
 use Rattle.bac_value.specs.Primitives.{IsBegun, IsHopelessAt}
 use Rattle.bac_value.specs.Laws.Primitives.{nothing_left}
 use Rattle.bac_value.specs.Numbers.{HasNumberLength, NumberContents, least_number, IsBounded}

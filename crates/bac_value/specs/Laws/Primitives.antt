@@ -3,7 +3,7 @@ use Rattle.std.proofs.Common.{◌≡◌, ℕ, true, false, eqb, ◌≤◌, ◌+�
 use Rattle.std.proofs.lemmas.Bool.{eqb-true, eqb-false}
 use Rattle.std.specs.Prelude.{IfNone}
 use Rattle.bac_tag.specs.Octets.{NoGreater}
-use Rattle.bac_tag.specs.OctetsLaws.{NoGreater-same}
+use Rattle.bac_tag.specs.Laws.Octets.{NoGreater-same}
 use Rattle.bac_value.specs.Primitives.{IsTheList, IsHopelessAt}
 
 -- ---- types of which each value has one list

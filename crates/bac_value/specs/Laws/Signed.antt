@@ -10,9 +10,9 @@ use Rattle.std.proofs.lemmas.Int.{to_z_pos, to_z-of_z}
 use Rattle.std.proofs.lemmas.Int.Digits.{number_lt, number_after_lt}
 use Rattle.std.proofs.lemmas.List.{get_or-drop, length-replicate}
 use Rattle.bac_tag.specs.Octets.{IsOctets, NoGreater}
-use Rattle.bac_tag.specs.OctetsLaws.{NoGreater-by_length}
+use Rattle.bac_tag.specs.Laws.Octets.{NoGreater-by_length}
 use Rattle.bac_tag.specs.Number.{number}
-use Rattle.bac_tag.specs.NumberLaws.{number_same, number_after_is}
+use Rattle.bac_tag.specs.Laws.Number.{number_same, number_after_is}
 use Rattle.bac_value.specs.Numbers.{least_number}
 use Rattle.bac_value.specs.Laws.Numbers.{Spells, least_spells, length-least_number-le, least_number_is, number-to_be_bytes}
 use Rattle.bac_value.specs.SignedContents.{complement, signed_number, SignedContents, with_sign_bit, least_signed, RepeatsSign}

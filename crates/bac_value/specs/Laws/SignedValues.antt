@@ -2,7 +2,7 @@
 use Rattle.std.proofs.Common.{◌≡◌, ℕ, ℤ, ◌≤◌, List, [], ◌++◌, length, replicate, refl, arith, sym, ◌∙◌, ap}
 use Rattle.std.proofs.lemmas.List.{length-replicate}
 use Rattle.bac_tag.specs.Octets.{IsOctets}
-use Rattle.bac_tag.specs.OctetsLaws.{octets_replicate}
+use Rattle.bac_tag.specs.Laws.Octets.{octets_replicate}
 use Rattle.bac_value.specs.declared.types.signed_integer.Signed.{Signed}
 use Rattle.bac_value.specs.Primitives.{IsBegun}
 use Rattle.bac_value.specs.SignedContents.{signed_number, SignedContents}

@@ -2,7 +2,7 @@
 use Rattle.std.proofs.Common.{◌≡◌, ℕ, ◌≤◌, List, [], ◌++◌, length, replicate, arith, refl, ap}
 use Rattle.std.proofs.lemmas.List.{length-replicate}
 use Rattle.bac_tag.specs.Octets.{IsOctets}
-use Rattle.bac_tag.specs.OctetsLaws.{octets_replicate}
+use Rattle.bac_tag.specs.Laws.Octets.{octets_replicate}
 use Rattle.bac_value.specs.declared.types.time_value.Time.{Time}
 use Rattle.bac_value.specs.Primitives.{IsTheList, IsBegun}
 use Rattle.bac_value.specs.TimeContents.{IsTime, time_octets}

@@ -3,7 +3,7 @@ use Rattle.std.proofs.Common.{◌≡◌, ℕ, ◌≤◌, ◌+◌, ◌*◌, ◌^�
 use Rattle.std.proofs.Math.Nat.{pow-le-pow_right}
 use Rattle.bac_tag.specs.Octets.{IsOctets}
 use Rattle.bac_tag.specs.Number.{number}
-use Rattle.bac_tag.specs.NumberLaws.{begins_number, front_room}
+use Rattle.bac_tag.specs.Laws.Number.{begins_number, front_room}
 use Rattle.bac_value.specs.declared.types.unsigned_integer.Unsigned.{Unsigned}
 use Rattle.bac_value.specs.Primitives.{IsBegun}
 use Rattle.bac_value.specs.Numbers.{NumberContents}

@@ -1,7 +1,7 @@
 use Rattle.std.specs.Prelude.{◌≡◌, ◌-◌, ◌<◌, ℕ, [], ◌∷◌, length, take, drop, slice_index, refl}
 use Rattle.std.proofs.Common.{arith, ◌∙◌, length-drop}
 use Rattle.std.proofs.lemmas.List.{take_all, length-take-le}
-use Rattle.bac_tag.specs.OctetsLaws.{mark_by}
+use Rattle.bac_tag.specs.Laws.Octets.{mark_by}
 use Rattle.bac_apdu.proofs.SegmentLemmas.{ack_segment_short, ack_segment_shorter, ack_segment_window, ack_segment_memory, ack_segment_found}
 use Rattle.bac_apdu.proofs.segment.decode_ack_segment.Goals as goal
 

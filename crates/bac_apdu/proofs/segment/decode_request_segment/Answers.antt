@@ -1,7 +1,7 @@
 use Rattle.std.specs.Prelude.{◌≡◌, ◌+◌, ◌-◌, ◌*◌, ◌<◌, ℕ, [], ◌∷◌, length, take, drop, slice_index, refl}
 use Rattle.std.proofs.Common.{arith, sym, ◌∙◌, length-drop}
 use Rattle.std.proofs.lemmas.List.{take_all, length-take-le}
-use Rattle.bac_tag.specs.OctetsLaws.{mark_by}
+use Rattle.bac_tag.specs.Laws.Octets.{mark_by}
 use Rattle.bac_apdu.specs.declared.confirmed_request.RequestHead.{RequestHead}
 use Rattle.bac_apdu.proofs.ConfirmedRequestLemmas.{SaysHead}
 use Rattle.bac_apdu.proofs.SegmentLemmas.{request_segment_short, request_segment_shorter, request_segment_window, request_segment_memory, request_segment_found}

@@ -3,7 +3,7 @@ use Rattle.std.proofs.lemmas.List.{length-take-le}
 use Rattle.std.proofs.lemmas.Result.{err_from_is_err_and}
 use Rattle.bac_tag.specs.declared.heads.TagHead.{TagHead}
 use Rattle.bac_tag.specs.declared.heads.TagHead.TheVariants.{Ctx}
-use Rattle.bac_tag.specs.OctetsLaws.{octets_at, octets_take}
+use Rattle.bac_tag.specs.Laws.Octets.{octets_at, octets_take}
 use Rattle.bac_tag.specs.Spelling.{IsRefusal}
 use Rattle.bac_value.specs.PrimContents.{PrimContents}
 use Rattle.bac_value.specs.PrimOfContents.{prim_of_contents}

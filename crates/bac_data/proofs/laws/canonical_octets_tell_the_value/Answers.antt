@@ -1,4 +1,4 @@
-use Rattle.bac_tag.specs.SpellingLaws.{IsLeast-tells, ends_one}
+use Rattle.bac_tag.specs.Laws.Spelling.{IsLeast-tells, ends_one}
 use Rattle.bac_data.specs.Spells.{SpellsOpen}
 use Rattle.bac_data.proofs.OpenLemmas.{open_ends}
 use Rattle.bac_data.proofs.laws.canonical_octets_tell_the_value.Goals as goal

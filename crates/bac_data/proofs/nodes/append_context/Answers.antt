@@ -1,5 +1,5 @@
 use Rattle.std.proofs.Common.{◌∙◌, ap, length, arith}
-use Rattle.bac_tag.specs.OctetsLaws.{octets_at}
+use Rattle.bac_tag.specs.Laws.Octets.{octets_at}
 use Rattle.bac_data.proofs.BuildingLemmas.{appended, on_ok}
 use Rattle.bac_data.proofs.NodeLemmas.{added_context}
 use Rattle.bac_data.proofs.nodes.append_context.Goals as goal

@@ -1,5 +1,5 @@
 use Rattle.std.proofs.Common.{true}
-use Rattle.bac_tag.specs.SpellingLaws.{IsLeast-tells}
+use Rattle.bac_tag.specs.Laws.Spelling.{IsLeast-tells}
 use Rattle.bac_service.specs.Services.{SpellsService}
 use Rattle.bac_service.proofs.laws.canonical_octets_tell_the_service.Goals as goal
 

@@ -1,4 +1,4 @@
-use Rattle.bac_service.specs.laws.ViableLaws.{viable_both}
+use Rattle.bac_service.specs.Laws.Viable.{viable_both}
 use Rattle.bac_service.proofs.laws.joined_parts_are_viable_in_turn.Goals as goal
 
 pub returns : goal.returns

@@ -1,4 +1,4 @@
-use Rattle.bac_service.specs.laws.ServiceLaws.{spelled_placed, spelled_opaque}
+use Rattle.bac_service.specs.Laws.Service.{spelled_placed, spelled_opaque}
 use Rattle.bac_service.proofs.laws.only_services_are_spelled.Goals as goal
 
 pub returns-clause-placed : goal.returns-clause-placed

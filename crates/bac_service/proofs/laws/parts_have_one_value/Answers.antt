@@ -1,4 +1,4 @@
-use Rattle.bac_service.specs.laws.ProductionLaws.{unique}
+use Rattle.bac_service.specs.Laws.Production.{unique}
 use Rattle.bac_service.proofs.laws.parts_have_one_value.Goals as goal
 
 pub returns : goal.returns

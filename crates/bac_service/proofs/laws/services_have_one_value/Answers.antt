@@ -1,6 +1,6 @@
 use Rattle.bac_service.specs.ServiceTable.{ServiceProduction, read_property, read_property_ack, read_property_multiple, read_property_multiple_ack, write_property, write_property_multiple, write_property_multiple_error, who_is, i_am, subscribe_cov, cov_notification, service_error}
 use Rattle.bac_service.specs.Services.{SpellsBy}
-use Rattle.bac_service.specs.laws.ServiceLaws.{SpellsOnce, services_once}
+use Rattle.bac_service.specs.Laws.Service.{SpellsOnce, services_once}
 use Rattle.bac_service.proofs.laws.services_have_one_value.Goals as goal
 
 pub returns : goal.returns

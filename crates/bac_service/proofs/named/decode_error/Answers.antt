@@ -2,8 +2,8 @@ use Rattle.std.proofs.Common.{arith}
 use Rattle.std.proofs.lemmas.Result.{err_from_is_err_and}
 use Rattle.bac_service.specs.declared.kind.Kind.TheVariants.{Error}
 use Rattle.bac_service.specs.ServiceTable.{service_error}
-use Rattle.bac_service.specs.laws.ServiceLaws.{spelled_as, serves, never}
-use Rattle.bac_service.specs.laws.DecodedLaws.{found_as, refused_as}
+use Rattle.bac_service.specs.Laws.Service.{spelled_as, serves, never}
+use Rattle.bac_service.specs.Laws.Decoded.{found_as, refused_as}
 use Rattle.bac_service.proofs.named.decode_error.Goals as goal
 
 pub returns : goal.returns

@@ -1,5 +1,5 @@
 use Rattle.std.proofs.lemmas.Result.{err_from_is_err_and}
-use Rattle.bac_service.specs.laws.DecodedLaws.{found_as, refused_as}
+use Rattle.bac_service.specs.Laws.Decoded.{found_as, refused_as}
 use Rattle.bac_service.proofs.named.decode_list.Goals as goal
 
 pub returns : goal.returns

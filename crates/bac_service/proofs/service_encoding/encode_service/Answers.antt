@@ -1,4 +1,4 @@
-use Rattle.bac_service.specs.laws.ServiceLaws.{appended_to_none}
+use Rattle.bac_service.specs.Laws.Service.{appended_to_none}
 use Rattle.bac_service.proofs.service_encoding.encode_service.Goals as goal
 
 pub returns : goal.returns

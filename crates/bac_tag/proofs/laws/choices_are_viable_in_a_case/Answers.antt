@@ -1,4 +1,4 @@
-use Rattle.bac_tag.specs.SpellingLaws.{viable-OneOf}
+use Rattle.bac_tag.specs.Laws.Spelling.{viable-OneOf}
 use Rattle.bac_tag.proofs.laws.choices_are_viable_in_a_case.Goals as goal
 
 pub returns : goal.returns

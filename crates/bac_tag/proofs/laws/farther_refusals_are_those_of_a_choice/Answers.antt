@@ -1,4 +1,4 @@
-use Rattle.bac_tag.specs.SpellingLaws.{refused_either}
+use Rattle.bac_tag.specs.Laws.Spelling.{refused_either}
 use Rattle.bac_tag.proofs.laws.farther_refusals_are_those_of_a_choice.Goals as goal
 
 pub returns : goal.returns

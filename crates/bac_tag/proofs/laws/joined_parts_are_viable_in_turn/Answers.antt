@@ -1,4 +1,4 @@
-use Rattle.bac_tag.specs.SpellingLaws.{viable-JoinedBy}
+use Rattle.bac_tag.specs.Laws.Spelling.{viable-JoinedBy}
 use Rattle.bac_tag.proofs.laws.joined_parts_are_viable_in_turn.Goals as goal
 
 pub returns : goal.returns

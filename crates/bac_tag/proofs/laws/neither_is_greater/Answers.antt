@@ -1,4 +1,4 @@
-use Rattle.bac_tag.specs.OctetsLaws.{NoGreater-antisym}
+use Rattle.bac_tag.specs.Laws.Octets.{NoGreater-antisym}
 use Rattle.bac_tag.proofs.laws.neither_is_greater.Goals as goal
 
 pub returns : goal.returns

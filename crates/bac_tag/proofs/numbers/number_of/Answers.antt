@@ -1,5 +1,5 @@
 use Rattle.std.proofs.Common.{arith}
-use Rattle.bac_tag.specs.NumberLaws.{number_step_fits}
+use Rattle.bac_tag.specs.Laws.Number.{number_step_fits}
 use Rattle.bac_tag.proofs.numbers.number_of.Goals as goal
 
 pub overflow_mul-number : goal.overflow_mul-number

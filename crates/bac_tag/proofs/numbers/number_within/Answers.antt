@@ -1,8 +1,8 @@
 use Rattle.std.proofs.Common.{arith, true, false, List, [], ◌≡◌, ◌≤◌, ◌<◌, ◌+◌, ◌-◌, ◌*◌, ℕ, refl, take, length, length-take, get_or}
 use Rattle.std.proofs.lemmas.Int.Digits.{number_more}
-use Rattle.bac_tag.specs.OctetsLaws.{octets_at, octets_take}
+use Rattle.bac_tag.specs.Laws.Octets.{octets_at, octets_take}
 use Rattle.bac_tag.specs.Number.{number}
-use Rattle.bac_tag.specs.NumberLaws.{begins_number, misses_begins_none, meets_begins, front_room, number_step_fits}
+use Rattle.bac_tag.specs.Laws.Number.{begins_number, misses_begins_none, meets_begins, front_room, number_step_fits}
 use Rattle.bac_tag.proofs.numbers.number_within.Goals as goal
 
 pub loop-place-init : goal.loop-place-init

@@ -1,5 +1,5 @@
 use Rattle.std.proofs.Common.{arith, length-take}
-use Rattle.bac_tag.specs.OctetsLaws.{octets_at}
+use Rattle.bac_tag.specs.Laws.Octets.{octets_at}
 use Rattle.bac_tag.proofs.NumberLemmas.{refused_number, short_number, found_number}
 use Rattle.bac_tag.proofs.reading.read_number.Goals as goal
 

@@ -1,4 +1,4 @@
-use Rattle.bac_tag.specs.HeadsLaws.{class_bit_below}
+use Rattle.bac_tag.specs.Laws.Heads.{class_bit_below}
 use Rattle.bac_tag.proofs.WritingLemmas.{initial_bits, class_byte}
 use Rattle.bac_tag.proofs.writing.initial_octet.Goals as goal
 

@@ -2,7 +2,7 @@ use Rattle.std.proofs.Common.{arith, ◌≡◌, ◌∙◌, ◌+◌, ◌^◌, ◌
 use Rattle.bac_tag.specs.declared.heads.TagHead.TheVariants.{Ctx}
 use Rattle.bac_tag.specs.Heads.{Heads}
 use Rattle.bac_tag.specs.Spelling.{IsLeast}
-use Rattle.bac_tag.specs.SpellingLaws.{IsLeast-one}
+use Rattle.bac_tag.specs.Laws.Spelling.{IsLeast-one}
 use Rattle.bac_tag.specs.Writing.{narrow_head}
 use Rattle.bac_tool.specs.Fields.{least_field}
 use Rattle.bac_tool.proofs.FieldLemmas.{narrow_least}

@@ -2,7 +2,7 @@ use Rattle.std.proofs.Common.{arith, ◌^◌, ◌<◌, ℕ, length, subst}
 use Rattle.std.proofs.lemmas.Option.{IfSome_then}
 use Rattle.bac_tag.specs.Octets.{IsMark}
 use Rattle.bac_tag.specs.Writing.{narrow_head}
-use Rattle.bac_tag.specs.OctetsLaws.{difference_below}
+use Rattle.bac_tag.specs.Laws.Octets.{difference_below}
 use Rattle.bac_tool.proofs.FieldLemmas.{narrow_least, mark_of_field}
 use Rattle.bac_tool.proofs.fields.field_mark.Goals as goal
 

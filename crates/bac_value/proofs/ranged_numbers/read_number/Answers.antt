@@ -1,5 +1,5 @@
 use Rattle.std.proofs.Common.{arith}
-use Rattle.bac_tag.specs.OctetsLaws.{octets_at}
+use Rattle.bac_tag.specs.Laws.Octets.{octets_at}
 use Rattle.bac_value.specs.Laws.Primitives.{some_octets}
 use Rattle.bac_value.specs.Laws.Numbers.{low_fits, misses_none, begun_whole}
 use Rattle.bac_value.proofs.ranged_numbers.read_number.Goals as goal

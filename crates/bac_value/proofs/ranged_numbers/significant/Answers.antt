@@ -1,6 +1,6 @@
 use Rattle.std.proofs.Common.{◌∙◌, arith, length-drop}
 use Rattle.std.proofs.lemmas.List.{take_all}
-use Rattle.bac_tag.specs.OctetsLaws.{octets_at}
+use Rattle.bac_tag.specs.Laws.Octets.{octets_at}
 use Rattle.bac_value.specs.Laws.Numbers.{significant_is}
 use Rattle.bac_value.proofs.ranged_numbers.significant.Goals as goal
 

@@ -1,6 +1,6 @@
 use Rattle.std.proofs.Common.{◌∙◌, ap, arith}
 use Rattle.std.proofs.lemmas.List.{take_rest}
-use Rattle.bac_tag.specs.OctetsLaws.{octets_at}
+use Rattle.bac_tag.specs.Laws.Octets.{octets_at}
 use Rattle.bac_value.specs.Numbers.{least_number}
 use Rattle.bac_value.specs.Laws.Enumerated.{last_of}
 use Rattle.bac_value.proofs.ranged_numbers.significant_of_four.Goals as goal

@@ -4,7 +4,7 @@ use Rattle.bac_tag.specs.Octets.{IsMark}
 use Rattle.bac_tag.specs.Spelling.{IsLeast}
 use Rattle.bac_tag.specs.Heads.{Heads}
 use Rattle.bac_service.specs.Fields.{heading}
-use Rattle.bac_service.specs.laws.FieldLaws.{mark_field}
+use Rattle.bac_service.specs.Laws.Field.{mark_field}
 use Rattle.bac_service.proofs.production.field.mark_of.Goals as goal
 
 pub returns : goal.returns

@@ -5,8 +5,8 @@ use Rattle.bac_tag.specs.declared.heads.TagHead.TheVariants.{App, Ctx}
 use Rattle.bac_tag.specs.Expected.{ExpectedHeads}
 use Rattle.bac_tag.specs.Heads.{Heads}
 use Rattle.bac_service.specs.Fields.{heading, expected_heading, IsField}
-use Rattle.bac_service.specs.laws.FieldLaws.{head_named, field_refused_head, field_refused_contents, field_taken}
-use Rattle.bac_service.specs.laws.LongestLaws.{take_add}
+use Rattle.bac_service.specs.Laws.Field.{head_named, field_refused_head, field_refused_contents, field_taken}
+use Rattle.bac_service.specs.Laws.Longest.{take_add}
 use Rattle.bac_tag.specs.Spelling.{IsRefusal, HasMark}
 use Rattle.bac_tag.specs.Refusals.{behind}
 use Rattle.bac_service.proofs.production.field.read_field.Goals.{in-Ctx, in-Ctx-2}

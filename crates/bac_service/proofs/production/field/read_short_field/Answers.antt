@@ -3,8 +3,8 @@ use Rattle.std.proofs.lemmas.List.{take_rest, length-take-le}
 use Rattle.bac_tag.specs.Heads.{Heads}
 use Rattle.bac_tag.specs.Spelling.{IsLeast, HasMark}
 use Rattle.bac_service.specs.Fields.{heading, IsField}
-use Rattle.bac_service.specs.laws.FieldLaws.{field_taken, least_mark}
-use Rattle.bac_service.specs.laws.LongestLaws.{take_add}
+use Rattle.bac_service.specs.Laws.Field.{field_taken, least_mark}
+use Rattle.bac_service.specs.Laws.Longest.{take_add}
 use Rattle.bac_service.proofs.production.field.read_short_field.Goals.{in-None, in-Some}
 use Rattle.bac_service.proofs.production.field.read_short_field.Goals as goal
 

@@ -4,7 +4,7 @@ use Rattle.bac_tag.specs.declared.heads.TagHead.{TagHead}
 use Rattle.bac_tag.specs.Spelling.{IsLeast}
 use Rattle.bac_tag.specs.Heads.{Heads}
 use Rattle.bac_service.specs.Fields.{heading}
-use Rattle.bac_service.specs.laws.FieldLaws.{appends_field}
+use Rattle.bac_service.specs.Laws.Field.{appends_field}
 use Rattle.bac_service.proofs.production.field.write_field.Goals as goal
 
 pub returns-clause-ok : goal.returns-clause-ok

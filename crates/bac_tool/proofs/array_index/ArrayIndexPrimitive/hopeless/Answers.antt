@@ -1,9 +1,9 @@
 use Rattle.std.proofs.Common.{arith, refl, ◌^◌, ◌-◌}
 use Rattle.std.proofs.lemmas.Option.{IfSome_then}
-use Rattle.bac_tag.specs.OctetsLaws.{octets_at}
+use Rattle.bac_tag.specs.Laws.Octets.{octets_at}
 use Rattle.bac_value.specs.Laws.Primitives.{IfNone_then}
 use Rattle.bac_value.specs.Laws.Numbers.{number_begun, number_hopeless}
-use Rattle.bac_tool.specs.ArrayIndexLaws.{array_index_number, array_index_of}
+use Rattle.bac_tool.specs.Laws.ArrayIndex.{array_index_number, array_index_of}
 use Rattle.bac_tool.proofs.array_index.ArrayIndexPrimitive.hopeless.Goals as goal
 
 pub returns-clause-none : goal.returns-clause-none

@@ -1,8 +1,8 @@
 use Rattle.std.proofs.Common.{arith, refl, ◌^◌, ◌-◌}
 use Rattle.std.proofs.lemmas.Result.{err_from_is_err_and}
-use Rattle.bac_tag.specs.OctetsLaws.{octets_at}
+use Rattle.bac_tag.specs.Laws.Octets.{octets_at}
 use Rattle.bac_value.specs.Laws.Numbers.{number_hopeless}
-use Rattle.bac_tool.specs.ArrayIndexLaws.{array_index_number, array_index_of}
+use Rattle.bac_tool.specs.Laws.ArrayIndex.{array_index_number, array_index_of}
 use Rattle.bac_tool.proofs.array_index.ArrayIndexPrimitive.read.Goals as goal
 
 pub returns-in_err-read_number-clause-content : goal.returns-in_err-read_number-clause-content

@@ -1,5 +1,5 @@
 use Rattle.std.proofs.Common.{arith, ◌≡◌, ℕ, sym, subst, length-take, take}
-use Rattle.bac_tag.specs.OctetsLaws.{octets_at}
+use Rattle.bac_tag.specs.Laws.Octets.{octets_at}
 use Rattle.bac_tag.specs.Octets.{IsMark}
 use Rattle.bac_tool.specs.ThinHeader.{SpellsHeader, header_octets}
 use Rattle.bac_tool.proofs.HeaderLemmas.{refused_at, refused_short, front_allowed, found}

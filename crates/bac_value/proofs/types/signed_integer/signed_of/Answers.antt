@@ -4,7 +4,7 @@ use Rattle.std.specs.Int.{w64, from_be_bytes, cast_signed}
 use Rattle.std.specs.Prelude.{FitsSigned}
 use Rattle.std.proofs.lemmas.Int.{to_z-of_z}
 use Rattle.bac_tag.specs.Octets.{IsOctets}
-use Rattle.bac_tag.specs.OctetsLaws.{octets_at}
+use Rattle.bac_tag.specs.Laws.Octets.{octets_at}
 use Rattle.bac_value.specs.Laws.Signed.{widened_low, widened_high}
 use Rattle.bac_value.proofs.types.signed_integer.signed_of.Goals as goal
 

@@ -1,7 +1,7 @@
 use Rattle.std.proofs.Common.{◌∙◌, arith, length-drop}
 use Rattle.std.proofs.lemmas.List.{take_all}
 use Rattle.bac_value.specs.Laws.Signed.{significant_signed_is}
-use Rattle.bac_tag.specs.OctetsLaws.{octets_at}
+use Rattle.bac_tag.specs.Laws.Octets.{octets_at}
 use Rattle.bac_value.proofs.types.signed_integer.significant_signed.Goals as goal
 
 pub returns : goal.returns

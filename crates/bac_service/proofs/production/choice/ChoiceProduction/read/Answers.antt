@@ -1,6 +1,6 @@
-use Rattle.bac_tag.specs.SpellingLaws.{refused_either}
-use Rattle.bac_service.specs.laws.LongestLaws.{either_first}
-use Rattle.bac_service.specs.laws.RefusalLaws.{reach_first, reach_either, reach_taken}
+use Rattle.bac_tag.specs.Laws.Spelling.{refused_either}
+use Rattle.bac_service.specs.Laws.Longest.{either_first}
+use Rattle.bac_service.specs.Laws.Refusal.{reach_first, reach_either, reach_taken}
 use Rattle.bac_service.proofs.production.choice.ChoiceProduction.read.Goals as goal
 
 pub returns-in-Ok-clause-found : goal.returns-in-Ok-clause-found

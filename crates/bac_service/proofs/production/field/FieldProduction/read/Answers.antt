@@ -1,5 +1,5 @@
 use Rattle.std.specs.Prelude.{Some}
-use Rattle.bac_service.specs.laws.FieldLaws.{field_longest, field_reach}
+use Rattle.bac_service.specs.Laws.Field.{field_longest, field_reach}
 use Rattle.bac_service.proofs.production.field.FieldProduction.read.Goals as goal
 
 pub returns-clause-found : goal.returns-clause-found

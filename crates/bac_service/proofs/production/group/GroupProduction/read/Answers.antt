@@ -1,5 +1,5 @@
 use Rattle.std.proofs.lemmas.Result.{err_from_is_err_and}
-use Rattle.bac_service.specs.laws.GroupLaws.{group_sound, group_longest, group_reach, group_refused}
+use Rattle.bac_service.specs.Laws.Group.{group_sound, group_longest, group_reach, group_refused}
 use Rattle.bac_service.specs.ReadFaults.{refused_also}
 use Rattle.bac_service.proofs.production.group.GroupProduction.read.Goals as goal
 

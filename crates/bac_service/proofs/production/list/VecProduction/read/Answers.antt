@@ -4,8 +4,8 @@ use Rattle.bac_tag.specs.Refusals.{farther_of, behind}
 use Rattle.bac_service.specs.Productions.{Items, IsReach}
 use Rattle.bac_service.specs.ReadFaults.{EndsOrGoesOn}
 use Rattle.std.proofs.lemmas.List.{take_rest, map-append}
-use Rattle.bac_service.specs.laws.ProductionLaws.{record_lawful}
-use Rattle.bac_service.specs.laws.ListLaws.{items_start, items_shrink, items_next, items_end, items_ends, items_found}
+use Rattle.bac_service.specs.Laws.Production.{record_lawful}
+use Rattle.bac_service.specs.Laws.List.{items_start, items_shrink, items_next, items_end, items_ends, items_found}
 use Rattle.bac_service.proofs.production.list.VecProduction.read.Goals as goal
 
 pub loop-item-init : goal.loop-item-init

@@ -1,5 +1,5 @@
 use Rattle.std.proofs.Common.{◌-◌, length, map}
-use Rattle.bac_service.specs.laws.ListLaws.{HasItems}
+use Rattle.bac_service.specs.Laws.List.{HasItems}
 use Rattle.bac_service.proofs.production.list.VecProduction.read.Given as goal
 
 abbrev pub invariant-loop-item : goal.invariant-loop-item

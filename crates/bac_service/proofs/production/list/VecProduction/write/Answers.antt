@@ -1,6 +1,6 @@
 use Rattle.std.proofs.Common.{ap, sym, ◌∙◌, map, ◌∷◌, [], ◌++◌, length, take, arith, ◌<◌, ◌≡◌, ◌+◌}
 use Rattle.std.proofs.lemmas.List.{take_more, take_all, map-append}
-use Rattle.bac_service.specs.laws.LeastLaws.{appends_item}
+use Rattle.bac_service.specs.Laws.Least.{appends_item}
 use Rattle.bac_service.proofs.production.list.VecProduction.write.Goals as goal
 
 pub loop-item-preserved : goal.loop-item-preserved

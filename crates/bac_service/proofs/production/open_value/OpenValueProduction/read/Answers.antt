@@ -1,4 +1,4 @@
-use Rattle.bac_service.specs.laws.OpenValueLaws.{open_longest, open_reach, open_mark}
+use Rattle.bac_service.specs.Laws.OpenValue.{open_longest, open_reach, open_mark}
 use Rattle.bac_service.proofs.production.open_value.OpenValueProduction.read.Goals as goal
 
 pub returns-in-Ok-clause-found : goal.returns-in-Ok-clause-found

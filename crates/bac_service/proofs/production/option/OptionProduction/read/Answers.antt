@@ -1,4 +1,4 @@
-use Rattle.bac_service.specs.laws.RefusalLaws.{reach_absent, reach_present}
+use Rattle.bac_service.specs.Laws.Refusal.{reach_absent, reach_present}
 use Rattle.bac_service.proofs.production.option.OptionProduction.read.Goals as goal
 
 pub returns-in-Ok-clause-reach : goal.returns-in-Ok-clause-reach

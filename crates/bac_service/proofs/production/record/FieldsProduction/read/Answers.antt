@@ -1,7 +1,7 @@
 use Rattle.std.proofs.lemmas.Result.{err_from_is_err_and}
 use Rattle.bac_service.specs.ReadFaults.{refused_also}
-use Rattle.bac_service.specs.laws.LeastLaws.{mark_alike}
-use Rattle.bac_service.specs.laws.RecordLaws.{record_refused}
+use Rattle.bac_service.specs.Laws.Least.{mark_alike}
+use Rattle.bac_service.specs.Laws.Record.{record_refused}
 use Rattle.bac_service.proofs.production.record.FieldsProduction.read.Goals as goal
 
 pub returns-in_err-front-clause-refused : goal.returns-in_err-front-clause-refused

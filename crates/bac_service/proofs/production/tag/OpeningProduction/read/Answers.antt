@@ -1,6 +1,6 @@
 use Rattle.bac_tag.specs.declared.heads.TagHead.TheVariants.{Open}
 use Rattle.bac_tag.proofs.WritingLemmas.{some_least}
-use Rattle.bac_service.specs.laws.TagLaws.{number_within, opening_taken, opening_refused, head_mark, tag_reach, tag_longest, short_taken, short_mark}
+use Rattle.bac_service.specs.Laws.Tag.{number_within, opening_taken, opening_refused, head_mark, tag_reach, tag_longest, short_taken, short_mark}
 use Rattle.bac_service.proofs.production.tag.OpeningProduction.read.Goals as goal
 
 pub returns-in-Ok-clause-mark : goal.returns-in-Ok-clause-mark

@@ -1,6 +1,6 @@
 use Rattle.std.proofs.lemmas.List.{map-id}
 use Rattle.std.proofs.lemmas.Result.{on_ok_weaker}
-use Rattle.bac_service.specs.laws.LeastLaws.{appends_joined}
+use Rattle.bac_service.specs.Laws.Least.{appends_joined}
 use Rattle.bac_service.proofs.services.cov_notification.CovNotificationRecord.write_fields.Goals as goal
 
 pub returns-clause-ok : goal.returns-clause-ok

@@ -1,5 +1,5 @@
 use Rattle.std.proofs.lemmas.Result.{on_ok_weaker}
-use Rattle.bac_service.specs.laws.LeastLaws.{appends_joined}
+use Rattle.bac_service.specs.Laws.Least.{appends_joined}
 use Rattle.bac_service.proofs.services.error_cause.ErrorCauseRecord.write_fields.Goals as goal
 
 pub returns-clause-ok : goal.returns-clause-ok

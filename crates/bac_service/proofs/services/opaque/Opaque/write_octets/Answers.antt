@@ -1,7 +1,7 @@
 use Rattle.std.proofs.Common.{◌≡◌, List, ◌++◌, ℕ, ◌∙◌, ap, subst, arith}
 use Rattle.bac_tag.specs.Octets.{IsOctets}
-use Rattle.bac_tag.specs.OctetsLaws.{octets_back}
-use Rattle.bac_service.specs.laws.ServiceLaws.{no_row, octets_held, appends_opaque}
+use Rattle.bac_tag.specs.Laws.Octets.{octets_back}
+use Rattle.bac_service.specs.Laws.Service.{no_row, octets_held, appends_opaque}
 use Rattle.bac_service.proofs.services.opaque.Opaque.write_octets.Goals as goal
 
 pub returns-in_err-extend_from_slice-clause-placed : goal.returns-in_err-extend_from_slice-clause-placed

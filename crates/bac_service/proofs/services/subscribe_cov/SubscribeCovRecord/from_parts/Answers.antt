@@ -1,4 +1,4 @@
-use Rattle.bac_service.specs.laws.SubscribeCovLaws.{subscribe_cov_alike}
+use Rattle.bac_service.specs.Laws.SubscribeCov.{subscribe_cov_alike}
 use Rattle.bac_service.proofs.services.subscribe_cov.SubscribeCovRecord.from_parts.Goals as goal
 
 pub returns : goal.returns

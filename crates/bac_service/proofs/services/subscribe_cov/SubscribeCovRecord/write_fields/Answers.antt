@@ -1,6 +1,6 @@
 use Rattle.std.proofs.lemmas.Result.{on_ok_weaker}
-use Rattle.bac_service.specs.laws.LeastLaws.{appends_joined, appends_alike}
-use Rattle.bac_service.specs.laws.SubscribeCovLaws.{bits_alike}
+use Rattle.bac_service.specs.Laws.Least.{appends_joined, appends_alike}
+use Rattle.bac_service.specs.Laws.SubscribeCov.{bits_alike}
 use Rattle.bac_service.proofs.services.subscribe_cov.SubscribeCovRecord.write_fields.Goals as goal
 
 pub returns-clause-ok : goal.returns-clause-ok

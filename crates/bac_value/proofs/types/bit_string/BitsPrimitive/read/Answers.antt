@@ -1,7 +1,7 @@
 use Rattle.std.proofs.Common.{arith, ◌≡◌, ◌+◌, ◌*◌, ◌/◌, ◌^◌, ◌≤◌, ◌<◌, ℕ, List, length, get_or, sym, subst, ap}
 use Rattle.bac_tag.specs.Octets.{IsOctets}
 use Rattle.bac_value.specs.Primitives.{IsBegun}
-use Rattle.bac_tag.specs.OctetsLaws.{octets_at}
+use Rattle.bac_tag.specs.Laws.Octets.{octets_at}
 use Rattle.bac_value.specs.Laws.Primitives.{hopeless_none, some_octets}
 use Rattle.bac_value.specs.BitsContents.{BitsContents, IsLeastBits, CountsUnused, bits_of}
 use Rattle.bac_value.specs.Laws.Bits.{bits_counts, cleared_is}

@@ -1,5 +1,5 @@
 use Rattle.std.proofs.Common.{arith}
-use Rattle.bac_tag.specs.OctetsLaws.{octets_at}
+use Rattle.bac_tag.specs.Laws.Octets.{octets_at}
 use Rattle.bac_value.specs.Laws.Double.{double_found}
 use Rattle.bac_value.proofs.types.double.DoubleBitsPrimitive.read.Goals as goal
 

@@ -1,6 +1,6 @@
 use Rattle.std.proofs.Common.{◌≡◌, ◌≤◌, ◌⊎◌, ◌+◌, ◌∙◌, ap, arith, length}
 use Rattle.std.specs.Prelude.{min}
-use Rattle.bac_tag.specs.OctetsLaws.{octets_at}
+use Rattle.bac_tag.specs.Laws.Octets.{octets_at}
 use Rattle.bac_value.specs.Laws.Primitives.{IfNone_then}
 use Rattle.bac_value.specs.Laws.Enumerated.{four_begun, front_zeros, all_or_but_four, looked_place}
 use Rattle.bac_value.proofs.types.enumeration.EnumeratedPrimitive.hopeless.Goals as goal

@@ -1,6 +1,6 @@
 use Rattle.std.proofs.Common.{ℕ, arith, refl}
 use Rattle.std.proofs.lemmas.Option.{IfSome_then}
-use Rattle.bac_tag.specs.OctetsLaws.{octets_at}
+use Rattle.bac_tag.specs.Laws.Octets.{octets_at}
 use Rattle.bac_value.specs.Laws.Primitives.{IfNone_then}
 use Rattle.bac_value.specs.Laws.Numbers.{number_begun, number_hopeless}
 use Rattle.bac_value.proofs.types.instance.InstancePrimitive.hopeless.Goals as goal

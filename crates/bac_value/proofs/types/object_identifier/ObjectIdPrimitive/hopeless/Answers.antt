@@ -1,5 +1,5 @@
 use Rattle.std.proofs.Common.{arith, ◌≡◌, subst}
-use Rattle.bac_tag.specs.OctetsLaws.{octets_at, zeros_to, octets_filled, length-filled}
+use Rattle.bac_tag.specs.Laws.Octets.{octets_at, zeros_to, octets_filled, length-filled}
 use Rattle.bac_value.specs.Primitives.{IsTheList, IsBegun}
 use Rattle.bac_value.specs.Identifier.{IsIdentifier, identifier_octets}
 use Rattle.bac_value.specs.Laws.Identifier.{identifier_begun}

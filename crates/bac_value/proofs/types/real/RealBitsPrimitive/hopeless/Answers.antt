@@ -1,5 +1,5 @@
 use Rattle.std.proofs.Common.{arith}
-use Rattle.bac_tag.specs.OctetsLaws.{octets_at, zeros_to, octets_filled, length-filled}
+use Rattle.bac_tag.specs.Laws.Octets.{octets_at, zeros_to, octets_filled, length-filled}
 use Rattle.bac_value.specs.Laws.Real.{real_begun}
 use Rattle.bac_value.proofs.types.real.RealBitsPrimitive.hopeless.Goals as goal
 

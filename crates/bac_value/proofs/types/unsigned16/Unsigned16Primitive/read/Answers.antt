@@ -1,6 +1,6 @@
 use Rattle.std.proofs.Common.{arith, refl, ◌^◌, ◌-◌}
 use Rattle.std.proofs.lemmas.Result.{err_from_is_err_and}
-use Rattle.bac_tag.specs.OctetsLaws.{octets_at}
+use Rattle.bac_tag.specs.Laws.Octets.{octets_at}
 use Rattle.bac_value.specs.Laws.Numbers.{number_hopeless}
 use Rattle.bac_value.specs.Laws.Bounded.{unsigned16_number, unsigned16_of}
 use Rattle.bac_value.proofs.types.unsigned16.Unsigned16Primitive.read.Goals as goal

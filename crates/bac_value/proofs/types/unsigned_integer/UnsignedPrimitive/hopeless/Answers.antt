@@ -1,5 +1,5 @@
 use Rattle.std.proofs.Common.{arith}
-use Rattle.bac_tag.specs.OctetsLaws.{octets_at}
+use Rattle.bac_tag.specs.Laws.Octets.{octets_at}
 use Rattle.bac_value.specs.Laws.Unsigned.{unsigned_begun}
 use Rattle.bac_value.proofs.types.unsigned_integer.UnsignedPrimitive.hopeless.Goals as goal
 

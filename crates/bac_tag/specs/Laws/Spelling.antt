@@ -9,7 +9,7 @@ use Rattle.bac_tag.specs.declared.refusals.Why.TheVariants.{Short}
 use Rattle.std.specs.Prelude.{slice_get, nat_eq, nat_lt, cond, ◌&&◌, Bool, true, false}
 use Rattle.bac_tag.specs.Refusals.{weight_of, farther_of}
 use Rattle.bac_tag.specs.Octets.{FirstDifference}
-use Rattle.bac_tag.specs.OctetsLaws.{NoGreater-antisym, NoGreater-append}
+use Rattle.bac_tag.specs.Laws.Octets.{NoGreater-antisym, NoGreater-append}
 use Rattle.bac_tag.specs.Spelling.{IsLeast, IsViable, NoFront, EndsItself, IsRefusal, JoinedBy, IsPartway, CanFollow, OneOf}
 
 -- Of two ways to split a list one has the longer first part, which begins with the other's.

@@ -5,10 +5,10 @@ use Rattle.std.proofs.lemmas.List.{append_cancel_left, append-nil, take-append-d
 use Rattle.std.proofs.lemmas.Bool.{and_parts}
 use Rattle.bac_tag.specs.Spelling.{NoFront, EndsItself, OneOf, Takes, Joined}
 use Rattle.bac_service.specs.Leads.{Lead, disjoint, BeginsIn}
-use Rattle.bac_service.specs.laws.LeadLaws.{begins_apart, begins_more, begins_not_nil}
+use Rattle.bac_service.specs.Laws.Lead.{begins_apart, begins_more, begins_not_nil}
 use Rattle.bac_service.specs.Productions.{Items, Aligned, Lawful, IsLongest}
 use Rattle.bac_service.specs.Productions.Aligned.{same, shorter, longer}
-use Rattle.bac_service.specs.laws.ProductionLaws.{begun, sound_parts, items_lawful, not_empty, one_never, one_lawful}
+use Rattle.bac_service.specs.Laws.Production.{begun, sound_parts, items_lawful, not_empty, one_never, one_lawful}
 
 no_length : (l : List ℕ) → length l ≡ 0 → l ≡ []
 no_length [] e = refl

@@ -3,11 +3,11 @@ use Rattle.std.specs.Prelude.{◌≡◌, ◌↔◌, ℕ, ◌+◌, ◌≤◌, Lis
 use Rattle.std.proofs.Common.{sym, ◌∙◌, ap, subst, append_assoc}
 use Rattle.std.proofs.lemmas.List.{append-nil, length-take-le}
 use Rattle.bac_tag.specs.Octets.{NoGreater, joined_mark}
-use Rattle.bac_tag.specs.OctetsLaws.{NoGreater-append, NoGreater-same, mark-append}
+use Rattle.bac_tag.specs.Laws.Octets.{NoGreater-append, NoGreater-same, mark-append}
 use Rattle.bac_tag.specs.Spelling.{IsLeast, Joins, HasMark, AppendsLeast}
 use Rattle.bac_data.specs.Writing.{Appends}
 use Rattle.bac_service.specs.Productions.{Items}
-use Rattle.bac_service.specs.laws.LongestLaws.{take_add}
+use Rattle.bac_service.specs.Laws.Longest.{take_add}
 
 -- ---- the least list
 

@@ -6,12 +6,12 @@ use Rattle.bac_tag.specs.Spelling.{HasMark, IsWholeRefusal}
 use Rattle.bac_service.specs.declared.kind.Kind.{Kind}
 use Rattle.bac_service.specs.declared.service.Service.{Service}
 use Rattle.bac_service.specs.Reasons.{IsServiceReason}
-use Rattle.bac_service.specs.laws.WholeLaws.{whole_alike}
-use Rattle.bac_service.specs.laws.LeastLaws.{mark_alike}
+use Rattle.bac_service.specs.Laws.Whole.{whole_alike}
+use Rattle.bac_service.specs.Laws.Least.{mark_alike}
 use Rattle.bac_service.specs.ServiceTable.{is_small}
 use Rattle.bac_service.specs.ServiceValues.{value_of}
 use Rattle.bac_service.specs.Services.{SpellsService}
-use Rattle.bac_service.specs.laws.ServiceLaws.{IsServiceOf}
+use Rattle.bac_service.specs.Laws.Service.{IsServiceOf}
 use Rattle.bac_service.specs.Decoded.{IsFound, IsRefused}
 
 -- what is found of a part is found of its service

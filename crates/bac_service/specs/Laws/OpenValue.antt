@@ -13,12 +13,12 @@ use Rattle.bac_data.proofs.ValueLemmas.{least_open_value}
 use Rattle.bac_data.proofs.OpenLemmas.{open_ends}
 use Rattle.bac_service.specs.Leads as lead
 use Rattle.bac_service.specs.Leads.{BeginsIn}
-use Rattle.bac_service.specs.laws.LeadLaws.{head_begins}
+use Rattle.bac_service.specs.Laws.Lead.{head_begins}
 use Rattle.bac_service.specs.Productions.{Lawful, IsInhabited, IsLongest, IsReach}
-use Rattle.bac_service.specs.laws.ProductionLaws.{leaf_lawful}
-use Rattle.bac_service.specs.laws.LongestLaws.{leaf_longest}
-use Rattle.bac_service.specs.laws.RefusalLaws.{leaf_reach}
-use Rattle.bac_service.specs.laws.TagLaws.{number_within}
+use Rattle.bac_service.specs.Laws.Production.{leaf_lawful}
+use Rattle.bac_service.specs.Laws.Longest.{leaf_longest}
+use Rattle.bac_service.specs.Laws.Refusal.{leaf_reach}
+use Rattle.bac_service.specs.Laws.Tag.{number_within}
 
 -- ---- the laws
 

@@ -3,14 +3,14 @@ use Rattle.std.specs.Prelude.{ℕ, List, [], ◌∷◌, ◌++◌, Bool, ◌&&◌
 use Rattle.bac_tag.specs.declared.refusals.Refusal.{Refusal}
 use Rattle.bac_tag.specs.declared.heads.TagHead.TheVariants.{Open, Close}
 use Rattle.bac_tag.specs.Spelling.{IsRefusal, Joined}
-use Rattle.bac_tag.specs.SpellingLaws.{refused_alike}
+use Rattle.bac_tag.specs.Laws.Spelling.{refused_alike}
 use Rattle.bac_service.specs.Leads.{Lead, closing, disjoint, and_where}
-use Rattle.bac_service.specs.laws.LeadLaws.{disjoint_nil}
+use Rattle.bac_service.specs.Laws.Lead.{disjoint_nil}
 use Rattle.bac_service.specs.Productions.{Grouped, IsInhabited, IsLongest, IsReach}
-use Rattle.bac_service.specs.laws.ProductionLaws.{Head, sound_parts}
-use Rattle.bac_service.specs.laws.LongestLaws.{longest_alike}
-use Rattle.bac_service.specs.laws.RefusalLaws.{reach_alike}
-use Rattle.bac_service.specs.laws.TagLaws.{opening_inhabited, closing_inhabited}
+use Rattle.bac_service.specs.Laws.Production.{Head, sound_parts}
+use Rattle.bac_service.specs.Laws.Longest.{longest_alike}
+use Rattle.bac_service.specs.Laws.Refusal.{reach_alike}
+use Rattle.bac_service.specs.Laws.Tag.{opening_inhabited, closing_inhabited}
 
 pub group_inhabited : {V : Type 0} {S : V → List ℕ → Type 0} (cs : List Lead) (n : ℕ) (a : Bool) → (IsTrue a → IsInhabited S) → IsTrue (nat_le n 254 && (a && disjoint (closing n ∷ []) cs)) → IsInhabited (Grouped n S)
 group_inhabited {S} cs n a I h =

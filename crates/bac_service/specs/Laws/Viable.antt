@@ -1,7 +1,7 @@
 -- What begins a spelling of two parts.
 use Rattle.std.specs.Prelude.{◌↔◌, ◌⊎◌, ℕ, List}
 use Rattle.bac_tag.specs.Spelling.{IsViable, IsPartway, Joined}
-use Rattle.bac_tag.specs.SpellingLaws.{viable-JoinedBy}
+use Rattle.bac_tag.specs.Laws.Spelling.{viable-JoinedBy}
 use Rattle.bac_service.specs.Productions.{IsInhabited}
 
 module _ {V W : Type 0} (S : V → List ℕ → Type 0) (T : W → List ℕ → Type 0) where

@@ -2,7 +2,7 @@
 use Rattle.std.specs.Prelude.{ℕ, List}
 use Rattle.bac_tag.specs.declared.refusals.Refusal.{Refusal}
 use Rattle.bac_tag.specs.Spelling.{IsRefusal}
-use Rattle.bac_tag.specs.SpellingLaws.{refused_alike}
+use Rattle.bac_tag.specs.Laws.Spelling.{refused_alike}
 use Rattle.bac_service.specs.Productions.{IsRecordOf, IsInhabited}
 
 module _ {V W : Type 0} {S : W → List ℕ → Type 0} {T : V → List ℕ → Type 0} (R : IsRecordOf S T) where

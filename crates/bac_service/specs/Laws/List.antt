@@ -7,13 +7,13 @@ use Rattle.bac_tag.specs.Refusals.{farther_of, behind}
 use Rattle.bac_tag.specs.Spelling.{IsRefusal, HasMark}
 use Rattle.bac_service.specs.Leads.{Lead, disjoint}
 use Rattle.bac_service.specs.Productions.{Items, Lawful, IsInhabited, IsLongest, IsReach}
-use Rattle.bac_service.specs.laws.ProductionLaws.{sound_parts, not_empty}
-use Rattle.bac_service.specs.laws.LongestLaws.{IsSoFar, some_taken, so_far_start, so_far_end, list_more, take_add}
-use Rattle.bac_service.specs.laws.ReachLaws.{IsReachSoFar, reach_start}
-use Rattle.bac_service.specs.laws.RefusalLaws.{farther_is, reach_taken, reach_item, reach_items, reach_so_far}
+use Rattle.bac_service.specs.Laws.Production.{sound_parts, not_empty}
+use Rattle.bac_service.specs.Laws.Longest.{IsSoFar, some_taken, so_far_start, so_far_end, list_more, take_add}
+use Rattle.bac_service.specs.Laws.Reach.{IsReachSoFar, reach_start}
+use Rattle.bac_service.specs.Laws.Refusal.{farther_is, reach_taken, reach_item, reach_items, reach_so_far}
 use Rattle.bac_service.specs.Reasons.{IsPartReason, IsReachReason, part_trails}
 use Rattle.bac_service.specs.ReadFaults.{EndsOrGoesOn}
-use Rattle.bac_service.specs.laws.LeastLaws.{mark_nothing, mark_item}
+use Rattle.bac_service.specs.Laws.Least.{mark_nothing, mark_item}
 use Rattle.std.proofs.Common.{sym, subst, inl, inr, arith, length-drop}
 use Rattle.std.proofs.lemmas.List.{length-take-le}
 

@@ -7,22 +7,22 @@ use Rattle.bac_tag.specs.declared.refusals.Refusal.{Refusal}
 use Rattle.bac_tag.specs.declared.heads.TagHead.{TagHead}
 use Rattle.bac_tag.specs.declared.heads.TagHead.TheVariants.{App, AppBool, Ctx, Open, Close}
 use Rattle.bac_tag.specs.Octets.{NoGreater, FirstDifference, IsMark, joined_mark}
-use Rattle.bac_tag.specs.OctetsLaws.{NoGreater-append, mark-append, mark_first, mark_by}
+use Rattle.bac_tag.specs.Laws.Octets.{NoGreater-append, mark-append, mark_first, mark_by}
 use Rattle.bac_tag.specs.declared.refusals.Why.TheVariants.{Short}
 use Rattle.bac_tag.specs.Spelling.{EndsItself, IsLeast, IsFurthest, IsRefusal, Takes, JoinedBy, HasMark, AppendsLeast}
-use Rattle.bac_tag.specs.SpellingLaws.{refused_first, refused_second, refused_alike}
+use Rattle.bac_tag.specs.Laws.Spelling.{refused_first, refused_second, refused_alike}
 use Rattle.bac_tag.specs.Heads.{Heads, IsValid}
-use Rattle.bac_tag.specs.HeadsLaws.{heads_end}
+use Rattle.bac_tag.specs.Laws.Heads.{heads_end}
 use Rattle.bac_tag.specs.Expected.{Fits, ExpectedHeads}
 use Rattle.bac_tag.proofs.WritingLemmas.{some_least, app_grows, ctx_grows}
 use Rattle.bac_value.specs.Primitives.{IsBegun, OfSize}
 use Rattle.bac_service.specs.Leads.{Lead, application, context, BeginsIn}
-use Rattle.bac_service.specs.laws.LeadLaws.{head_begins}
+use Rattle.bac_service.specs.Laws.Lead.{head_begins}
 use Rattle.bac_service.specs.Fields.{heading, expected_heading, IsHeading, IsField}
-use Rattle.bac_service.specs.laws.LongestLaws.{take_add, leaf_longest}
+use Rattle.bac_service.specs.Laws.Longest.{take_add, leaf_longest}
 use Rattle.bac_service.specs.Productions.{Lawful, IsLongest, IsReach, IsInhabited}
-use Rattle.bac_service.specs.laws.ProductionLaws.{leaf_lawful}
-use Rattle.bac_service.specs.laws.RefusalLaws.{leaf_reach}
+use Rattle.bac_service.specs.Laws.Production.{leaf_lawful}
+use Rattle.bac_service.specs.Laws.Refusal.{leaf_reach}
 
 -- ---- heads of fields
 

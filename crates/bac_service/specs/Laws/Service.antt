@@ -7,14 +7,14 @@ use Rattle.std.proofs.Common.{length, get_or, sym, ◌∙◌, ap, subst, lit<}
 use Rattle.std.proofs.lemmas.List.Elements.{recursion_from_All, All-from_get_or}
 use Rattle.std.proofs.lemmas.Map.Made.{is_some-lookup}
 use Rattle.bac_tag.specs.Octets.{IsOctets}
-use Rattle.bac_tag.specs.OctetsLaws.{NoGreater-same}
+use Rattle.bac_tag.specs.Laws.Octets.{NoGreater-same}
 use Rattle.bac_tag.specs.Spelling.{IsLeast, AppendsLeast}
 use Rattle.bac_service.specs.declared.kind.Kind.{Kind}
 use Rattle.bac_service.specs.declared.kind.Kind.TheVariants.{Error}
 use Rattle.bac_service.specs.ServiceTable.{ServiceProduction, write_property_multiple_error, cov_notification, service_error, production_of, is_small}
 use Rattle.bac_service.specs.ServiceValues.{SaidBy, Said, ServiceValue, typed, opaque, notification_kind, notification_choice}
 use Rattle.bac_service.specs.Services.{SpellsBy, SpellsSaid, SpellsService, IsPlaced}
-use Rattle.bac_service.specs.laws.LeastLaws.{least_alike}
+use Rattle.bac_service.specs.Laws.Least.{least_alike}
 use Rattle.bac_service.specs.Productions.{HasLeast}
 
 -- ---- the rows

@@ -4,13 +4,13 @@ use Rattle.std.proofs.Common.{sym, ◌∙◌, ap, subst, inl, inr, arith, append
 use Rattle.std.proofs.lemmas.List.{append_cancel_left, append-nil, take-append-drop, length-append, length-drop, length-take-le, nil_from_length, drop-drop}
 use Rattle.std.proofs.lemmas.Bool.{cases_lt}
 use Rattle.bac_tag.specs.Spelling.{NoFront, IsViable, IsFurthest, Joined}
-use Rattle.bac_tag.specs.SpellingLaws.{viable_front}
+use Rattle.bac_tag.specs.Laws.Spelling.{viable_front}
 use Rattle.bac_service.specs.Leads.{Lead, disjoint, BeginsIn}
-use Rattle.bac_service.specs.laws.LeadLaws.{begins_apart, begins_more, begins_not_nil}
+use Rattle.bac_service.specs.Laws.Lead.{begins_apart, begins_more, begins_not_nil}
 use Rattle.bac_service.specs.Productions.{Optional, Items, Aligned, Lawful, IsInhabited, IsLongest}
 use Rattle.bac_service.specs.Productions.Aligned.{same, shorter, longer}
-use Rattle.bac_service.specs.laws.ProductionLaws.{sound_parts, items_lawful}
-use Rattle.bac_service.specs.laws.LongestLaws.{take_add, IsSoFar, items_snoc}
+use Rattle.bac_service.specs.Laws.Production.{sound_parts, items_lawful}
+use Rattle.bac_service.specs.Laws.Longest.{take_add, IsSoFar, items_snoc}
 
 -- two ways to cut one list
 pub cut : (q t f b : List ℕ) → q ++ t ≡ f ++ b → ((z : List ℕ) × (f ≡ q ++ z)) ⊎ ((z : List ℕ) × (q ≡ f ++ z) × (b ≡ z ++ t))

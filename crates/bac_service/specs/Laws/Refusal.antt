@@ -8,13 +8,13 @@ use Rattle.bac_tag.specs.declared.refusals.Why.{Why}
 use Rattle.bac_tag.specs.declared.refusals.Why.TheVariants.{Short}
 use Rattle.bac_tag.specs.Refusals.{weight_of, farther_of, behind}
 use Rattle.bac_tag.specs.Spelling.{EndsItself, IsViable, IsFurthest, IsRefusal, Takes, OneOf, Joined}
-use Rattle.bac_tag.specs.SpellingLaws.{viable_front, viable-OneOf}
+use Rattle.bac_tag.specs.Laws.Spelling.{viable_front, viable-OneOf}
 use Rattle.bac_service.specs.Leads.{Lead, disjoint, BeginsIn}
-use Rattle.bac_service.specs.laws.LeadLaws.{begins_apart, begins_more}
+use Rattle.bac_service.specs.Laws.Lead.{begins_apart, begins_more}
 use Rattle.bac_service.specs.Productions.{Optional, Items, Lawful, IsInhabited, IsLongest, IsReach}
-use Rattle.bac_service.specs.laws.ProductionLaws.{begun, sound_parts, not_empty}
-use Rattle.bac_service.specs.laws.LongestLaws.{IsSoFar, none_first, pair_none}
-use Rattle.bac_service.specs.laws.ReachLaws.{pair_reach, pair_first, pair_inhabited, furthest_absent, furthest_present, IsReachSoFar, reach_end, reach_more}
+use Rattle.bac_service.specs.Laws.Production.{begun, sound_parts, not_empty}
+use Rattle.bac_service.specs.Laws.Longest.{IsSoFar, none_first, pair_none}
+use Rattle.bac_service.specs.Laws.Reach.{pair_reach, pair_first, pair_inhabited, furthest_absent, furthest_present, IsReachSoFar, reach_end, reach_more}
 
 -- Of two refusals one is the farther, and it came as far as the other.
 pub farther_is : (r s : Refusal) → ((farther_of r s ≡ r) × (s.place ≤ r.place)) ⊎ ((farther_of r s ≡ s) × (r.place ≤ s.place))

@@ -6,10 +6,10 @@ use Rattle.std.proofs.lemmas.Bool.{and_parts, not-true}
 use Rattle.bac_tag.specs.declared.heads.TagHead.{TagHead}
 use Rattle.bac_tag.specs.declared.heads.TagHead.TheVariants.{Open, Close}
 use Rattle.bac_tag.specs.Heads.{Heads}
-use Rattle.bac_tag.specs.HeadsLaws.{heads_end}
+use Rattle.bac_tag.specs.Laws.Heads.{heads_end}
 use Rattle.bac_tag.specs.Spelling.{EndsItself, OneOf, Joined}
 use Rattle.bac_service.specs.Leads.{Lead, opening, closing, lead_of, disjoint, and_where, BeginsIn}
-use Rattle.bac_service.specs.laws.LeadLaws.{begins_apart, begins_more, begins_not_nil, begins_first, begins_also, head_begins, disjoint_nil}
+use Rattle.bac_service.specs.Laws.Lead.{begins_apart, begins_more, begins_not_nil, begins_first, begins_also, head_begins, disjoint_nil}
 use Rattle.bac_service.specs.Productions.{Optional, Items, Grouped, IsRecordOf, Aligned, Lawful}
 use Rattle.bac_service.specs.Productions.Aligned.{same, shorter, longer}
 

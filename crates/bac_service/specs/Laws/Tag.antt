@@ -9,16 +9,16 @@ use Rattle.bac_tag.specs.declared.expecting.Expected.TheVariants as expected
 use Rattle.bac_tag.specs.Octets.{IsMark}
 use Rattle.bac_tag.specs.declared.refusals.Why.TheVariants.{Short}
 use Rattle.bac_tag.specs.Spelling.{IsLeast, IsFurthest, IsRefusal, Takes, HasMark}
-use Rattle.bac_tag.specs.HeadsLaws.{heads_end}
-use Rattle.bac_tag.specs.SpellingLaws.{refused_alike}
+use Rattle.bac_tag.specs.Laws.Heads.{heads_end}
+use Rattle.bac_tag.specs.Laws.Spelling.{refused_alike}
 use Rattle.bac_tag.specs.Heads.{Heads}
 use Rattle.bac_tag.specs.Short.{BeginsShort}
 use Rattle.bac_tag.specs.Expected.{ExpectedHeads}
 use Rattle.bac_tag.proofs.WritingLemmas.{some_least}
 use Rattle.bac_service.specs.Productions.{IsInhabited, IsLongest, IsReach}
-use Rattle.bac_service.specs.laws.LongestLaws.{leaf_longest}
-use Rattle.bac_service.specs.laws.RefusalLaws.{leaf_reach}
-use Rattle.bac_service.specs.laws.ProductionLaws.{Head}
+use Rattle.bac_service.specs.Laws.Longest.{leaf_longest}
+use Rattle.bac_service.specs.Laws.Refusal.{leaf_reach}
+use Rattle.bac_service.specs.Laws.Production.{Head}
 
 pub number_within : (n : ℕ) → IsTrue (nat_le n 254) → n ≤ 254
 number_within n h = leb-true n 254 h

@@ -10,9 +10,9 @@ use Rattle.bac_tag.proofs.WritingLemmas.{some_least}
 use Rattle.bac_data.specs.Spells.{SpellsOpen}
 use Rattle.bac_data.proofs.ValueLemmas.{least_open_value}
 use Rattle.bac_service.specs.Fields.{heading, IsHeading, IsField}
-use Rattle.bac_service.specs.laws.FieldLaws.{heading_least, least_field}
-use Rattle.bac_service.specs.laws.LeastLaws.{least_joined, least_alike, least_nothing}
-use Rattle.bac_service.specs.laws.ProductionLaws.{Head}
+use Rattle.bac_service.specs.Laws.Field.{heading_least, least_field}
+use Rattle.bac_service.specs.Laws.Least.{least_joined, least_alike, least_nothing}
+use Rattle.bac_service.specs.Laws.Production.{Head}
 use Rattle.bac_service.specs.Productions.{Optional, Items, Grouped, IsRecordOf, HasLeast}
 
 pub tag_least : (head : TagHead) → LengthFits head → HasLeast (Head head)

@@ -7,7 +7,7 @@ use Rattle.bac_tag.specs.declared.refusals.Refusal.{Refusal}
 use Rattle.bac_tag.specs.declared.refusals.Why.TheVariants.{Short, Trailing}
 use Rattle.bac_tag.specs.Spelling.{IsFurthest, IsRefusal, IsWholeRefusal}
 use Rattle.bac_service.specs.Productions.{IsLongest, IsReach}
-use Rattle.bac_service.specs.laws.RefusalLaws.{reach_taken, reach_alike}
+use Rattle.bac_service.specs.Laws.Refusal.{reach_taken, reach_alike}
 
 -- what spells the same lists is refused alike
 pub whole_alike : {V W : Type 0} (S : V → List ℕ → Type 0) (T : W → List ℕ → Type 0) (input : List ℕ) (r : Refusal) → ((v : V) (b : List ℕ) → S v b → (w : W) × T w b) → ((w : W) (b : List ℕ) → T w b → (v : V) × S v b)

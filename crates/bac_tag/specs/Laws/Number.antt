@@ -10,7 +10,7 @@ use Rattle.bac_tag.specs.Octets.{IsOctets}
 use Rattle.bac_tag.specs.Number.{number, BeginsNumber}
 use Rattle.std.proofs.lemmas.Int.Digits.{number_more}
 use Rattle.std.proofs.Common.{length-take}
-use Rattle.bac_tag.specs.OctetsLaws.{octets_at, octets_take}
+use Rattle.bac_tag.specs.Laws.Octets.{octets_at, octets_take}
 
 -- as many octets behind two numbers that give one number are the same, and so are the two
 after_same : (m n : ℕ) (a b : List ℕ) → IsOctets a → IsOctets b → length a ≡ length b → number_from_digits_after 256 m a ≡ number_from_digits_after 256 n b → (m ≡ n) × (a ≡ b)
