@@ -1,5 +1,5 @@
 //! The program `bac_bench`: how long reading, marking and writing values takes, beside a plain copy of the same
-//! octets in the same run, and how many services are decoded, marked and encoded in a second.
+//! octets in the same run, how many services are decoded, marked and encoded in a second, and how many APDUs.
 //!
 //! Without a word it does each piece of work once and prints what is the same in every run; with the word
 //! `time` it measures, and prints a table.
@@ -7,6 +7,7 @@
 
 ghost use Rattle.std.specs.Prelude.{◌≡◌, IfOk, vec_len};
 
+mod apdus;
 mod cases;
 mod faults;
 mod modes;
@@ -14,6 +15,7 @@ mod rounds;
 mod services;
 mod tables;
 
+use apdus::Pdu;
 use bac_data::Any;
 use bac_service::Kind;
 use bac_value::{Bits, Octets, Text};
@@ -53,7 +55,8 @@ fn run(rt: &(impl Print + AllocGlobal + Env + Clock)) -> Result<(), BenchFault> 
         let short = short_primitives(rt.alloc(), repetitions)?;
         tables::add::<Any>(rt, mode, "open, short values", &short)?;
     }
-    run_services(rt, mode)
+    run_services(rt, mode)?;
+    run_apdus(rt, mode)
 }
 
 /// ReadProperty and ReadProperty-ACK, WriteProperty with a group in its value, and three services that hold numbers
@@ -125,6 +128,39 @@ fn run_services(rt: &(impl Print + AllocGlobal + Clock), mode: Mode) -> Result<(
         octets: &values,
     };
     services::add(rt, mode, &notification)
+}
+
+/// A request to read a property, an answer with twenty results, and a segment of a request.
+fn run_apdus(rt: &(impl Print + AllocGlobal + Clock), mode: Mode) -> Result<(), BenchFault> {
+    apdus::begin(rt, mode)?;
+    let request = Pdu {
+        name: "ReadProperty",
+        octets: &[0, 5, 1, 0x0C, 0x0C, 0, 0, 0, 5, 0x19, 0x55],
+        kind: Kind::Confirmed,
+        choice: 12,
+        head: 4,
+    };
+    apdus::add(rt, mode, &request)?;
+    let mut octets = Vec::from_slice(rt.alloc(), &[0x30, 1, 14])?;
+    octets.extend_from_slice(&twenty_results(rt.alloc())?)?;
+    let answer = Pdu {
+        name: "ReadPropertyMultiple-ACK",
+        octets: &octets,
+        kind: Kind::ComplexAck,
+        choice: 14,
+        head: 3,
+    };
+    apdus::add(rt, mode, &answer)?;
+    let mut octets = Vec::from_slice(rt.alloc(), &[0x0C, 5, 1, 0, 16, 200])?;
+    octets.extend_from_slice(&contents(rt.alloc(), 480)?)?;
+    let segment = Pdu {
+        name: "segment, opaque service",
+        octets: &octets,
+        kind: Kind::Confirmed,
+        choice: 200,
+        head: 6,
+    };
+    apdus::add(rt, mode, &segment)
 }
 
 /// A ReadPropertyMultiple-ACK of one object with twenty results, a Real each.

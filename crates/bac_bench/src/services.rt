@@ -11,7 +11,7 @@ use std::rt::Clock;
 use std::time::Duration;
 
 /// A piece of work does so many messages, since one takes too short a time to be told.
-const BATCH: usize = 1_000;
+pub const BATCH: usize = 1_000;
 
 /// A service as it arrives.
 #[derive(Drop)]
@@ -62,7 +62,7 @@ fn encoded(alloc: Global, service: &Service) -> Result<Vec<u8>, BenchFault> {
 }
 
 /// The octets of a batch of messages.
-fn batch_of(alloc: Global, octets: &[u8]) -> Result<Vec<u8>, BenchFault> {
+pub fn batch_of(alloc: Global, octets: &[u8]) -> Result<Vec<u8>, BenchFault> {
     let mut batch = Vec::new(alloc);
     for _ in 0..BATCH {
         batch.extend_from_slice(octets)?;
@@ -108,6 +108,6 @@ pub fn add(
 }
 
 /// Messages a second.
-fn speed(took: Duration) -> f64 {
+pub fn speed(took: Duration) -> f64 {
     nearest_usize_to_f64(BATCH) / took.as_secs_f64()
 }
