@@ -98,17 +98,20 @@ nothing_refused [] lt = record {
 }
 nothing_refused (o ∷ b) lt = absurd (omega arith)
 
+not_none : (o : Option ℕ) (n : ℕ) → o ≡ None → o ≡ Some n → ⊥
+not_none o n e f = let i : Some n ≡ None = sym f ∙ e in cc
+
 not_zero : (n : ℕ) → Some (suc n) ≡ Some 0 → ⊥
 not_zero n e = let i : suc n ≡ 0 = (let j : Some (suc n) ≡ Some 0 = e in cc) in omega (arith, i)
 
 -- a window is never the first octet
 first_is_none : (a b c g : Bool) → cond {A = Option ℕ} a (cond {A = Option ℕ} g None (Some 4)) (cond {A = Option ℕ} b (cond {A = Option ℕ} g None (Some 3)) (cond {A = Option ℕ} c (Some 3) None)) ≡ Some 0 → ⊥
-first_is_none true b c true e = let i : None ≡ Some 0 = e in cc
+first_is_none true b c true e = not_none None 0 refl e
 first_is_none true b c false e = not_zero 3 e
-first_is_none false true c true e = let i : None ≡ Some 0 = e in cc
+first_is_none false true c true e = not_none None 0 refl e
 first_is_none false true c false e = not_zero 2 e
 first_is_none false false true g e = not_zero 2 e
-first_is_none false false false g e = let i : None ≡ Some 0 = e in cc
+first_is_none false false false g e = not_none None 0 refl e
 
 no_window_first : (t g : ℕ) → window_place t g ≡ Some 0 → ⊥
 no_window_first t g e = first_is_none (nat_eq t 0) (nat_eq t 3) (nat_eq t 4) (nat_eq g 0) e
