@@ -4,11 +4,11 @@ use Rattle.std.proofs.Common.{ap, arith}
 use Rattle.bac_tag.specs.declared.refusals.Refusal.{Refusal}
 use Rattle.bac_tag.specs.declared.refusals.Why.TheVariants.{Short}
 use Rattle.bac_tag.specs.Spelling.{HasMark}
-use Rattle.bac_apdu.specs.HeadOctets.{typed, bit_of, least_part}
+use Rattle.bac_tag.specs.HeadOctets.{typed, bit_of, least_part}
 use Rattle.bac_apdu.specs.FirstOctet.{seg_at, ends_at, HasType, HasEnd, HasGoodWindow}
 use Rattle.bac_apdu.specs.Apdus.{ApduValue, abort, SpellsApdu}
 use Rattle.bac_apdu.specs.Decoded.{IsRefused, IsEnded}
-use Rattle.bac_apdu.proofs.FilledLemmas.{filled, viable_itself}
+use Rattle.bac_tag.proofs.FilledLemmas.{filled, viable_itself}
 use Rattle.bac_apdu.proofs.ReasonLemmas.{windowless, ends_within, flag_at, flag_is}
 use Rattle.bac_apdu.proofs.EndingLemmas.{end_refused, end_found}
 

@@ -9,9 +9,9 @@ use Rattle.bac_service.specs.declared.kind.Kind.{Kind}
 use Rattle.bac_service.specs.ServiceValues.{ServiceValue}
 use Rattle.bac_service.specs.Services.{SpellsService}
 use Rattle.bac_service.specs.Laws.Service.{octets_held}
-use Rattle.bac_apdu.specs.HeadOctets.{least_head, AreParts}
+use Rattle.bac_tag.specs.HeadOctets.{least_head, AreParts}
 use Rattle.bac_apdu.specs.Apdus.{ApduValue, head_of, SpellsServiceOf, SpellsBody, SpellsApdu}
-use Rattle.bac_apdu.proofs.HeadOctetLemmas.{headed_least}
+use Rattle.bac_tag.proofs.HeadOctetLemmas.{headed_least}
 
 -- the least body behind the least octets of a head
 pub appends_headed : (v : ApduValue) (head : List ℕ) {old new : List ℕ} → AreParts (head_of v) → head ≡ least_head (head_of v) → AppendsLeast (SpellsBody v) (old ++ head) new → AppendsLeast (SpellsApdu v) old new

@@ -11,13 +11,13 @@ use Rattle.bac_service.specs.declared.service.Service.{Service}
 use Rattle.bac_service.specs.ServiceTable.{production_of, is_small as is_small_service}
 use Rattle.bac_service.specs.ServiceValues.{ServiceValue, opaque, value_of as service_of}
 use Rattle.bac_service.specs.Services.{SpellsService}
-use Rattle.bac_apdu.specs.HeadOctets.{least_head}
+use Rattle.bac_tag.specs.HeadOctets.{least_head}
 use Rattle.bac_apdu.specs.FirstOctet.{HasType, HasSeg, HasGoodWindow}
 use Rattle.bac_apdu.specs.Apdus.{ApduValue, head_of, SpellsServiceOf, SpellsBody, SpellsApdu}
 use Rattle.bac_apdu.specs.Decoded.{small_of, IsRefused, IsServiceBehind, IsRefusedBehind}
-use Rattle.bac_apdu.proofs.HeadOctetLemmas.{headed_mark}
-use Rattle.bac_apdu.proofs.BehindLemmas.{whole_body}
-use Rattle.bac_apdu.proofs.FilledLemmas.{filled, filled_taken, filled_split}
+use Rattle.bac_tag.proofs.HeadOctetLemmas.{headed_mark}
+use Rattle.bac_tag.proofs.BehindLemmas.{whole_body}
+use Rattle.bac_tag.proofs.FilledLemmas.{filled, filled_taken, filled_split}
 use Rattle.bac_apdu.proofs.ReasonLemmas.{reasoned, begins_small_as}
 
 -- a service of a choice is one of its own choice

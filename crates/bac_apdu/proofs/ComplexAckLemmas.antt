@@ -11,7 +11,7 @@ use Rattle.bac_service.specs.Services.{SpellsService}
 use Rattle.bac_apdu.specs.FirstOctet.{HasType, HasSeg, HasGoodWindow}
 use Rattle.bac_apdu.specs.Apdus.{ApduValue, complex_ack, SpellsApdu}
 use Rattle.bac_apdu.specs.Decoded.{IsRefused, IsServiceBehind, IsRefusedBehind}
-use Rattle.bac_apdu.proofs.FilledLemmas.{filled}
+use Rattle.bac_tag.proofs.FilledLemmas.{filled}
 use Rattle.bac_apdu.proofs.TypeLemmas.{named}
 use Rattle.bac_apdu.proofs.ReasonLemmas.{windowless, ends_within}
 use Rattle.bac_apdu.proofs.CarryingLemmas.{own_choice, at_choice, nothing_carried, carrying_refused, carrying_found}

@@ -9,11 +9,11 @@ use Rattle.bac_service.specs.declared.service.Service.{Service}
 use Rattle.bac_service.specs.ServiceValues.{ServiceValue, opaque, value_of as service_of}
 use Rattle.bac_service.specs.Services.{SpellsService}
 use Rattle.bac_apdu.specs.declared.confirmed_request.RequestHead.{RequestHead}
-use Rattle.bac_apdu.specs.HeadOctets.{typed, bit_of, least_part}
+use Rattle.bac_tag.specs.HeadOctets.{typed, bit_of, least_part}
 use Rattle.bac_apdu.specs.FirstOctet.{HasType, HasSeg, HasGoodWindow}
 use Rattle.bac_apdu.specs.Apdus.{ApduValue, confirmed_request, SpellsApdu}
 use Rattle.bac_apdu.specs.Decoded.{IsRefused, IsServiceBehind, IsRefusedBehind}
-use Rattle.bac_apdu.proofs.FilledLemmas.{filled}
+use Rattle.bac_tag.proofs.FilledLemmas.{filled}
 use Rattle.bac_apdu.proofs.TypeLemmas.{named}
 use Rattle.bac_apdu.proofs.ReasonLemmas.{flag_at, flag_is, windowless, ends_within}
 use Rattle.bac_apdu.proofs.CarryingLemmas.{own_choice, at_choice, nothing_carried, carrying_refused, carrying_found}

@@ -8,13 +8,13 @@ use Rattle.bac_tag.specs.declared.refusals.Why.TheVariants.{Trailing, OutOfMemor
 use Rattle.bac_tag.specs.Octets.{IsMark, joined_mark}
 use Rattle.bac_tag.specs.Laws.Octets.{NoGreater-same}
 use Rattle.bac_tag.specs.Spelling.{HasMark}
-use Rattle.bac_apdu.specs.HeadOctets.{least_head}
+use Rattle.bac_tag.specs.HeadOctets.{least_head}
 use Rattle.bac_apdu.specs.FirstOctet.{type_at, ends_at, HasEnd, HasGoodWindow}
 use Rattle.bac_apdu.specs.Apdus.{ApduValue, head_of, SpellsBody, SpellsApdu}
 use Rattle.bac_apdu.specs.Decoded.{IsRefused, IsEnded}
-use Rattle.bac_apdu.proofs.HeadOctetLemmas.{length-least, headed_body, headed_mark}
-use Rattle.bac_apdu.proofs.BehindLemmas.{whole_trailing}
-use Rattle.bac_apdu.proofs.FilledLemmas.{filled, filled_taken, filled_split}
+use Rattle.bac_tag.proofs.HeadOctetLemmas.{length-least, headed_body, headed_mark}
+use Rattle.bac_tag.proofs.BehindLemmas.{whole_trailing}
+use Rattle.bac_tag.proofs.FilledLemmas.{filled, filled_taken, filled_split}
 use Rattle.bac_apdu.proofs.TypeLemmas.{told, nothing_spells}
 use Rattle.bac_apdu.proofs.ReasonLemmas.{reasoned}
 

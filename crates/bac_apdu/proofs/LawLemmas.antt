@@ -12,12 +12,12 @@ use Rattle.bac_service.specs.ServiceValues.{ServiceValue}
 use Rattle.bac_service.specs.Services.{SpellsService}
 use Rattle.bac_apdu.specs.declared.segment.SegHead.{SegHead}
 use Rattle.bac_apdu.specs.declared.segment.SegHead.TheVariants.{Request, Ack}
-use Rattle.bac_apdu.specs.HeadOctets.{Part, Headed, least_head}
+use Rattle.bac_tag.specs.HeadOctets.{Part, Headed, least_head}
 use Rattle.bac_apdu.specs.FirstOctet.{type_at, seg_at}
 use Rattle.bac_apdu.specs.Segment.{segment_head, segment_head_size}
 use Rattle.bac_apdu.specs.Apdus.{ApduValue, confirmed_request, unconfirmed_request, simple_ack, complex_ack, segment_ack, error, reject, abort, segment, head_of, SpellsBody, SpellsApdu, IsSegment}
 use Rattle.bac_apdu.specs.Decoded.{small_of, begins_small, is_small}
-use Rattle.bac_apdu.proofs.HeadOctetLemmas.{parts_are, headed_least, length-least}
+use Rattle.bac_tag.proofs.HeadOctetLemmas.{parts_are, headed_least, length-least}
 use Rattle.bac_apdu.proofs.TypeLemmas.{named, nothing_spells}
 
 -- what stands behind a head

@@ -1,6 +1,3 @@
-pub mod HeadOctetLemmas
-pub mod BehindLemmas
-pub mod FilledLemmas
 mod TypeLemmas
 mod ReasonLemmas
 mod WindowLemmas

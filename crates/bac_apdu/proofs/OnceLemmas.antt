@@ -7,7 +7,7 @@ use Rattle.bac_service.specs.ServiceValues.{ServiceValue}
 use Rattle.bac_service.specs.Services.{SpellsService}
 use Rattle.bac_apdu.specs.declared.confirmed_request.RequestHead.{RequestHead}
 use Rattle.bac_apdu.specs.declared.segment.SegHead.TheVariants.{Request, Ack}
-use Rattle.bac_apdu.specs.HeadOctets.{Part, bit_of, SpellsPart, Headed}
+use Rattle.bac_tag.specs.HeadOctets.{Part, bit_of, SpellsPart, Headed}
 use Rattle.bac_apdu.specs.FirstOctet.{seg_at}
 use Rattle.bac_apdu.specs.Apdus.{ApduValue, confirmed_request, unconfirmed_request, simple_ack, complex_ack, segment_ack, error, reject, abort, segment, head_of, SpellsServiceOf, SpellsBody, SpellsApdu}
 use Rattle.bac_apdu.proofs.TypeLemmas.{named, nothing_spells}

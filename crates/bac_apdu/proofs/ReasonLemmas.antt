@@ -8,12 +8,12 @@ use Rattle.bac_tag.specs.declared.refusals.Why.TheVariants.{Short, Trailing, Pdu
 use Rattle.bac_tag.specs.Spelling.{IsViable}
 use Rattle.bac_data.specs.Refusals.{IsItemReason}
 use Rattle.bac_service.specs.Reasons.{IsServiceReason}
-use Rattle.bac_apdu.specs.HeadOctets.{bit_of, IsWindow}
+use Rattle.bac_tag.specs.HeadOctets.{bit_of, IsWindow}
 use Rattle.bac_apdu.specs.FirstOctet.{type_at, seg_at, head_size, window_place, HasType, HasSeg, HasGoodWindow}
 use Rattle.bac_apdu.specs.Apdus.{reject, SpellsApdu}
 use Rattle.bac_apdu.specs.Decoded.{small_of, begins_small, IsReasoned, IsRefused}
-use Rattle.bac_apdu.proofs.BehindLemmas.{whole_short, whole_hopeless}
-use Rattle.bac_apdu.proofs.FilledLemmas.{filled, filled_viable}
+use Rattle.bac_tag.proofs.BehindLemmas.{whole_short, whole_hopeless}
+use Rattle.bac_tag.proofs.FilledLemmas.{filled, filled_viable}
 use Rattle.bac_apdu.proofs.TypeLemmas.{told, too_short, nothing_spells}
 
 -- ---- a bit as a flag

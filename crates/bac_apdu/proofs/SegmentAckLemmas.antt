@@ -4,11 +4,11 @@ use Rattle.std.proofs.Common.{sym, ap, subst, arith}
 use Rattle.bac_tag.specs.declared.refusals.Refusal.{Refusal}
 use Rattle.bac_tag.specs.declared.refusals.Why.TheVariants.{Short, Window}
 use Rattle.bac_tag.specs.Spelling.{IsViable, HasMark}
-use Rattle.bac_apdu.specs.HeadOctets.{typed, bit_of, least_part, IsWindow}
+use Rattle.bac_tag.specs.HeadOctets.{typed, bit_of, least_part, IsWindow}
 use Rattle.bac_apdu.specs.FirstOctet.{seg_at, ends_at, HasType, HasEnd, HasGoodWindow}
 use Rattle.bac_apdu.specs.Apdus.{ApduValue, segment_ack, SpellsApdu}
 use Rattle.bac_apdu.specs.Decoded.{IsRefused, IsEnded}
-use Rattle.bac_apdu.proofs.FilledLemmas.{filled}
+use Rattle.bac_tag.proofs.FilledLemmas.{filled}
 use Rattle.bac_apdu.proofs.TypeLemmas.{named}
 use Rattle.bac_apdu.proofs.ReasonLemmas.{windowed, ends_within, flag_at, flag_is}
 use Rattle.bac_apdu.proofs.WindowLemmas.{window_refused}

@@ -8,12 +8,12 @@ use Rattle.bac_tag.specs.Spelling.{IsViable, HasMark}
 use Rattle.bac_apdu.specs.declared.confirmed_request.RequestHead.{RequestHead}
 use Rattle.bac_apdu.specs.declared.segment.SegHead.{SegHead}
 use Rattle.bac_apdu.specs.declared.segment.SegHead.TheVariants.{Request, Ack}
-use Rattle.bac_apdu.specs.HeadOctets.{typed, bit_of, least_part, IsWindow}
+use Rattle.bac_tag.specs.HeadOctets.{typed, bit_of, least_part, IsWindow}
 use Rattle.bac_apdu.specs.FirstOctet.{HasType, HasSeg, HasGoodWindow}
 use Rattle.bac_apdu.specs.Apdus.{ApduValue, segment, SpellsApdu}
 use Rattle.bac_apdu.specs.Decoded.{IsRefused}
-use Rattle.bac_apdu.proofs.BehindLemmas.{viable_shorter}
-use Rattle.bac_apdu.proofs.FilledLemmas.{filled}
+use Rattle.bac_tag.proofs.BehindLemmas.{viable_shorter}
+use Rattle.bac_tag.proofs.FilledLemmas.{filled}
 use Rattle.bac_apdu.proofs.TypeLemmas.{named}
 use Rattle.bac_apdu.proofs.ReasonLemmas.{flag_at, flag_is, windowed, ends_within, memory_refused}
 use Rattle.bac_apdu.proofs.WindowLemmas.{window_refused}

@@ -7,7 +7,7 @@ use Rattle.bac_tag.specs.Spelling.{HasMark}
 use Rattle.bac_apdu.specs.FirstOctet.{seg_at, ends_at, HasType, HasEnd, HasGoodWindow}
 use Rattle.bac_apdu.specs.Apdus.{ApduValue, simple_ack, SpellsApdu}
 use Rattle.bac_apdu.specs.Decoded.{IsRefused, IsEnded}
-use Rattle.bac_apdu.proofs.FilledLemmas.{filled, viable_itself}
+use Rattle.bac_tag.proofs.FilledLemmas.{filled, viable_itself}
 use Rattle.bac_apdu.proofs.ReasonLemmas.{windowless, ends_within}
 use Rattle.bac_apdu.proofs.EndingLemmas.{end_refused, end_found}
 

@@ -6,7 +6,7 @@ use Rattle.bac_apdu.specs.declared.confirmed_request.RequestHead.{RequestHead}
 use Rattle.bac_apdu.specs.declared.segment.SegHead.TheVariants.{Request, Ack}
 use Rattle.bac_apdu.specs.FirstOctet.{type_at, seg_at, head_size, ends_at}
 use Rattle.bac_apdu.specs.Apdus.{ApduValue, confirmed_request, unconfirmed_request, simple_ack, complex_ack, segment_ack, error, reject, abort, segment, head_of, SpellsBody, SpellsApdu}
-use Rattle.bac_apdu.proofs.HeadOctetLemmas.{headed_long}
+use Rattle.bac_tag.proofs.HeadOctetLemmas.{headed_long}
 
 -- the APDUs of a type, by bit 3 where it says whether one is segmented
 abbrev pub IsNamed : ℕ → ℕ → ApduValue → Type 0

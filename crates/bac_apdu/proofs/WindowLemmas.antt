@@ -4,12 +4,12 @@ use Rattle.std.proofs.Common.{inl, inr, sym, ◌∙◌, ap, subst, arith}
 use Rattle.std.proofs.lemmas.List.{length-take-le}
 use Rattle.bac_tag.specs.declared.refusals.Why.TheVariants.{Short, Trailing, PduType, Window, OutOfMemory}
 use Rattle.bac_tag.specs.Spelling.{IsViable, IsWholeRefusal}
-use Rattle.bac_apdu.specs.HeadOctets.{IsWindow}
+use Rattle.bac_tag.specs.HeadOctets.{IsWindow}
 use Rattle.bac_apdu.specs.FirstOctet.{seg_at, head_size, window_place, HasType, HasSeg}
 use Rattle.bac_apdu.specs.Apdus.{ApduValue, SpellsApdu}
 use Rattle.bac_apdu.specs.Decoded.{IsRefused}
-use Rattle.bac_apdu.proofs.BehindLemmas.{whole_hopeless}
-use Rattle.bac_apdu.proofs.FilledLemmas.{octets_from, filled, filled_split, filled_taken}
+use Rattle.bac_tag.proofs.BehindLemmas.{whole_hopeless}
+use Rattle.bac_tag.proofs.FilledLemmas.{octets_from, filled, filled_split, filled_taken}
 use Rattle.bac_apdu.proofs.TypeLemmas.{too_short}
 
 -- the octet at a place is the first of those from it on

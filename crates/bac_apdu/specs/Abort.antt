@@ -1,6 +1,6 @@
 -- Abort (clause 20.1.9).
 use Rattle.std.specs.Prelude.{ℕ, Bool, Some, None, List, [], ◌∷◌}
-use Rattle.bac_apdu.specs.HeadOctets.{Part, typed, octet}
+use Rattle.bac_tag.specs.HeadOctets.{Part, typed, octet}
 
 -- type 7 with bits 3 to 1 free and SRV; invoke id; reason
 abbrev pub abort_head : ℕ → Bool → ℕ → List Part

@@ -9,7 +9,7 @@ use Rattle.bac_apdu.specs.declared.confirmed_request.RequestHead.{RequestHead}
 use Rattle.bac_apdu.specs.declared.segment.SegHead.{SegHead}
 use Rattle.bac_apdu.specs.declared.apdu.Apdu.{Apdu}
 use Rattle.bac_apdu.specs.declared.apdu.Apdu.TheVariants as held
-use Rattle.bac_apdu.specs.HeadOctets.{Part, Headed}
+use Rattle.bac_tag.specs.HeadOctets.{Part, Headed}
 use Rattle.bac_apdu.specs.ConfirmedRequest.{confirmed_request_head}
 use Rattle.bac_apdu.specs.UnconfirmedRequest.{unconfirmed_request_head}
 use Rattle.bac_apdu.specs.SimpleAck.{simple_ack_head}

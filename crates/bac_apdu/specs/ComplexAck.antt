@@ -1,6 +1,6 @@
 -- ComplexACK (clause 20.1.5), in one piece.
 use Rattle.std.specs.Prelude.{ℕ, false, Some, None, List, [], ◌∷◌}
-use Rattle.bac_apdu.specs.HeadOctets.{Part, typed, octet}
+use Rattle.bac_tag.specs.HeadOctets.{Part, typed, octet}
 
 -- type 3 with SEG, MOR free and bits 1 and 0 free; invoke id; service choice
 abbrev pub complex_ack_head : ℕ → ℕ → List Part

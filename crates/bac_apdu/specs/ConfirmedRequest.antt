@@ -1,7 +1,7 @@
 -- Confirmed-Request (clause 20.1.2), in one piece.
 use Rattle.std.specs.Prelude.{ℕ, false, Some, None, List, [], ◌∷◌}
 use Rattle.bac_apdu.specs.declared.confirmed_request.RequestHead.{RequestHead}
-use Rattle.bac_apdu.specs.HeadOctets.{Part, typed, limits, octet}
+use Rattle.bac_tag.specs.HeadOctets.{Part, typed, limits, octet}
 
 -- type 0 with SEG, MOR free, SA and bit 0 free; max-segments and max-response; invoke id; service choice
 abbrev pub confirmed_request_head : RequestHead → ℕ → List Part

@@ -1,6 +1,6 @@
 -- Error (clause 20.1.7).
 use Rattle.std.specs.Prelude.{ℕ, None, List, [], ◌∷◌}
-use Rattle.bac_apdu.specs.HeadOctets.{Part, typed, octet}
+use Rattle.bac_tag.specs.HeadOctets.{Part, typed, octet}
 
 -- type 5 with bits 3 to 0 free; invoke id; service choice
 abbrev pub error_head : ℕ → ℕ → List Part

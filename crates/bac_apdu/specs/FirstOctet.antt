@@ -1,6 +1,6 @@
 -- What the first octet of an APDU tells (clause 20.1).
 use Rattle.std.specs.Prelude.{◌≡◌, ℕ, ◌/◌, ◌%◌, ◌^◌, ◌<◌, ◌≤◌, cond, nat_eq, Bool, true, Option, Some, None, List, length, slice_index}
-use Rattle.bac_apdu.specs.HeadOctets.{IsWindow}
+use Rattle.bac_tag.specs.HeadOctets.{IsWindow}
 
 -- bits 7 to 4 are the type
 abbrev pub type_at : ℕ → ℕ

@@ -1,5 +1,3 @@
-pub mod HeadOctets
-pub mod Behind
 pub mod Carriers
 pub mod FirstOctet
 pub mod ConfirmedRequest

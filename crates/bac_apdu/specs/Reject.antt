@@ -1,6 +1,6 @@
 -- Reject (clause 20.1.8).
 use Rattle.std.specs.Prelude.{ℕ, None, List, [], ◌∷◌}
-use Rattle.bac_apdu.specs.HeadOctets.{Part, typed, octet}
+use Rattle.bac_tag.specs.HeadOctets.{Part, typed, octet}
 
 -- type 6 with bits 3 to 0 free; invoke id; reason
 abbrev pub reject_head : ℕ → ℕ → List Part

@@ -2,7 +2,7 @@
 use Rattle.std.specs.Prelude.{ℕ, Bool, true, Some, None, List, [], ◌∷◌}
 use Rattle.bac_apdu.specs.declared.segment.SegHead.{SegHead}
 use Rattle.bac_apdu.specs.declared.segment.SegHead.TheVariants.{Request, Ack}
-use Rattle.bac_apdu.specs.HeadOctets.{Part, typed, limits, octet, window}
+use Rattle.bac_tag.specs.HeadOctets.{Part, typed, limits, octet, window}
 
 -- of a request: type 0 with SEG, MOR, SA and bit 0 free; max-segments and max-response; invoke id; sequence number; proposed window; service choice
 -- of an answer: type 3 with SEG, MOR and bits 1 and 0 free; invoke id; sequence number; proposed window; service choice

@@ -1,6 +1,6 @@
 -- SegmentACK (clause 20.1.6).
 use Rattle.std.specs.Prelude.{ℕ, Bool, Some, None, List, [], ◌∷◌}
-use Rattle.bac_apdu.specs.HeadOctets.{Part, typed, octet, window}
+use Rattle.bac_tag.specs.HeadOctets.{Part, typed, octet, window}
 
 -- type 4 with bits 3 and 2 free, NAK and SRV; invoke id; sequence number; actual window
 abbrev pub segment_ack_head : ℕ → Bool → Bool → ℕ → ℕ → List Part

@@ -1,6 +1,6 @@
 -- SimpleACK (clause 20.1.4).
 use Rattle.std.specs.Prelude.{ℕ, None, List, [], ◌∷◌}
-use Rattle.bac_apdu.specs.HeadOctets.{Part, typed, octet}
+use Rattle.bac_tag.specs.HeadOctets.{Part, typed, octet}
 
 -- type 2 with bits 3 to 0 free; invoke id; service choice
 abbrev pub simple_ack_head : ℕ → ℕ → List Part

@@ -1,6 +1,6 @@
 -- Unconfirmed-Request (clause 20.1.3).
 use Rattle.std.specs.Prelude.{ℕ, None, List, [], ◌∷◌}
-use Rattle.bac_apdu.specs.HeadOctets.{Part, typed, octet}
+use Rattle.bac_tag.specs.HeadOctets.{Part, typed, octet}
 
 -- type 1 with bits 3 to 0 free; service choice
 abbrev pub unconfirmed_request_head : ℕ → List Part

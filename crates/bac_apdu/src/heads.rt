@@ -2,7 +2,7 @@
 
 ghost use Rattle.std.specs.Prelude.{◌≡◌, ◌+◌, ◌*◌, ◌<◌, ◌≤◌, ◌/◌, ◌%◌, ◌^◌, length};
 ghost use Rattle.bac_tag.specs.declared.refusals.Why.TheVariants.{Short, OutOfMemory};
-ghost use Rattle.bac_apdu.specs.HeadOctets.{bit_of};
+ghost use Rattle.bac_tag.specs.HeadOctets.{bit_of};
 ghost use Rattle.bac_apdu.specs.Decoded.{IsEnded};
 
 use crate::apdu::Apdu;

@@ -1,7 +1,7 @@
 //! Sizes of a window.
 
 ghost use Rattle.std.specs.Prelude.{◌≡◌, ◌↔◌, IsSome, IfSome};
-ghost use Rattle.bac_apdu.specs.HeadOctets.{IsWindow};
+ghost use Rattle.bac_tag.specs.HeadOctets.{IsWindow};
 
 use std::marker::Model;
 
@@ -13,7 +13,7 @@ pub struct Window {
 
 impl Model for Window {
     ghost use Rattle.std.specs.Prelude.{ℕ};
-    ghost use Rattle.bac_apdu.specs.HeadOctets.{IsWindow};
+    ghost use Rattle.bac_tag.specs.HeadOctets.{IsWindow};
 
     ghost Value = { ℕ };
 

@@ -6,3 +6,6 @@ pub mod WritingLemmas
 pub mod MarksLemmas
 pub mod HeadLenLemmas
 pub mod ShortLemmas
+pub mod HeadOctetLemmas
+pub mod BehindLemmas
+pub mod FilledLemmas

@@ -7,4 +7,6 @@ pub mod Expected
 pub mod Reading
 pub mod Writing
 pub mod Short
+pub mod HeadOctets
+pub mod Behind
 pub mod Laws

@@ -2,7 +2,7 @@ use Rattle.std.specs.Prelude.{◌≡◌, ◌<◌, ◌+◌, ◌*◌, ℕ, List, [
 use Rattle.std.proofs.Common.{ap, subst, ◌∙◌, arith}
 use Rattle.std.proofs.lemmas.Result.{on_ok_weaker}
 use Rattle.bac_apdu.specs.declared.segment.SegHead.TheVariants.{Request, Ack}
-use Rattle.bac_apdu.specs.HeadOctets.{least_head, IsWindow}
+use Rattle.bac_tag.specs.HeadOctets.{least_head, IsWindow}
 use Rattle.bac_apdu.specs.Apdus.{segment, head_of}
 use Rattle.bac_apdu.proofs.AppendingLemmas.{appends_segment}
 use Rattle.bac_apdu.proofs.segment.Segment.append.Goals as goal

@@ -1,6 +1,6 @@
 use Rattle.std.specs.Prelude.{ℕ, [], ◌∷◌, refl}
 use Rattle.std.proofs.Common.{ap, subst, ◌∙◌}
-use Rattle.bac_apdu.specs.HeadOctets.{IsWindow}
+use Rattle.bac_tag.specs.HeadOctets.{IsWindow}
 use Rattle.bac_apdu.specs.Apdus.{segment_ack, SpellsBody}
 use Rattle.bac_apdu.proofs.AppendingLemmas.{appends_headed, appends_end, head_at_end}
 use Rattle.bac_apdu.proofs.segment_ack.SegmentAck.append.Goals as goal

@@ -3,7 +3,7 @@ use Rattle.std.specs.Prelude.{◌≡◌, ℕ, zero, suc, ◌≤◌, List, [], �
 use Rattle.std.proofs.Common.{sym, ◌∙◌, ap, subst, arith}
 use Rattle.std.proofs.lemmas.List.{append-nil, take-append-drop}
 use Rattle.bac_tag.specs.Spelling.{IsViable}
-use Rattle.bac_apdu.proofs.BehindLemmas.{viable_shorter}
+use Rattle.bac_tag.proofs.BehindLemmas.{viable_shorter}
 
 -- so many octets from a place on
 abbrev pub octets_from : ℕ → ℕ → List ℕ → List ℕ

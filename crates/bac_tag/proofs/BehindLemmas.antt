@@ -8,7 +8,7 @@ use Rattle.bac_tag.specs.declared.refusals.Why.{Why}
 use Rattle.bac_tag.specs.declared.refusals.Why.TheVariants.{Short, Trailing}
 use Rattle.bac_tag.specs.Refusals.{behind}
 use Rattle.bac_tag.specs.Spelling.{IsSpelling, IsViable, IsWholeRefusal}
-use Rattle.bac_apdu.specs.Behind.{Behind}
+use Rattle.bac_tag.specs.Behind.{Behind}
 
 front_is : (front more : List ℕ) → take (length front) (front ++ more) ≡ front
 front_is front more = take-append-le (length front) front more (omega arith) ∙ take-length front

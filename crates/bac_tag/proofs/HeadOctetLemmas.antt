@@ -4,7 +4,7 @@ use Rattle.std.proofs.Common.{◌≡◌, ℕ, suc, ◌/◌, ◌%◌, ◌<◌, �
 use Rattle.bac_tag.specs.Octets.{NoGreater, IsMark, joined_mark}
 use Rattle.bac_tag.specs.Laws.Octets.{NoGreater-append, mark-append}
 use Rattle.bac_tag.specs.Spelling.{IsLeast, HasMark}
-use Rattle.bac_apdu.specs.HeadOctets.{Part, typed, limits, octet, window, HasBit, SpellsPart, Headed, bit_or_zero, least_part, least_head, IsPart, AreParts}
+use Rattle.bac_tag.specs.HeadOctets.{Part, typed, limits, octet, window, HasBit, SpellsPart, Headed, bit_or_zero, least_part, least_head, IsPart, AreParts}
 
 bit_small : (f : Option Bool) → bit_or_zero f ≤ 1
 bit_small None = omega arith
