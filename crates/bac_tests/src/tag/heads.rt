@@ -1,5 +1,7 @@
 //! Worked examples 8 to 11, 36, 62 and 80 of docs/EXAMPLES.md, as far as they speak of heads.
 
+ghost use Rattle.bac_tag.specs.Expected.{IsSound};
+
 use bac_tables::{Row, octets_of, rows_of};
 use bac_tag::{
     Expected, OutOfMemory, Refusal, TagHead, Why, first_difference, first_hopeless, head_len, laws,
@@ -63,7 +65,9 @@ fn reads_heads(rt: HostRuntime) -> Result<(), Fail> {
 }
 
 /// Each row of the table is as it says, where this head is expected.
-fn expects(rt: &impl Abort, alloc: Global, expected: Expected, table: &str) -> Result<(), Fail> {
+fn expects(rt: &impl Abort, alloc: Global, expected: Expected, table: &str) -> Result<(), Fail>
+    requires { IsSound expected }
+{
     for row in rows_of(table)?.iter() {
         let found = read_expected(&octets_of(row.octets)?, expected);
         is_told(rt, alloc, row, found)?;

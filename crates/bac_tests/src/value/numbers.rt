@@ -1,5 +1,7 @@
 //! The contents of numbers of any length, of every length from 0 to 9 octets.
 
+ghost use Rattle.std.specs.Prelude.{◌≤◌, ◌<◌};
+
 use super::judge;
 use bac_tables::{octets_of, rows_of};
 use bac_value::{
@@ -240,7 +242,10 @@ fn an_instance_is_at_most_4_194_303(rt: HostRuntime) -> Result<(), Fail> {
 }
 
 /// Each row of the table tells the number of this range that the octets are, or where they leave the range.
-fn tells_numbers(rt: &impl Abort, least: u64, most: u64, table: &str) -> Result<(), Fail> {
+fn tells_numbers(rt: &impl Abort, least: u64, most: u64, table: &str) -> Result<(), Fail>
+    requires range { least ≤ most }
+    requires room { least < 256 }
+{
     for row in rows_of(table)?.iter() {
         match read_number(&octets_of(row.octets)?, least, most) {
             Ok(number) => {
