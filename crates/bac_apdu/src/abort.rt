@@ -7,8 +7,8 @@ ghost use Rattle.bac_apdu.specs.Apdus.{abort, SpellsApdu};
 ghost use Rattle.bac_apdu.specs.Decoded.{IsDecoded};
 
 use crate::apdu::Apdu;
-use crate::heads::{Marked, ended, ends_early, first_octet, has_bit};
-use bac_tag::{OutOfMemory, Refusal};
+use crate::heads::{Marked, ended, first_octet, has_bit};
+use bac_tag::{OutOfMemory, Refusal, Why};
 
 /// The end of a transaction.
 ///
@@ -43,7 +43,7 @@ pub(crate) fn decode_abort(octets: &[u8]) -> Result<Marked, Refusal>
     ensures { IsDecoded octets.now result }
 {
     let [first, invoke, reason, ..] = octets else {
-        return Err(ends_early(octets));
+        return Err(Why::Short.at(octets.len()));
     };
     let abort = Abort {
         invoke: *invoke,

@@ -11,7 +11,7 @@ use crate::apdu::Apdu;
 use crate::complex_ack::decode_complex_ack;
 use crate::confirmed_request::decode_confirmed_request;
 use crate::error_pdu::decode_error_pdu;
-use crate::heads::{Marked, ends_early, has_bit};
+use crate::heads::{Marked, has_bit};
 use crate::reject::decode_reject;
 use crate::segment::{decode_ack_segment, decode_request_segment};
 use crate::segment_ack::decode_segment_ack;
@@ -25,7 +25,7 @@ fn decode_pdu(alloc: Global, octets: &[u8]) -> Result<Marked, Refusal>
     ensures { IsDecoded octets.now result }
 {
     let [first, ..] = octets else {
-        return Err(ends_early(octets));
+        return Err(Why::Short.at(octets.len()));
     };
     let segmented = has_bit(*first, 3);
     match *first >> 4 {
@@ -39,10 +39,7 @@ fn decode_pdu(alloc: Global, octets: &[u8]) -> Result<Marked, Refusal>
         5 => decode_error_pdu(alloc, octets),
         6 => decode_reject(octets),
         7 => decode_abort(octets),
-        _ => Err(Refusal {
-            place: 0,
-            why: Why::PduType,
-        }),
+        _ => Err(Why::PduType.at(0)),
     }
 }
 

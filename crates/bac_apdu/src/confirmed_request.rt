@@ -9,12 +9,12 @@ ghost use Rattle.bac_apdu.specs.Apdus.{confirmed_request, SpellsApdu};
 ghost use Rattle.bac_apdu.specs.Decoded.{IsDecoded};
 
 use crate::apdu::Apdu;
-use crate::heads::{Marked, ends_early, first_octet, has_bit};
+use crate::heads::{Marked, first_octet, has_bit};
 use crate::max_resp::MaxResp;
 use crate::max_segs::MaxSegs;
 use crate::services::{append_behind, decode_behind};
 use bac_service::{Kind, Service};
-use bac_tag::{OutOfMemory, Refusal};
+use bac_tag::{OutOfMemory, Refusal, Why};
 use std::alloc::Global;
 use std::marker::Model;
 
@@ -112,7 +112,7 @@ pub(crate) fn decode_confirmed_request(alloc: Global, octets: &[u8]) -> Result<M
     ensures { IsDecoded octets.now result }
 {
     let [first, limits, invoke, choice, ..] = octets else {
-        return Err(ends_early(octets));
+        return Err(Why::Short.at(octets.len()));
     };
     let head = RequestHead {
         invoke: *invoke,

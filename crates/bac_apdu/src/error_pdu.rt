@@ -9,10 +9,10 @@ ghost use Rattle.bac_apdu.specs.Apdus.{error, SpellsApdu};
 ghost use Rattle.bac_apdu.specs.Decoded.{IsDecoded};
 
 use crate::apdu::Apdu;
-use crate::heads::{Marked, ends_early};
+use crate::heads::Marked;
 use crate::services::{append_behind, decode_behind};
 use bac_service::{Kind, Service};
-use bac_tag::{OutOfMemory, Refusal};
+use bac_tag::{OutOfMemory, Refusal, Why};
 use std::alloc::Global;
 use std::marker::Model;
 
@@ -91,7 +91,7 @@ pub(crate) fn decode_error_pdu(alloc: Global, octets: &[u8]) -> Result<Marked, R
     ensures { IsDecoded octets.now result }
 {
     let [_, invoke, choice, ..] = octets else {
-        return Err(ends_early(octets));
+        return Err(Why::Short.at(octets.len()));
     };
     let least = [0x50, *invoke, *choice];
     let (service, mark) = decode_behind(alloc, Kind::Error, *choice, octets, &least)?;

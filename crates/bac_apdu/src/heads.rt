@@ -1,37 +1,15 @@
 //! What the heads have in common.
 
 ghost use Rattle.std.specs.Prelude.{◌≡◌, ◌+◌, ◌*◌, ◌<◌, ◌≤◌, ◌/◌, ◌%◌, ◌^◌, length};
-ghost use Rattle.bac_tag.specs.declared.refusals.Why.TheVariants.{Short, OutOfMemory};
 ghost use Rattle.bac_tag.specs.HeadOctets.{bit_of};
 ghost use Rattle.bac_apdu.specs.Decoded.{IsEnded};
 
 use crate::apdu::Apdu;
-use bac_tag::{Refusal, Why, first_difference};
+use bac_tag::layers::first_difference;
+use bac_tag::{Refusal, Why};
 
 /// An APDU, and the first octet that differs from the canonical ones.
 pub(crate) type Marked = (Apdu, Option<usize>);
-
-/// The refusal of octets that end within a head.
-#[inline(always)]
-pub(crate) fn ends_early(octets: &[u8]) -> Refusal
-    ensures { result ≡ record { place = length octets.now; why = Short } }
-{
-    Refusal {
-        place: octets.len(),
-        why: Why::Short,
-    }
-}
-
-/// The refusal where memory is refused.
-#[inline(always)]
-pub(crate) fn out_of_memory() -> Refusal
-    ensures { result ≡ record { place = 0; why = OutOfMemory } }
-{
-    Refusal {
-        place: 0,
-        why: Why::OutOfMemory,
-    }
-}
 
 /// Whether the bit at this place is set.
 #[inline(always)]
@@ -58,10 +36,7 @@ pub(crate) fn ended(octets: &[u8], head: &[u8]) -> Result<Option<usize>, Refusal
     ensures { IsEnded octets.now head.now result }
 {
     if octets.len() > head.len() {
-        return Err(Refusal {
-            place: head.len(),
-            why: Why::Trailing,
-        });
+        return Err(Why::Trailing.at(head.len()));
     }
     Ok(first_difference(octets, head))
 }

@@ -7,8 +7,8 @@ ghost use Rattle.bac_apdu.specs.Apdus.{reject, SpellsApdu};
 ghost use Rattle.bac_apdu.specs.Decoded.{IsDecoded};
 
 use crate::apdu::Apdu;
-use crate::heads::{Marked, ended, ends_early};
-use bac_tag::{OutOfMemory, Refusal};
+use crate::heads::{Marked, ended};
+use bac_tag::{OutOfMemory, Refusal, Why};
 
 /// The answer to a request that was not understood.
 ///
@@ -40,7 +40,7 @@ pub(crate) fn decode_reject(octets: &[u8]) -> Result<Marked, Refusal>
     ensures { IsDecoded octets.now result }
 {
     let [_, invoke, reason, ..] = octets else {
-        return Err(ends_early(octets));
+        return Err(Why::Short.at(octets.len()));
     };
     let reject = Reject {
         invoke: *invoke,

@@ -8,11 +8,12 @@ ghost use Rattle.bac_apdu.specs.Decoded.{IsDecoded};
 
 use crate::apdu::Apdu;
 use crate::confirmed_request::RequestHead;
-use crate::heads::{Marked, ends_early, first_octet, has_bit, out_of_memory};
+use crate::heads::{Marked, first_octet, has_bit};
 use crate::max_resp::MaxResp;
 use crate::max_segs::MaxSegs;
 use crate::window::Window;
-use bac_tag::{OutOfMemory, Refusal, Why, first_difference};
+use bac_tag::layers::first_difference;
+use bac_tag::{OutOfMemory, Refusal, Why};
 use std::alloc::Global;
 
 /// Of what a segment is one.
@@ -101,16 +102,13 @@ pub(crate) fn decode_request_segment(alloc: Global, octets: &[u8]) -> Result<Mar
     ensures { IsDecoded octets.now result }
 {
     let [first, limits, invoke, seq, size, ..] = octets else {
-        return Err(ends_early(octets));
+        return Err(Why::Short.at(octets.len()));
     };
     let Some(window) = Window::new(*size) else {
-        return Err(Refusal {
-            place: 4,
-            why: Why::Window,
-        });
+        return Err(Why::Window.at(4));
     };
     let [_, _, _, _, _, choice, ..] = octets else {
-        return Err(ends_early(octets));
+        return Err(Why::Short.at(octets.len()));
     };
     let more = has_bit(*first, 2);
     let head = RequestHead {
@@ -129,7 +127,7 @@ pub(crate) fn decode_request_segment(alloc: Global, octets: &[u8]) -> Result<Mar
     ];
     let mark = first_difference(&octets[..6], &least);
     let Ok(piece) = Vec::from_slice(alloc, &octets[6..]) else {
-        return Err(out_of_memory());
+        return Err(Refusal::out_of_memory());
     };
     let segment = Segment {
         head: SegHead::Request(head),
@@ -149,16 +147,13 @@ pub(crate) fn decode_ack_segment(alloc: Global, octets: &[u8]) -> Result<Marked,
     ensures { IsDecoded octets.now result }
 {
     let [first, invoke, seq, size, ..] = octets else {
-        return Err(ends_early(octets));
+        return Err(Why::Short.at(octets.len()));
     };
     let Some(window) = Window::new(*size) else {
-        return Err(Refusal {
-            place: 3,
-            why: Why::Window,
-        });
+        return Err(Why::Window.at(3));
     };
     let [_, _, _, _, choice, ..] = octets else {
-        return Err(ends_early(octets));
+        return Err(Why::Short.at(octets.len()));
     };
     let more = has_bit(*first, 2);
     let least = [
@@ -170,7 +165,7 @@ pub(crate) fn decode_ack_segment(alloc: Global, octets: &[u8]) -> Result<Marked,
     ];
     let mark = first_difference(&octets[..5], &least);
     let Ok(piece) = Vec::from_slice(alloc, &octets[5..]) else {
-        return Err(out_of_memory());
+        return Err(Refusal::out_of_memory());
     };
     let segment = Segment {
         head: SegHead::Ack { invoke: *invoke },

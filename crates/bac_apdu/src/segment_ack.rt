@@ -7,7 +7,7 @@ ghost use Rattle.bac_apdu.specs.Apdus.{segment_ack, SpellsApdu};
 ghost use Rattle.bac_apdu.specs.Decoded.{IsDecoded};
 
 use crate::apdu::Apdu;
-use crate::heads::{Marked, ended, ends_early, first_octet, has_bit};
+use crate::heads::{Marked, ended, first_octet, has_bit};
 use crate::window::Window;
 use bac_tag::{OutOfMemory, Refusal, Why};
 
@@ -48,13 +48,10 @@ pub(crate) fn decode_segment_ack(octets: &[u8]) -> Result<Marked, Refusal>
     ensures { IsDecoded octets.now result }
 {
     let [first, invoke, seq, size, ..] = octets else {
-        return Err(ends_early(octets));
+        return Err(Why::Short.at(octets.len()));
     };
     let Some(window) = Window::new(*size) else {
-        return Err(Refusal {
-            place: 3,
-            why: Why::Window,
-        });
+        return Err(Why::Window.at(3));
     };
     let ack = SegmentAck {
         invoke: *invoke,

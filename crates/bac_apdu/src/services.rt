@@ -7,7 +7,8 @@ ghost use Rattle.bac_service.specs.Services.{SpellsService};
 ghost use Rattle.bac_apdu.specs.Decoded.{IsBehind};
 
 use bac_service::{Kind, Service, append_service, decode_service_marked};
-use bac_tag::{OutOfMemory, Refusal, Why, first_difference, joined_marks};
+use bac_tag::layers::{first_difference, joined_marks};
+use bac_tag::{OutOfMemory, Refusal, Why};
 use std::alloc::Global;
 
 /// Decodes the service behind a head, of which these are the canonical octets.

@@ -9,10 +9,10 @@ ghost use Rattle.bac_apdu.specs.Apdus.{unconfirmed_request, SpellsApdu};
 ghost use Rattle.bac_apdu.specs.Decoded.{IsDecoded};
 
 use crate::apdu::Apdu;
-use crate::heads::{Marked, ends_early};
+use crate::heads::Marked;
 use crate::services::{append_behind, decode_behind};
 use bac_service::{Kind, Service};
-use bac_tag::{OutOfMemory, Refusal};
+use bac_tag::{OutOfMemory, Refusal, Why};
 use std::alloc::Global;
 use std::marker::Model;
 
@@ -82,7 +82,7 @@ pub(crate) fn decode_unconfirmed_request(alloc: Global, octets: &[u8]) -> Result
     ensures { IsDecoded octets.now result }
 {
     let [_, choice, ..] = octets else {
-        return Err(ends_early(octets));
+        return Err(Why::Short.at(octets.len()));
     };
     let least = [0x10, *choice];
     let (service, mark) = decode_behind(alloc, Kind::Unconfirmed, *choice, octets, &least)?;

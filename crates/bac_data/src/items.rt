@@ -14,13 +14,14 @@ ghost use Rattle.bac_data.specs.Under.{Under, HasContents};
 ghost use Rattle.bac_data.specs.Events.{SpellsEvent};
 ghost use Rattle.bac_data.specs.Reading.{SpellsStanding, next_heads, item_event, item_contents, item_head, IsItem, HasLeastContents, LiesInFront};
 
-use bac_tag::{
-    Expected, Refusal, TagHead, Why, is_short_closing, joined_marks, mark_read_head, read_head,
-    read_one_of, short_len,
+use bac_tag::layers::{
+    Expected, is_short_closing, joined_marks, mark_read_head, read_one_of, short_len,
 };
+use bac_tag::{Refusal, TagHead, Why, read_head};
+use bac_value::layers::{mark_contents, written_len_of};
 use bac_value::{
     Bits, Date, DoubleBits, Enumerated, Null, ObjectId, Octets, Prim, Primitive, RealBits, Signed,
-    Text, Time, Unsigned, mark_contents, written_len_of,
+    Text, Time, Unsigned,
 };
 
 /// What stands next in an open value: a primitive with its contents as they lie, or a tag.
@@ -52,16 +53,10 @@ fn read_contents(number: u8, size: usize, octets: &[u8]) -> Result<&[u8], Refusa
 {
     let seen = &octets[..size.min(octets.len())];
     if let Some(place) = Prim::hopeless(number, seen, size) {
-        return Err(Refusal {
-            place,
-            why: Why::Content,
-        });
+        return Err(Why::Content.at(place));
     }
     if seen.len() < size {
-        return Err(Refusal {
-            place: seen.len(),
-            why: Why::Short,
-        });
+        return Err(Why::Short.at(seen.len()));
     }
     Ok(seen)
 }
@@ -90,10 +85,7 @@ fn read_under(head: TagHead, octets: &[u8]) -> Result<(Item<'_>, usize), Refusal
         TagHead::Ctx { number, len } => {
             let size = len as usize;
             if octets.len() < size {
-                return Err(Refusal {
-                    place: octets.len(),
-                    why: Why::Short,
-                });
+                return Err(Why::Short.at(octets.len()));
             }
             Ok((
                 Item::Context {
@@ -225,10 +217,7 @@ fn told(refusal: Refusal, octets: &[u8], room: bool) -> Refusal
     if room || refusal.place != 0 || !begins_group(octets) {
         return refusal;
     }
-    Refusal {
-        place: 0,
-        why: Why::Depth,
-    }
+    Why::Depth.at(0)
 }
 
 /// What stands next and how many octets it takes, where it is the closing tag of this number or an application

@@ -9,7 +9,8 @@ ghost use Rattle.bac_value.specs.PrimContents.{ContentsOf};
 ghost use Rattle.bac_value.specs.PrimOfContents.{prim_of_contents};
 
 use crate::build_faults::BuildFault;
-use bac_value::{Prim, append_written};
+use bac_value::Prim;
+use bac_value::layers::append_written;
 
 /// An event of an open value. The contents of a primitive are the octets from `start` up to `end`.
 #[derive(Clone, Copy, Debug, PartialEq, Eq)]

@@ -11,14 +11,9 @@ ghost use Rattle.bac_data.specs.Refusals.{IsOpenValueReason, IsTooDeep};
 use crate::building::AnyBuilder;
 use crate::items::{Item, mark_item, read_item};
 use crate::open_value::Any;
-use bac_tag::{Expected, Refusal, TagHead, Why, joined_marks, mark_read_head, read_expected};
+use bac_tag::layers::{Expected, joined_marks, mark_read_head, read_expected};
+use bac_tag::{Refusal, TagHead, Why};
 use std::alloc::Global;
-
-/// Memory was refused.
-const OUT_OF_MEMORY: Refusal = Refusal {
-    place: 0,
-    why: Why::OutOfMemory,
-};
 
 /// Whether the item is the end of a group with this number.
 fn ends(item: Item<'_>, number: u8) -> bool
@@ -52,7 +47,7 @@ fn read_value(
         None
     };
     let Ok(mut builder) = AnyBuilder::new(alloc) else {
-        return Err(OUT_OF_MEMORY);
+        return Err(Refusal::out_of_memory());
     };
     loop {
         let (room, closing) = builder.place(number);
@@ -67,11 +62,11 @@ fn read_value(
         if builder.is_complete() && ends(item, number) {
             return match builder.finish() {
                 Ok(value) => Ok((value, place, mark)),
-                Err(_) => Err(OUT_OF_MEMORY),
+                Err(_) => Err(Refusal::out_of_memory()),
             };
         }
         if builder.take(item).is_err() {
-            return Err(OUT_OF_MEMORY);
+            return Err(Refusal::out_of_memory());
         }
     }
 }
@@ -94,7 +89,7 @@ fn read_value(
 /// # Examples
 /// ```rust
 /// use bac_data::{Event, read_any};
-/// use bac_tag::{Refusal, Why};
+/// use bac_tag::Why;
 /// use bac_value::{PrimRef, Unsigned};
 ///
 /// // The Unsigned 5 between tags of number 3. The octet behind them is not taken.
@@ -104,11 +99,8 @@ fn read_value(
 ///     assert_eq!(rt; event, Event::App(PrimRef::Unsigned(Unsigned(5))));
 /// }
 /// // A closing tag of another number is refused.
-/// let refusal = Refusal {
-///     place: 1,
-///     why: Why::Tag,
-/// };
-/// assert_eq!(rt; read_any(rt.alloc(), &[0x3E, 0x4F], 3).err(), Some(refusal));
+/// let refused = read_any(rt.alloc(), &[0x3E, 0x4F], 3);
+/// assert_eq!(rt; refused.err(), Some(Why::Tag.at(1)));
 /// ```
 pub fn read_any(alloc: Global, octets: &[u8], number: u8) -> Result<(Any, usize), Refusal>
     requires { number ≤ 254 }

@@ -9,7 +9,8 @@ ghost use Rattle.bac_value.specs.PrimOfContents.{prim_of_contents};
 ghost use Rattle.bac_data.specs.Spells.{SpellsPrimitive, SpellsOpen};
 ghost use Rattle.bac_data.specs.Events.{SpellsEvent, SpellsEvents};
 ghost use Rattle.bac_data.specs.Nodes.{node_event, nodes_events, IsWithin, IsNode};
-ghost use Rattle.bac_data.specs.Writing.{Extends, Appends};
+ghost use Rattle.bac_tag.specs.Octets.{Extends};
+ghost use Rattle.bac_data.specs.Writing.{Appends};
 
 use crate::nodes::Node;
 use crate::open_value::Any;

@@ -2,7 +2,7 @@
 
 ghost use Rattle.std.specs.Prelude.{◌≡◌, ◌≢◌, ◌↔◌, ℕ, Bool, List, take, length, IsTrue, IfOk, IfErr, OnOk, Err};
 ghost use Rattle.bac_tag.specs.Spelling.{IsRefusal, HasMark, AppendsLeast};
-ghost use Rattle.bac_data.specs.Writing.{Extends};
+ghost use Rattle.bac_tag.specs.Octets.{Extends};
 ghost use Rattle.bac_service.specs.Leads.{Lead};
 ghost use Rattle.bac_service.specs.Productions.{Lawful, IsInhabited, HasLeast, IsLongest, IsReach};
 ghost use Rattle.bac_service.specs.Reasons.{IsPartReason, IsReachReason};
@@ -65,7 +65,7 @@ pub(crate) fn complete_at(octets: &[u8], taken: usize) -> Refusal
     } else {
         Why::Trailing
     };
-    Refusal { place: taken, why }
+    why.at(taken)
 }
 
 /// A part of a production.

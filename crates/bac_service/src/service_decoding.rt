@@ -33,10 +33,7 @@ fn decode_opaque(alloc: Global, kind: Kind, choice: u8, octets: &[u8]) -> Result
 {
     match Opaque::new(alloc, kind, choice, octets) {
         Ok(service) => Ok((Service::Opaque(service), None)),
-        Err(_) => Err(Refusal {
-            place: 0,
-            why: Why::OutOfMemory,
-        }),
+        Err(_) => Err(Refusal::out_of_memory()),
     }
 }
 
@@ -148,7 +145,7 @@ pub fn decode_service_marked(
 /// # Examples
 /// ```rust
 /// use bac_service::{Kind, Service, WhoIs, decode_service};
-/// use bac_tag::{Refusal, Why};
+/// use bac_tag::Why;
 ///
 /// // Unconfirmed, service choice 8: Who-Is. Without octets it asks for all devices.
 /// let service = decode_service(rt.alloc(), Kind::Unconfirmed, 8, &[])?;
@@ -157,12 +154,8 @@ pub fn decode_service_marked(
 /// };
 /// assert_eq!(rt; *request, WhoIs { limits: None });
 /// // A low limit needs a high one behind it.
-/// let refusal = Refusal {
-///     place: 2,
-///     why: Why::Short,
-/// };
 /// let found = decode_service(rt.alloc(), Kind::Unconfirmed, 8, &[0x09, 0x64]);
-/// assert_eq!(rt; found.err(), Some(refusal));
+/// assert_eq!(rt; found.err(), Some(Why::Short.at(2)));
 /// ```
 pub fn decode_service(
     alloc: Global,

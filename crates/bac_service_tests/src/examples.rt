@@ -3,7 +3,7 @@
 use bac_service::{
     Kind, Service, WhoIs, append_service, decode_service, decode_service_marked, encode_service,
 };
-use bac_tag::{Refusal, Why};
+use bac_tag::Why;
 use bac_value::Enumerated;
 use std::test::Fail;
 
@@ -35,12 +35,8 @@ fn a_service_is_decoded(rt: HostRuntime) -> Result<(), Fail> {
     };
     assert_eq!(rt; *request, WhoIs { limits: None });
     // A low limit needs a high one behind it.
-    let refusal = Refusal {
-        place: 2,
-        why: Why::Short,
-    };
     let found = decode_service(rt.alloc(), Kind::Unconfirmed, 8, &[0x09, 0x64]);
-    assert_eq!(rt; found.err(), Some(refusal));
+    assert_eq!(rt; found.err(), Some(Why::Short.at(2)));
     Ok(())
 }
 

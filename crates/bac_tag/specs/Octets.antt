@@ -1,5 +1,5 @@
 -- Lists of octets, and the order by which canonical spellings are least.
-use Rattle.std.specs.Prelude.{◌≡◌, ◌≢◌, ℕ, ◌+◌, ◌<◌, ◌≤◌, ◌⊎◌, List, length, take, slice_index, slice_get, Option, None, Some}
+use Rattle.std.specs.Prelude.{◌≡◌, ◌≢◌, ℕ, ◌+◌, ◌<◌, ◌≤◌, ◌⊎◌, List, length, take, slice_index, slice_get, ◌++◌, Option, None, Some}
 use Rattle.std.specs.List.{AllByRecursion}
 
 -- each number is that of an octet
@@ -26,3 +26,7 @@ abbrev pub joined_mark : Option ℕ → ℕ → Option ℕ → Option ℕ
 joined_mark (Some place) count second = Some place
 joined_mark None count (Some place) = Some (count + place)
 joined_mark None count None = None
+
+-- the new octets are the old ones with some more behind them
+abbrev pub Extends : List ℕ → List ℕ → Type 0
+Extends old new = (more : List ℕ) × (new ≡ old ++ more)

@@ -10,13 +10,14 @@
 //! - A [`Refusal`] has a reason, and the offset of the first octet with which no accepted input begins: the octets
 //!   in front of it begin one, and with it they begin none.
 //!
-//! Offsets are counted in octets from 0. Nothing here takes memory. In the examples `rt` is the program's
-//! `HostRuntime`.
+//! Offsets are counted in octets from 0. Nothing here takes memory. What only the layers above call stands in
+//! [`layers`]. In the examples `rt` is the program's `HostRuntime`.
 #![tactic(auto)]
 
 mod expecting;
 mod heads;
 pub mod laws;
+pub mod layers;
 mod marks;
 mod numbers;
 mod reading;
@@ -24,11 +25,7 @@ mod refusals;
 mod short;
 mod writing;
 
-pub use expecting::Expected;
 pub use heads::TagHead;
-pub use marks::{first_difference, joined_marks, mark_head, mark_read_head};
-pub use numbers::{first_hopeless, number_of, number_within};
-pub use reading::{read_expected, read_head, read_one_of};
+pub use reading::read_head;
 pub use refusals::{OutOfMemory, Refusal, Why};
-pub use short::{is_short_closing, is_short_opening, short_len};
 pub use writing::{head_len, write_head};

@@ -9,7 +9,8 @@ ghost use Rattle.bac_tag.specs.Number.{NumberIn};
 ghost use Rattle.bac_tag.specs.Expected.{IsSound, FitsOne, ExpectedHeads, HeadsOfOne};
 ghost use Rattle.bac_tag.specs.Reading.{HasLvt, IsWide, Uses, LengthWithin, IsFront};
 
-use crate::{Expected, Refusal, TagHead, Why, number_within};
+use crate::layers::{Expected, number_within};
+use crate::{Refusal, TagHead, Why};
 
 /// What stands before the length: the class, the number and the LVT.
 #[derive(Clone, Copy)]
@@ -54,10 +55,7 @@ fn read_front(octets: &[u8], expected: Expected) -> Result<(Front, usize), Refus
     ensures reasons { IfErr result (λ refusal. IsHeadReason refusal.why) }
 {
     let [initial, ..] = octets else {
-        return Err(Refusal {
-            place: 0,
-            why: Why::Short,
-        });
+        return Err(Why::Short.at(0));
     };
     let (nibble, context, lvt) = initial_parts(*initial);
     let number = if nibble < 15 {
@@ -67,7 +65,7 @@ fn read_front(octets: &[u8], expected: Expected) -> Result<(Front, usize), Refus
     };
     if !expected.uses(context, number, lvt) {
         let why = reason_at_first(expected, context, number, lvt);
-        return Err(Refusal { place: 0, why });
+        return Err(why.at(0));
     }
     if nibble < 15 {
         return Ok((
@@ -80,16 +78,10 @@ fn read_front(octets: &[u8], expected: Expected) -> Result<(Front, usize), Refus
         ));
     }
     let [_, number, ..] = octets else {
-        return Err(Refusal {
-            place: 1,
-            why: Why::Short,
-        });
+        return Err(Why::Short.at(1));
     };
     if !expected.uses(context, *number, lvt) {
-        return Err(Refusal {
-            place: 1,
-            why: Why::Tag,
-        });
+        return Err(Why::Tag.at(1));
     }
     Ok((
         Front {
@@ -113,14 +105,8 @@ fn read_number(octets: &[u8], width: usize, low: u64, high: u64) -> Result<u64, 
     let front = &octets[..octets.len().min(width)];
     match number_within(front, width, low, high) {
         Ok(number) if front.len() == width => Ok(number),
-        Ok(_) => Err(Refusal {
-            place: front.len(),
-            why: Why::Short,
-        }),
-        Err(place) => Err(Refusal {
-            place,
-            why: Why::Length,
-        }),
+        Ok(_) => Err(Why::Short.at(front.len())),
+        Err(place) => Err(Why::Length.at(place)),
     }
 }
 
@@ -145,10 +131,7 @@ fn read_wide_length(
     ensures reasons { IfErr result (λ refusal. IsHeadReason refusal.why) }
 {
     if width == 2 && least > 0xFFFF {
-        return Err(Refusal {
-            place: 0,
-            why: Why::Length,
-        });
+        return Err(Why::Length.at(0));
     }
     match read_number(&octets[1..], width, u64::from(least), u64::from(most)) {
         Ok(len) => Ok((len as u32, 1 + width)),
@@ -169,10 +152,7 @@ fn read_length(octets: &[u8], lvt: u8, least: u32, most: u32) -> Result<(u32, us
         return Ok((u32::from(lvt), 0));
     }
     let [first, ..] = octets else {
-        return Err(Refusal {
-            place: 0,
-            why: Why::Short,
-        });
+        return Err(Why::Short.at(0));
     };
     if *first == TWO_OCTETS {
         return read_wide_length(octets, 2, least, most);
@@ -182,10 +162,7 @@ fn read_length(octets: &[u8], lvt: u8, least: u32, most: u32) -> Result<(u32, us
     }
     let len = u32::from(*first);
     if len < least || len > most {
-        return Err(Refusal {
-            place: 0,
-            why: Why::Length,
-        });
+        return Err(Why::Length.at(0));
     }
     Ok((len, 1))
 }

@@ -89,6 +89,14 @@ pub struct Refusal {
 }
 
 impl Why {
+    /// Returns the refusal for this reason at this place, which [`Refusal`] says how to count.
+    #[inline(always)]
+    pub fn at(self, place: usize) -> Refusal
+        ensures { result ≡ record { place = place; why = self } }
+    {
+        Refusal { place, why: self }
+    }
+
     /// How telling the reason is, where several readings of an input come to one place.
     #[inline(always)]
     fn weight(self) -> u8
@@ -103,6 +111,14 @@ impl Why {
 }
 
 impl Refusal {
+    /// Returns the refusal where memory was refused: its place is 0.
+    #[inline(always)]
+    pub fn out_of_memory() -> Refusal
+        ensures { result ≡ record { place = 0; why = Why.OutOfMemory } }
+    {
+        Why::OutOfMemory.at(0)
+    }
+
     /// Returns the refusal with the greater place: of two readings of one input, the one that came farther. At one
     /// place `Depth` goes before `Length`, and `Length` before the other reasons. Where that decides nothing it is
     /// `self`.

@@ -1,8 +1,8 @@
-//! The examples of the doc comments of bac_tag and bac_data, with the same lines.
+//! The examples of the doc comments of bac_tag, bac_value and bac_data, with the same lines.
 
 use bac_data::{AnyBuilder, Event, read_any, write_any};
 use bac_tag::{Refusal, TagHead, Why, head_len, read_head, write_head};
-use bac_value::{Prim, PrimRef, Unsigned};
+use bac_value::{Boolean, Prim, PrimRef, Primitive, RealBits, Text, Unsigned};
 use std::test::Fail;
 
 // Of `bac_tag::read_head`.
@@ -43,6 +43,30 @@ fn a_head_is_written(rt: HostRuntime) {
     assert_eq!(rt; head_len(head), 5);
 }
 
+// Of the page of bac_value.
+#[test]
+fn values_are_read_and_written(rt: HostRuntime) -> Result<(), Fail> {
+    // The contents 0055 are a tolerated spelling of 85, since one octet is enough.
+    let value = Unsigned::read(rt.alloc(), &[0x00, 0x55])?;
+    assert_eq!(rt; value, Unsigned(85));
+    assert_eq!(rt; value.mark(&[0x00, 0x55]), Some(0));
+    // What is written is canonical, and stands behind what stood there.
+    let mut out = Vec::new(rt.alloc());
+    value.write(&mut out)?;
+    let name = Text::new(rt.alloc(), 0, b"AI")?;
+    name.write(&mut out)?;
+    let written = [0x55, 0x00, 0x41, 0x49];
+    assert_eq!(rt; out.as_slice(), written.as_slice());
+    assert_eq!(rt; name.as_utf8(), Some("AI"));
+    // A Real has four octets.
+    let refused = RealBits::read(rt.alloc(), &[0x42, 0x90]);
+    assert_eq!(rt; refused, Err(Why::Length.at(0)));
+    // The same is done by the number of an application tag, here that of a Boolean.
+    let prim = Prim::read(rt.alloc(), 1, &[0x01])?;
+    assert_eq!(rt; prim.as_prim_ref(), PrimRef::Boolean(Boolean(true)));
+    Ok(())
+}
+
 // Of `bac_data::read_any`.
 #[test]
 fn an_open_value_is_read(rt: HostRuntime) -> Result<(), Fail> {
@@ -53,11 +77,8 @@ fn an_open_value_is_read(rt: HostRuntime) -> Result<(), Fail> {
         assert_eq!(rt; event, Event::App(PrimRef::Unsigned(Unsigned(5))));
     }
     // A closing tag of another number is refused.
-    let refusal = Refusal {
-        place: 1,
-        why: Why::Tag,
-    };
-    assert_eq!(rt; read_any(rt.alloc(), &[0x3E, 0x4F], 3).err(), Some(refusal));
+    let refused = read_any(rt.alloc(), &[0x3E, 0x4F], 3);
+    assert_eq!(rt; refused.err(), Some(Why::Tag.at(1)));
     Ok(())
 }
 

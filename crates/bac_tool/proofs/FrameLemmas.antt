@@ -7,12 +7,13 @@ use Rattle.bac_tag.specs.Laws.Octets.{NoGreater-length, NoGreater-same}
 use Rattle.bac_tag.specs.Spelling.{EndsItself, IsLeast, IsRefusal, Takes, JoinedBy, IsWholeRefusal}
 use Rattle.bac_tag.specs.Laws.Spelling.{JoinedBy-end, IsLeast-joined, refused_first}
 use Rattle.bac_value.specs.Primitives.{IsTheList}
-use Rattle.bac_value.specs.Laws.Primitives.{the_list_once, the_list_written, the_list_least}
+use Rattle.bac_value.specs.Laws.Primitives.{the_list_written, the_list_least}
 use Rattle.bac_value.specs.Numbers.{NumberContents, least_number}
 use Rattle.bac_value.specs.Laws.Numbers.{number_range, number_written, number_least, number_lengths}
 use Rattle.bac_value.specs.Laws.Enumerated.{one_enumerated}
 use Rattle.bac_value.specs.Identifier.{Identifier, IsIdentifier, identifier_octets}
-use Rattle.bac_value.specs.Laws.Identifier.{identifier_once, identifier_lengths}
+use Rattle.bac_value.specs.Laws.AnyOctets.{any_octets_once, any_octets_lengths}
+use Rattle.bac_value.specs.Laws.Identifier.{identifier_any_octets}
 use Rattle.bac_value.specs.declared.types.enumeration.Enumerated.{Enumerated}
 use Rattle.bac_tool.specs.declared.array_index.ArrayIndex.{ArrayIndex}
 use Rattle.bac_tool.specs.declared.thin_frame.ThinFrame.{ThinFrame}
@@ -27,7 +28,7 @@ use Rattle.bac_tool.proofs.FieldLemmas.{field_ends, field_least}
 -- ---- the fields
 
 pub object_ends : EndsItself ObjectField
-object_ends = field_ends (IsTheList IsIdentifier identifier_octets) 0 (the_list_once IsIdentifier identifier_octets identifier_once)
+object_ends = field_ends (IsTheList IsIdentifier identifier_octets) 0 (any_octets_once identifier_any_octets)
 
 pub property_ends : EndsItself PropertyField
 property_ends = field_ends (λ (property : Enumerated) octets. NumberContents 0 (2 ^ 32 - 1) property.0 octets) 1 one_enumerated
@@ -38,7 +39,7 @@ index_ends = field_ends (λ (index : ArrayIndex) octets. NumberContents 0 (2 ^ 3
 pub object_least : (object : Identifier) → IsIdentifier object → IsLeast (ObjectField object) (least_field 0 (identifier_octets object))
 object_least object h =
     let written = the_list_written IsIdentifier identifier_octets object h in
-    field_least (IsTheList IsIdentifier identifier_octets) 0 object (identifier_octets object) (omega arith) (omega (arith, (identifier_lengths object (identifier_octets object) written).1)) written
+    field_least (IsTheList IsIdentifier identifier_octets) 0 object (identifier_octets object) (omega arith) (omega (arith, (any_octets_lengths identifier_any_octets object (identifier_octets object) written).1)) written
     (the_list_least IsIdentifier identifier_octets object)
 
 number_small : (n : ℕ) → n < 2 ^ 32 → length (least_number n) < 2 ^ 32

@@ -5,13 +5,12 @@ use Rattle.std.proofs.Math.Seq.{take-append-add}
 use Rattle.bac_tag.specs.declared.refusals.Refusal.{Refusal}
 use Rattle.bac_tag.specs.declared.refusals.Why.{Why}
 use Rattle.bac_tag.specs.declared.refusals.Why.TheVariants.{Short, Trailing}
-use Rattle.bac_tag.specs.Octets.{IsMark, joined_mark}
+use Rattle.bac_tag.specs.Octets.{IsMark, joined_mark, Extends}
 use Rattle.bac_tag.specs.Laws.Octets.{mark-append}
 use Rattle.bac_tag.specs.Spelling.{EndsItself, IsViable, IsRefusal, Takes, JoinedBy, IsWholeRefusal}
 use Rattle.bac_tag.specs.Laws.Spelling.{refused_second, splits}
 use Rattle.bac_value.specs.Laws.Primitives.{nothing_left}
 use Rattle.bac_tool.specs.Fields.{Optional}
-use Rattle.bac_tool.specs.Appending.{Extends}
 
 -- fronts of one list that are as long are one
 pub same_fronts : (b c r s : List ℕ) → b ++ r ≡ c ++ s → length b ≡ length c → b ≡ c

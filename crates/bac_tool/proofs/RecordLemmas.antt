@@ -4,7 +4,7 @@ use Rattle.std.specs.Prelude.{OnErr}
 use Rattle.std.specs.Int.{w16, to_be_bytes}
 use Rattle.std.proofs.lemmas.List.{take_at}
 use Rattle.std.proofs.lemmas.Result.{on_err_weaker}
-use Rattle.bac_tool.specs.Appending.{Extends}
+use Rattle.bac_tag.specs.Octets.{Extends}
 use Rattle.bac_tool.specs.Records.{record_of, LONGEST}
 
 -- length octets, and then the octets

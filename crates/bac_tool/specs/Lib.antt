@@ -8,7 +8,6 @@ pub mod Batches
 pub mod Files
 pub mod DecimalText
 pub mod Fields
-pub mod Appending
 pub mod ThinHeader
 pub mod ThinFrame
 pub mod ThinText

@@ -7,8 +7,9 @@ ghost use Rattle.bac_value.specs.Laws.Numbers.{number_range, number_written, num
 ghost use Rattle.bac_tool.specs.Laws.ArrayIndex.{one_array_index, array_index_each_length};
 
 use bac_tag::{OutOfMemory, Refusal};
-use bac_value::{
-    Primitive, hopeless_number, mark_number, read_number, write_number, written_number_len,
+use bac_value::Primitive;
+use bac_value::layers::{
+    hopeless_number, mark_number, read_number, write_number, written_number_len,
 };
 use std::alloc::Global;
 

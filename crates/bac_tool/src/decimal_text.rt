@@ -3,7 +3,7 @@
 ghost use Rattle.std.specs.Prelude.{◌≡◌, ◌++◌, OnOk, OnErr};
 ghost use Rattle.std.specs.Fmt.{decimal};
 ghost use Rattle.bac_tool.specs.DecimalText.{named};
-ghost use Rattle.bac_tool.specs.Appending.{Extends};
+ghost use Rattle.bac_tag.specs.Octets.{Extends};
 
 use bac_tag::OutOfMemory;
 

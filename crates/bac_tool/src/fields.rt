@@ -1,17 +1,14 @@
 //! Fields of a production: contents under a context head (clause 21).
 
 ghost use Rattle.std.specs.Prelude.{◌≡◌, ◌+◌, ◌≤◌, ◌++◌, false, IfOk, IfErr, OnOk, OnErr, length, take};
-ghost use Rattle.bac_tag.specs.Octets.{IsMark};
+ghost use Rattle.bac_tag.specs.Octets.{IsMark, Extends};
 ghost use Rattle.bac_tag.specs.Heads.{Heads};
 ghost use Rattle.bac_tag.specs.Spelling.{IsRefusal, Takes};
 ghost use Rattle.bac_value.specs.Primitives.{OfSize};
 ghost use Rattle.bac_tool.specs.Fields.{Field, least_field, IsFieldReason};
-ghost use Rattle.bac_tool.specs.Appending.{Extends};
 
-use bac_tag::{
-    Expected, OutOfMemory, Refusal, TagHead, Why, joined_marks, mark_read_head, read_expected,
-    write_head,
-};
+use bac_tag::layers::{Expected, joined_marks, mark_read_head, read_expected};
+use bac_tag::{OutOfMemory, Refusal, TagHead, Why, write_head};
 use bac_value::Primitive;
 use std::alloc::Global;
 

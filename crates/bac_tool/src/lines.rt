@@ -1,7 +1,7 @@
 //! The lines of `show` and `check`.
 
 ghost use Rattle.std.specs.Prelude.{◌≡◌, ◌++◌, OnOk, OnErr};
-ghost use Rattle.bac_tool.specs.Appending.{Extends};
+ghost use Rattle.bac_tag.specs.Octets.{Extends};
 ghost use Rattle.bac_tool.specs.Lines.{line_text, numbered};
 
 use crate::ThinFrame;

@@ -2,8 +2,7 @@
 
 ghost use Rattle.std.specs.Prelude.{◌≡◌, ◌≤◌, ◌++◌, IfErr, IfOk, OnErr, OnOk, MatchResult, List, ℕ, Some, length};
 ghost use Rattle.bac_tool.specs.ThinFrame.{SpellsThin, thin_octets};
-ghost use Rattle.bac_tag.specs.Octets.{IsMark};
-ghost use Rattle.bac_tool.specs.Appending.{Extends};
+ghost use Rattle.bac_tag.specs.Octets.{IsMark, Extends};
 ghost use Rattle.bac_tool.specs.Judging.{IsCanonical, IsRefused, Refuses};
 ghost use Rattle.bac_tool.specs.Lines.{NormalisesTo};
 ghost use Rattle.bac_tool.specs.Records.{Records, IsRecord, record_of, LONGEST};

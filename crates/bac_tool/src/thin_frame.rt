@@ -1,17 +1,17 @@
 //! Thin frames: what the tool reads and writes of ReadProperty.
 
 ghost use Rattle.std.specs.Prelude.{◌≡◌, ◌++◌, IfOk, IfErr, OnOk, OnErr, length, take};
-ghost use Rattle.bac_tag.specs.Octets.{IsMark};
+ghost use Rattle.bac_tag.specs.Octets.{IsMark, Extends};
 ghost use Rattle.bac_tag.specs.Spelling.{IsLeast, IsRefusal, Takes, IsWholeRefusal};
 ghost use Rattle.bac_tool.specs.Fields.{IsFieldReason, Optional};
 ghost use Rattle.bac_tool.specs.ThinHeader.{header_octets};
-ghost use Rattle.bac_tool.specs.Appending.{Extends};
 ghost use Rattle.bac_tool.specs.ThinFrame.{IsThinFrame, IndexField, SpellsRequest, SpellsRequired, SpellsThin, request_octets, index_octets, thin_octets, IsRequiredReason, IsThinReason};
 
 use crate::array_index::ArrayIndex;
 use crate::fields::{Part, append_field, field_len, read_field};
 use crate::thin_header::{SIZE, ThinHeader};
-use bac_tag::{OutOfMemory, Refusal, Why, joined_marks};
+use bac_tag::layers::joined_marks;
+use bac_tag::{OutOfMemory, Refusal, Why};
 use bac_value::{Enumerated, ObjectId};
 use std::alloc::Global;
 

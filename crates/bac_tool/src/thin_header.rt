@@ -1,10 +1,9 @@
 //! The octets in front of the fields of a thin frame.
 
 ghost use Rattle.std.specs.Prelude.{◌≡◌, ◌≢◌, ◌<◌, ◌/◌, ◌%◌, ◌^◌, ℕ, List, [], ◌∷◌, take, IfOk, IfErr, IfNone, IfSome, OnOk, OnErr, ◌++◌};
-ghost use Rattle.bac_tag.specs.Octets.{IsMark};
+ghost use Rattle.bac_tag.specs.Octets.{IsMark, Extends};
 ghost use Rattle.bac_tag.specs.Spelling.{IsRefusal, IsSpelling, Takes};
 ghost use Rattle.bac_tool.specs.ThinHeader.{Header, IsHeader, SpellsHeader, header_octets, bit, Allows, IsHeaderReason, header_text};
-ghost use Rattle.bac_tool.specs.Appending.{Extends};
 
 use crate::decimal_text::push_named;
 use crate::fields::Part;

@@ -1,7 +1,7 @@
 //! The text of thin frames.
 
 ghost use Rattle.std.specs.Prelude.{◌≡◌, ◌++◌, OnOk, OnErr};
-ghost use Rattle.bac_tool.specs.Appending.{Extends};
+ghost use Rattle.bac_tag.specs.Octets.{Extends};
 ghost use Rattle.bac_tool.specs.ThinText.{request_text, thin_text};
 
 use crate::decimal_text::push_named;

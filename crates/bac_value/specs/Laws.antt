@@ -1,5 +1,6 @@
 -- What only proofs need: laws of the definitions, which no contract cites.
 pub mod Primitives
+pub mod AnyOctets
 pub mod Numbers
 pub mod Unsigned
 pub mod Bounded

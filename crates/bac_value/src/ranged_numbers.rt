@@ -6,7 +6,8 @@ ghost use Rattle.bac_tag.specs.Octets.{FirstDifference};
 ghost use Rattle.bac_tag.specs.Number.{number, BeginsNumber, MissesAt};
 ghost use Rattle.bac_value.specs.Numbers.{NumberContents, HasNumberLength, least_number, IsNumberReason};
 
-use bac_tag::{OutOfMemory, Refusal, Why, first_difference, first_hopeless, number_within};
+use bac_tag::layers::{first_difference, first_hopeless, number_within};
+use bac_tag::{OutOfMemory, Refusal, Why};
 
 /// The number between `low` and `high` whose contents are these octets.
 ///
@@ -23,17 +24,11 @@ pub fn read_number(octets: &[u8], low: u64, high: u64) -> Result<u64, Refusal>
     ensures content { IfErr result (λ refusal. refusal.why ≡ Why.Content → HasNumberLength (length octets.now) × MissesAt low high octets.now (length octets.now) refusal.place) }
 {
     if octets.is_empty() || octets.len() > 8 {
-        return Err(Refusal {
-            place: 0,
-            why: Why::Length,
-        });
+        return Err(Why::Length.at(0));
     }
     match number_within(octets, octets.len(), low, high) {
         Ok(number) => Ok(number),
-        Err(place) => Err(Refusal {
-            place,
-            why: Why::Content,
-        }),
+        Err(place) => Err(Why::Content.at(place)),
     }
 }
 

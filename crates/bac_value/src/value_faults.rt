@@ -24,17 +24,25 @@ impl Display for ValueFault {
 
 impl Error for ValueFault {}
 
-/// A number that no value of the type has.
+/// Why a number is no value of a type with a range.
 #[derive(Clone, Copy, Debug, PartialEq, Eq)]
-pub struct OutOfRange;
+pub enum RangeFault {
+    /// A priority that is not 1 to 16 (clause 19.2).
+    Priority = 1,
+    /// An instance above 4,194,303 (clause 20.2.14).
+    Instance,
+}
 
-impl Display for OutOfRange {
+impl Display for RangeFault {
     fn fmt<W: fmt::Write>(&self, formatter: &mut fmt::Formatter<W>) -> fmt::Result {
-        formatter.write_str("the number is out of range")
+        formatter.write_str(match self {
+            RangeFault::Priority => "a priority is 1 to 16",
+            RangeFault::Instance => "an instance is at most 4194303",
+        })
     }
 }
 
-impl Error for OutOfRange {}
+impl Error for RangeFault {}
 
 /// The most octets of the contents of one value.
 pub const LIMIT: usize = 1_048_576;

@@ -27,7 +27,8 @@ use crate::types::real::RealBits;
 use crate::types::signed_integer::{Signed, signed_of, significant_signed};
 use crate::types::time_value::Time;
 use crate::types::unsigned_integer::Unsigned;
-use bac_tag::{OutOfMemory, Refusal, Why, first_difference, number_of};
+use bac_tag::layers::{first_difference, number_of};
+use bac_tag::{OutOfMemory, Refusal, Why};
 use std::alloc::Global;
 
 /// A primitive type that is one of the thirteen.

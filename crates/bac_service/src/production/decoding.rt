@@ -28,20 +28,14 @@ pub(crate) fn decode<P: Production>(
         Ok(front) => front,
         Err(ReadFault::Refused(refusal)) => return Err(refusal),
         Err(ReadFault::OutOfMemory) => {
-            return Err(Refusal {
-                place: 0,
-                why: Why::OutOfMemory,
-            });
+            return Err(Refusal::out_of_memory());
         }
     };
     if front.taken == octets.len() {
         return Ok((front.value, front.mark));
     }
     if front.reach.place == front.taken {
-        return Err(Refusal {
-            place: front.taken,
-            why: Why::Trailing,
-        });
+        return Err(Why::Trailing.at(front.taken));
     }
     Err(front.reach)
 }

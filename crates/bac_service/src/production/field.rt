@@ -5,7 +5,7 @@ ghost use Rattle.bac_tag.specs.Heads.{Heads};
 ghost use Rattle.bac_tag.specs.Short.{BeginsShort};
 ghost use Rattle.bac_tag.specs.Spelling.{IsRefusal, Takes, HasMark, AppendsLeast};
 ghost use Rattle.bac_value.specs.Primitives.{OfSize};
-ghost use Rattle.bac_data.specs.Writing.{Extends};
+ghost use Rattle.bac_tag.specs.Octets.{Extends};
 ghost use Rattle.bac_service.specs.Leads.{context, application};
 ghost use Rattle.bac_service.specs.Fields.{heading, expected_heading, IsHeading, IsField};
 ghost use Rattle.bac_service.specs.Laws.Field.{field_lawful, field_inhabited, application_heading};
@@ -15,10 +15,8 @@ ghost use Rattle.bac_service.specs.ReadFaults.{IfRefused, EndsOrGoesOn};
 ghost use Rattle.bac_service.specs.Laws.HasLeast.{field_least};
 
 use crate::production::{Front, Production, ReadFault, complete_at};
-use bac_tag::{
-    Expected, OutOfMemory, Refusal, TagHead, Why, joined_marks, mark_read_head, read_expected,
-    short_len, write_head,
-};
+use bac_tag::layers::{Expected, joined_marks, mark_read_head, read_expected, short_len};
+use bac_tag::{OutOfMemory, Refusal, TagHead, Why, write_head};
 use bac_value::Primitive;
 use std::alloc::Global;
 
@@ -33,14 +31,8 @@ fn read_contents<T: Primitive>(alloc: Global, octets: &[u8], size: usize) -> Res
 {
     if octets.len() < size {
         let refusal = match T::hopeless(octets, size) {
-            Some(place) => Refusal {
-                place,
-                why: Why::Content,
-            },
-            None => Refusal {
-                place: octets.len(),
-                why: Why::Short,
-            },
+            Some(place) => Why::Content.at(place),
+            None => Why::Short.at(octets.len()),
         };
         return Err(ReadFault::Refused(refusal));
     }

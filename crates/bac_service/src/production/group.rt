@@ -2,7 +2,7 @@
 
 ghost use Rattle.std.specs.Prelude.{◌&&◌, ◌∷◌, [], false, nat_le, IsTrue, OnOk};
 ghost use Rattle.bac_tag.specs.Spelling.{AppendsLeast};
-ghost use Rattle.bac_data.specs.Writing.{Extends};
+ghost use Rattle.bac_tag.specs.Octets.{Extends};
 ghost use Rattle.bac_service.specs.Leads.{opening, closing, disjoint};
 ghost use Rattle.bac_service.specs.Productions.{Grouped};
 ghost use Rattle.bac_service.specs.Laws.Production.{group_lawful_sound};

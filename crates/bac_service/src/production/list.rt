@@ -9,7 +9,8 @@ ghost use Rattle.bac_service.specs.Laws.HasLeast.{items_least, record_least};
 
 use crate::production::record::{Fields, Record};
 use crate::production::{Front, Production, ReadFault, complete_at};
-use bac_tag::{OutOfMemory, joined_marks};
+use bac_tag::OutOfMemory;
+use bac_tag::layers::joined_marks;
 use std::alloc::Global;
 
 /// Records one behind the other; the list ends where no further one can be read.

@@ -4,7 +4,7 @@ ghost use Rattle.std.specs.Prelude.{◌∷◌, [], false, true, nat_le, IsTrue, 
 ghost use Rattle.bac_tag.specs.Spelling.{AppendsLeast};
 ghost use Rattle.bac_data.specs.OpenValue.{Elements};
 ghost use Rattle.bac_data.specs.Spells.{SpellsOpen};
-ghost use Rattle.bac_data.specs.Writing.{Extends};
+ghost use Rattle.bac_tag.specs.Octets.{Extends};
 ghost use Rattle.bac_service.specs.Leads.{opening};
 ghost use Rattle.bac_service.specs.Laws.OpenValue.{open_lawful, open_inhabited};
 ghost use Rattle.bac_service.specs.Laws.HasLeast.{open_value_least};

@@ -8,7 +8,8 @@ ghost use Rattle.bac_service.specs.Laws.Refusal.{sound_inhabited};
 ghost use Rattle.bac_service.specs.Laws.HasLeast.{pair_least};
 
 use crate::production::{Front, Production, ReadFault};
-use bac_tag::{OutOfMemory, joined_marks};
+use bac_tag::OutOfMemory;
+use bac_tag::layers::joined_marks;
 use std::alloc::Global;
 
 impl<A: Production, B: Production> Production for (A, B) {

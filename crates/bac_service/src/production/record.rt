@@ -2,7 +2,7 @@
 
 ghost use Rattle.std.specs.Prelude.{◌↔◌, ℕ, List, IsTrue, OnOk};
 ghost use Rattle.bac_tag.specs.Spelling.{AppendsLeast};
-ghost use Rattle.bac_data.specs.Writing.{Extends};
+ghost use Rattle.bac_tag.specs.Octets.{Extends};
 ghost use Rattle.bac_service.specs.Productions.{IsRecordOf};
 ghost use Rattle.bac_service.specs.Laws.Production.{record_lawful};
 ghost use Rattle.bac_service.specs.Laws.Record.{record_inhabited};

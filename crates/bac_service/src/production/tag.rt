@@ -8,10 +8,10 @@ ghost use Rattle.bac_service.specs.Laws.Tag.{opening_inhabited, closing_inhabite
 ghost use Rattle.bac_service.specs.Laws.HasLeast.{tag_least};
 
 use crate::production::{Front, Production, ReadFault, complete_at};
-use bac_tag::{
-    Expected, OutOfMemory, TagHead, is_short_closing, is_short_opening, mark_read_head,
-    read_expected, write_head,
+use bac_tag::layers::{
+    Expected, is_short_closing, is_short_opening, mark_read_head, read_expected,
 };
+use bac_tag::{OutOfMemory, TagHead, write_head};
 use std::alloc::Global;
 
 /// An opening tag.

@@ -2,7 +2,7 @@
 
 ghost use Rattle.std.specs.Prelude.{◌≡◌, ◌↔◌, IsErrOf, IsNone, IsSome, IfOk, OnOk, true};
 ghost use Rattle.bac_tag.specs.Spelling.{AppendsLeast};
-ghost use Rattle.bac_data.specs.Writing.{Extends};
+ghost use Rattle.bac_tag.specs.Octets.{Extends};
 ghost use Rattle.bac_service.specs.ServiceTable.{production_of};
 ghost use Rattle.bac_service.specs.ServiceValues.{opaque};
 ghost use Rattle.bac_service.specs.Services.{SpellsSaid, IsPlaced};

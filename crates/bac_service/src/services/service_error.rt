@@ -2,7 +2,7 @@
 
 ghost use Rattle.std.specs.Prelude.{◌≡◌, ◌↔◌, IsSome, IfSome, OnOk, true, Some};
 ghost use Rattle.bac_tag.specs.Spelling.{AppendsLeast};
-ghost use Rattle.bac_data.specs.Writing.{Extends};
+ghost use Rattle.bac_tag.specs.Octets.{Extends};
 ghost use Rattle.bac_service.specs.ErrorCause.{SpellsErrorCause};
 ghost use Rattle.bac_service.specs.ServiceTable.{service_error, production_of};
 ghost use Rattle.bac_service.specs.declared.kind.Kind.TheVariants.{Error};

@@ -3,11 +3,11 @@
 ghost use Rattle.bac_tag.specs.Expected.{IsSound};
 
 use bac_tables::{Row, octets_of, rows_of};
-use bac_tag::{
-    Expected, OutOfMemory, Refusal, TagHead, Why, first_difference, first_hopeless, head_len, laws,
-    mark_head, mark_read_head, number_of, number_within, read_expected, read_head, read_one_of,
-    write_head,
+use bac_tag::layers::{
+    Expected, first_difference, first_hopeless, mark_head, mark_read_head, number_of,
+    number_within, read_expected, read_one_of,
 };
+use bac_tag::{OutOfMemory, Refusal, TagHead, Why, head_len, laws, read_head, write_head};
 use std::alloc::{AllocError, Global};
 use std::process::Abort;
 use std::test::Fail;

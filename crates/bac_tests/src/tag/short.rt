@@ -2,7 +2,8 @@
 //! opening tag and 7 for a closing one. A head that is not the least of its spellings is none of them.
 
 use bac_tables::{octets_of, rows_of};
-use bac_tag::{TagHead, is_short_closing, is_short_opening, short_len};
+use bac_tag::TagHead;
+use bac_tag::layers::{is_short_closing, is_short_opening, short_len};
 use std::process::Abort;
 use std::test::Fail;
 

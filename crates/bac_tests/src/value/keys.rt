@@ -1,6 +1,6 @@
 //! Values as keys, and how they are made of numbers.
 
-use bac_value::{Bits, Enumerated, Instance, ObjectId, OutOfRange, Priority, Unsigned, ValueFault};
+use bac_value::{Bits, Enumerated, Instance, ObjectId, Priority, RangeFault, Unsigned, ValueFault};
 use std::test::Fail;
 
 #[test]
@@ -14,7 +14,7 @@ fn numbers_in_a_range_are_tried(rt: HostRuntime) -> Result<(), Fail> {
     ] {
         match Priority::try_from(number) {
             Ok(priority) => assert!(rt; wanted && priority.number() == number, "{number}"),
-            Err(OutOfRange) => assert!(rt; !wanted, "{number}"),
+            Err(fault) => assert!(rt; !wanted && fault == RangeFault::Priority, "{number}"),
         }
     }
     for (number, wanted) in [
@@ -25,13 +25,15 @@ fn numbers_in_a_range_are_tried(rt: HostRuntime) -> Result<(), Fail> {
     ] {
         match Instance::try_from(number) {
             Ok(instance) => assert!(rt; wanted && instance.number() == number, "{number}"),
-            Err(OutOfRange) => assert!(rt; !wanted, "{number}"),
+            Err(fault) => assert!(rt; !wanted && fault == RangeFault::Instance, "{number}"),
         }
     }
-    assert_eq!(rt;
-        format!(in rt.alloc(); "{OutOfRange}")?.as_str(),
-        "the number is out of range"
-    );
+    for (fault, text) in [
+        (RangeFault::Priority, "a priority is 1 to 16"),
+        (RangeFault::Instance, "an instance is at most 4194303"),
+    ] {
+        assert_eq!(rt; format!(in rt.alloc(); "{fault}")?.as_str(), text);
+    }
     Ok(())
 }
 

@@ -4,10 +4,10 @@ ghost use Rattle.std.specs.Prelude.{◌≤◌, ◌<◌};
 
 use super::judge;
 use bac_tables::{octets_of, rows_of};
-use bac_value::{
-    Enumerated, Instance, Primitive, Priority, Signed, Unsigned, hopeless_number, mark_number,
-    read_number, write_number, written_number_len,
+use bac_value::layers::{
+    hopeless_number, mark_number, read_number, write_number, written_number_len,
 };
+use bac_value::{Enumerated, Instance, Primitive, Priority, Signed, Unsigned};
 use std::process::Abort;
 use std::test::Fail;
 

@@ -3,10 +3,8 @@
 ghost use Rattle.std.specs.Prelude.{◌≤◌, ◌<◌};
 
 use bac_tables::{mixed, octets_of};
-use bac_value::{
-    Bits, Octets, Prim, PrimRef, Primitive, Text, append_written, mark_contents, write_number,
-    written_len_of,
-};
+use bac_value::layers::{append_written, mark_contents, write_number, written_len_of};
+use bac_value::{Bits, Octets, Prim, PrimRef, Primitive, Text};
 use std::alloc::{AllocError, Global};
 use std::process::Abort;
 use std::test::Fail;

@@ -5,7 +5,8 @@ use Rattle.bac_value.specs.declared.prim.PrimitiveValue.TheVariants.{Null, Boole
 use Rattle.bac_tag.specs.Octets.{NoGreater}
 use Rattle.bac_value.specs.Laws.Primitives.{the_list_written, the_list_least, the_list_once}
 use Rattle.bac_value.specs.NullContents.{IsNull, null_octets}
-use Rattle.bac_value.specs.Laws.Null.{null_once, null_lengths}
+use Rattle.bac_value.specs.Laws.AnyOctets.{any_octets_once, any_octets_lengths}
+use Rattle.bac_value.specs.Laws.Null.{null_any_octets}
 use Rattle.bac_value.specs.BooleanContents.{IsBoolean, boolean_octets}
 use Rattle.bac_value.specs.Laws.Boolean.{boolean_once, boolean_lengths}
 use Rattle.bac_value.specs.Laws.Numbers.{number_range, number_written, number_least, number_lengths}
@@ -14,37 +15,37 @@ use Rattle.bac_value.specs.Laws.Enumerated.{one_enumerated}
 use Rattle.bac_value.specs.Laws.Signed.{signed_only_values, signed_written, signed_least, signed_lengths}
 use Rattle.bac_value.specs.Laws.SignedValues.{one_signed}
 use Rattle.bac_value.specs.RealContents.{IsReal, real_octets}
-use Rattle.bac_value.specs.Laws.Real.{real_once, real_lengths}
+use Rattle.bac_value.specs.Laws.Real.{real_any_octets}
 use Rattle.bac_value.specs.DoubleContents.{IsDouble, double_octets}
-use Rattle.bac_value.specs.Laws.Double.{double_once, double_lengths}
+use Rattle.bac_value.specs.Laws.Double.{double_any_octets}
 use Rattle.bac_value.specs.OctetStringContents.{IsOctetString, octets_themselves}
-use Rattle.bac_value.specs.Laws.OctetString.{octet_string_once, octet_string_lengths}
+use Rattle.bac_value.specs.Laws.OctetString.{octet_string_any_octets}
 use Rattle.bac_value.specs.TextContents.{IsText, text_octets}
-use Rattle.bac_value.specs.Laws.Text.{text_once, text_lengths}
+use Rattle.bac_value.specs.Laws.Text.{text_any_octets}
 use Rattle.bac_value.specs.Laws.Bits.{bits_once, bits_only_values, bits_written, bits_least, bits_lengths}
 use Rattle.bac_value.specs.DateContents.{IsDate, date_octets}
-use Rattle.bac_value.specs.Laws.Date.{date_once, date_lengths}
+use Rattle.bac_value.specs.Laws.Date.{date_any_octets}
 use Rattle.bac_value.specs.TimeContents.{IsTime, time_octets}
-use Rattle.bac_value.specs.Laws.Time.{time_once, time_lengths}
+use Rattle.bac_value.specs.Laws.Time.{time_any_octets}
 use Rattle.bac_value.specs.Identifier.{IsIdentifier, identifier_octets}
-use Rattle.bac_value.specs.Laws.Identifier.{identifier_once, identifier_lengths}
+use Rattle.bac_value.specs.Laws.Identifier.{identifier_any_octets}
 use Rattle.bac_value.specs.PrimContents.{application_number, IsPrim, PrimContents, prim_written}
 
 -- under one application number no octets are contents of two values
 pub prim_once : (a b : PrimitiveValue) (octets : List ℕ) → application_number a ≡ application_number b → PrimContents a octets → PrimContents b octets → a ≡ b
-prim_once (Null a) (Null b) octets e p q = ap Null (the_list_once IsNull null_octets null_once a b octets p q)
+prim_once (Null a) (Null b) octets e p q = ap Null (any_octets_once null_any_octets a b octets p q)
 prim_once (Boolean a) (Boolean b) octets e p q = ap Boolean (the_list_once IsBoolean boolean_octets boolean_once a b octets p q)
 prim_once (Unsigned a) (Unsigned b) octets e p q = ap Unsigned (one_unsigned a b octets p q)
 prim_once (Signed a) (Signed b) octets e p q = ap Signed (one_signed a b octets p q)
-prim_once (RealBits a) (RealBits b) octets e p q = ap RealBits (the_list_once IsReal real_octets real_once a b octets p q)
-prim_once (DoubleBits a) (DoubleBits b) octets e p q = ap DoubleBits (the_list_once IsDouble double_octets double_once a b octets p q)
-prim_once (Octets a) (Octets b) octets e p q = ap Octets (the_list_once IsOctetString octets_themselves octet_string_once a b octets p q)
-prim_once (Text a) (Text b) octets e p q = ap Text (the_list_once IsText text_octets text_once a b octets p q)
+prim_once (RealBits a) (RealBits b) octets e p q = ap RealBits (any_octets_once real_any_octets a b octets p q)
+prim_once (DoubleBits a) (DoubleBits b) octets e p q = ap DoubleBits (any_octets_once double_any_octets a b octets p q)
+prim_once (Octets a) (Octets b) octets e p q = ap Octets (any_octets_once octet_string_any_octets a b octets p q)
+prim_once (Text a) (Text b) octets e p q = ap Text (any_octets_once text_any_octets a b octets p q)
 prim_once (Bits a) (Bits b) octets e p q = ap Bits (bits_once a b octets p q)
 prim_once (Enumerated a) (Enumerated b) octets e p q = ap Enumerated (one_enumerated a b octets p q)
-prim_once (Date a) (Date b) octets e p q = ap Date (the_list_once IsDate date_octets date_once a b octets p q)
-prim_once (Time a) (Time b) octets e p q = ap Time (the_list_once IsTime time_octets time_once a b octets p q)
-prim_once (ObjectId a) (ObjectId b) octets e p q = ap ObjectId (the_list_once IsIdentifier identifier_octets identifier_once a b octets p q)
+prim_once (Date a) (Date b) octets e p q = ap Date (any_octets_once date_any_octets a b octets p q)
+prim_once (Time a) (Time b) octets e p q = ap Time (any_octets_once time_any_octets a b octets p q)
+prim_once (ObjectId a) (ObjectId b) octets e p q = ap ObjectId (any_octets_once identifier_any_octets a b octets p q)
 prim_once a b octets e p q = absurd (omega arith)
 
 -- only values have contents
@@ -97,16 +98,16 @@ prim_written_least (ObjectId value) octets h = the_list_least IsIdentifier ident
 
 -- and none have more octets than a value may have
 pub prim_limit : (prim : PrimitiveValue) (octets : List ℕ) → PrimContents prim octets → length octets ≤ 1048576
-prim_limit (Null value) octets h = omega (arith, (null_lengths value octets h).1)
+prim_limit (Null value) octets h = omega (arith, (any_octets_lengths null_any_octets value octets h).1)
 prim_limit (Boolean value) octets h = omega (arith, (boolean_lengths value octets h).1)
 prim_limit (Unsigned value) octets h = omega (arith, (number_lengths 0 (2 ^ 64 - 1) value.0 octets h).1)
 prim_limit (Signed value) octets h = omega (arith, (signed_lengths value.0 octets h).1)
-prim_limit (RealBits value) octets h = omega (arith, (real_lengths value octets h).1)
-prim_limit (DoubleBits value) octets h = omega (arith, (double_lengths value octets h).1)
-prim_limit (Octets value) octets h = (octet_string_lengths value octets h).1
-prim_limit (Text value) octets h = (text_lengths value octets h).1
+prim_limit (RealBits value) octets h = omega (arith, (any_octets_lengths real_any_octets value octets h).1)
+prim_limit (DoubleBits value) octets h = omega (arith, (any_octets_lengths double_any_octets value octets h).1)
+prim_limit (Octets value) octets h = (any_octets_lengths octet_string_any_octets value octets h).1
+prim_limit (Text value) octets h = (any_octets_lengths text_any_octets value octets h).1
 prim_limit (Bits value) octets h = (bits_lengths value octets h).1
 prim_limit (Enumerated value) octets h = omega (arith, (number_lengths 0 (2 ^ 32 - 1) value.0 octets h).1)
-prim_limit (Date value) octets h = omega (arith, (date_lengths value octets h).1)
-prim_limit (Time value) octets h = omega (arith, (time_lengths value octets h).1)
-prim_limit (ObjectId value) octets h = omega (arith, (identifier_lengths value octets h).1)
+prim_limit (Date value) octets h = omega (arith, (any_octets_lengths date_any_octets value octets h).1)
+prim_limit (Time value) octets h = omega (arith, (any_octets_lengths time_any_octets value octets h).1)
+prim_limit (ObjectId value) octets h = omega (arith, (any_octets_lengths identifier_any_octets value octets h).1)

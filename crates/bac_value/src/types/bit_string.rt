@@ -255,26 +255,17 @@ impl Primitive for Bits {
 
     fn read(alloc: Global, octets: &[u8]) -> Result<Bits, Refusal> {
         if octets.is_empty() || octets.len() > LIMIT {
-            return Err(Refusal {
-                place: 0,
-                why: Why::Length,
-            });
+            return Err(Why::Length.at(0));
         }
         if let Some(place) = Bits::hopeless(octets, octets.len()) {
-            return Err(Refusal {
-                place,
-                why: Why::Content,
-            });
+            return Err(Why::Content.at(place));
         }
         match Vec::from_slice(alloc, octets) {
             Ok(mut contents) => {
                 clear_unused(&mut contents);
                 Ok(Bits { contents })
             }
-            Err(_) => Err(Refusal {
-                place: 0,
-                why: Why::OutOfMemory,
-            }),
+            Err(_) => Err(Refusal::out_of_memory()),
         }
     }
 

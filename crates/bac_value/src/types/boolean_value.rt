@@ -39,16 +39,10 @@ impl Primitive for Boolean {
 
     fn read(_alloc: Global, octets: &[u8]) -> Result<Boolean, Refusal> {
         if octets.len() != 1 {
-            return Err(Refusal {
-                place: 0,
-                why: Why::Length,
-            });
+            return Err(Why::Length.at(0));
         }
         if octets[0] > 1 {
-            return Err(Refusal {
-                place: 0,
-                why: Why::Content,
-            });
+            return Err(Why::Content.at(0));
         }
         Ok(Boolean(octets[0] == 1))
     }

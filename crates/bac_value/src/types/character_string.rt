@@ -6,10 +6,11 @@ ghost use Rattle.std.specs.Cmp.{partial_equiv_from_equiv};
 ghost use Rattle.std.specs.Cmp.Lexicographic.{pointwise, on_texts_equal};
 ghost use Rattle.std.proofs.Common.{lit≤};
 ghost use Rattle.bac_value.specs.Primitives.{IsTheList};
-ghost use Rattle.bac_value.specs.Laws.Primitives.{the_list_only_values, the_list_written, the_list_least, the_list_once};
+ghost use Rattle.bac_value.specs.Laws.Primitives.{the_list_only_values, the_list_written, the_list_least};
 ghost use Rattle.bac_value.specs.OctetStringContents.{IsOctetString};
 ghost use Rattle.bac_value.specs.TextContents.{TextValue, text_octets, IsText};
-ghost use Rattle.bac_value.specs.Laws.Text.{text_once, text_lengths, text_each_length};
+ghost use Rattle.bac_value.specs.Laws.AnyOctets.{any_octets_once, any_octets_lengths, any_octets_each_length};
+ghost use Rattle.bac_value.specs.Laws.Text.{text_any_octets};
 
 use crate::primitives::Primitive;
 use crate::value_faults::{LIMIT, ValueFault};
@@ -111,17 +112,11 @@ impl Primitive for Text {
 
     fn read(alloc: Global, octets: &[u8]) -> Result<Text, Refusal> {
         if octets.is_empty() || octets.len() > LIMIT {
-            return Err(Refusal {
-                place: 0,
-                why: Why::Length,
-            });
+            return Err(Why::Length.at(0));
         }
         match Vec::from_slice(alloc, octets) {
             Ok(contents) => Ok(Text { contents }),
-            Err(_) => Err(Refusal {
-                place: 0,
-                why: Why::OutOfMemory,
-            }),
+            Err(_) => Err(Refusal::out_of_memory()),
         }
     }
 
@@ -144,15 +139,15 @@ impl Primitive for Text {
 
     ghost only_values = { the_list_only_values IsText text_octets };
 
-    ghost one_value = { the_list_once IsText text_octets text_once };
+    ghost one_value = { any_octets_once text_any_octets };
 
     ghost written_contents = { the_list_written IsText text_octets };
 
     ghost written_least = { the_list_least IsText text_octets };
 
-    ghost lengths = { text_lengths };
+    ghost lengths = { any_octets_lengths text_any_octets };
 
-    ghost each_length = { text_each_length };
+    ghost each_length = { any_octets_each_length text_any_octets };
 
     ghost within_limit = { (lit≤ tt, lit≤ tt) };
 }

@@ -3,12 +3,14 @@
 ghost use Rattle.std.specs.Prelude.{false, ◌≡◌};
 ghost use Rattle.std.proofs.Common.{lit≤};
 ghost use Rattle.bac_value.specs.Primitives.{IsTheList};
-ghost use Rattle.bac_value.specs.Laws.Primitives.{the_list_only_values, the_list_written, the_list_least, the_list_once};
+ghost use Rattle.bac_value.specs.Laws.Primitives.{the_list_only_values, the_list_written, the_list_least};
 ghost use Rattle.bac_value.specs.DateContents.{IsDate, date_octets};
-ghost use Rattle.bac_value.specs.Laws.Date.{date_once, date_lengths, date_each_length};
+ghost use Rattle.bac_value.specs.Laws.AnyOctets.{any_octets_once, any_octets_lengths, any_octets_each_length};
+ghost use Rattle.bac_value.specs.Laws.Date.{date_any_octets};
 
+use crate::fixed::all_of;
 use crate::primitives::Primitive;
-use bac_tag::{OutOfMemory, Refusal, Why};
+use bac_tag::{OutOfMemory, Refusal};
 use std::alloc::Global;
 
 /// A date: four octets, which are the year less 1900, the month, the day of the month and the day of the
@@ -50,13 +52,7 @@ impl Primitive for Date {
     ghost wants_memory = { false };
 
     fn read(_alloc: Global, octets: &[u8]) -> Result<Date, Refusal> {
-        let Ok(octets) = <[u8; 4]>::try_from(octets) else {
-            return Err(Refusal {
-                place: 0,
-                why: Why::Length,
-            });
-        };
-        Ok(Date(octets))
+        Ok(Date(all_of(octets)?))
     }
 
     fn hopeless(_front: &[u8], _size: usize) -> Option<usize> {
@@ -78,15 +74,15 @@ impl Primitive for Date {
 
     ghost only_values = { the_list_only_values IsDate date_octets };
 
-    ghost one_value = { the_list_once IsDate date_octets date_once };
+    ghost one_value = { any_octets_once date_any_octets };
 
     ghost written_contents = { the_list_written IsDate date_octets };
 
     ghost written_least = { the_list_least IsDate date_octets };
 
-    ghost lengths = { date_lengths };
+    ghost lengths = { any_octets_lengths date_any_octets };
 
-    ghost each_length = { date_each_length };
+    ghost each_length = { any_octets_each_length date_any_octets };
 
     ghost within_limit = { (lit≤ tt, lit≤ tt) };
 }

@@ -10,7 +10,7 @@ use crate::primitives::Primitive;
 use crate::ranged_numbers::{
     hopeless_number, mark_number, read_number, write_number, written_number_len,
 };
-use crate::value_faults::OutOfRange;
+use crate::value_faults::RangeFault;
 use bac_tag::{OutOfMemory, Refusal};
 use std::alloc::Global;
 use std::marker::Model;
@@ -59,18 +59,18 @@ impl Instance {
 impl TryFrom<u32> for Instance {
     ghost use Rattle.std.specs.Prelude.{◌≡◌, ◌≤◌, ◌↔◌, IsOk, IfOk};
 
-    type Error = OutOfRange;
+    type Error = RangeFault;
 
     ghost try_from_gives = { λ number result. (IsOk result ↔ (number ≤ 4194303)) × IfOk result (λ instance. instance ≡ number) };
 
     /// The instance with that number.
     ///
     /// # Errors
-    /// `OutOfRange` above 4,194,303.
-    fn try_from(number: u32) -> Result<Instance, OutOfRange> {
+    /// `RangeFault::Instance` above 4,194,303.
+    fn try_from(number: u32) -> Result<Instance, RangeFault> {
         match Instance::new(number) {
             Some(instance) => Ok(instance),
-            None => Err(OutOfRange),
+            None => Err(RangeFault::Instance),
         }
     }
 }

@@ -3,9 +3,10 @@
 ghost use Rattle.std.specs.Prelude.{false};
 ghost use Rattle.std.proofs.Common.{lit≤};
 ghost use Rattle.bac_value.specs.Primitives.{IsTheList};
-ghost use Rattle.bac_value.specs.Laws.Primitives.{the_list_only_values, the_list_written, the_list_least, the_list_once};
+ghost use Rattle.bac_value.specs.Laws.Primitives.{the_list_only_values, the_list_written, the_list_least};
 ghost use Rattle.bac_value.specs.NullContents.{IsNull, null_octets};
-ghost use Rattle.bac_value.specs.Laws.Null.{null_once, null_lengths, null_each_length};
+ghost use Rattle.bac_value.specs.Laws.AnyOctets.{any_octets_once, any_octets_lengths, any_octets_each_length};
+ghost use Rattle.bac_value.specs.Laws.Null.{null_any_octets};
 
 use crate::primitives::Primitive;
 use bac_tag::{OutOfMemory, Refusal, Why};
@@ -38,10 +39,7 @@ impl Primitive for Null {
 
     fn read(_alloc: Global, octets: &[u8]) -> Result<Null, Refusal> {
         if !octets.is_empty() {
-            return Err(Refusal {
-                place: 0,
-                why: Why::Length,
-            });
+            return Err(Why::Length.at(0));
         }
         Ok(Null)
     }
@@ -64,15 +62,15 @@ impl Primitive for Null {
 
     ghost only_values = { the_list_only_values IsNull null_octets };
 
-    ghost one_value = { the_list_once IsNull null_octets null_once };
+    ghost one_value = { any_octets_once null_any_octets };
 
     ghost written_contents = { the_list_written IsNull null_octets };
 
     ghost written_least = { the_list_least IsNull null_octets };
 
-    ghost lengths = { null_lengths };
+    ghost lengths = { any_octets_lengths null_any_octets };
 
-    ghost each_length = { null_each_length };
+    ghost each_length = { any_octets_each_length null_any_octets };
 
     ghost within_limit = { (lit≤ tt, lit≤ tt) };
 }

@@ -3,12 +3,14 @@
 ghost use Rattle.std.specs.Prelude.{false, ◌≡◌, ◌<◌, ◌≤◌, ◌^◌, ◌↔◌, IsSome, IfSome};
 ghost use Rattle.std.proofs.Common.{lit≤};
 ghost use Rattle.bac_value.specs.Primitives.{IsTheList};
-ghost use Rattle.bac_value.specs.Laws.Primitives.{the_list_only_values, the_list_written, the_list_least, the_list_once};
+ghost use Rattle.bac_value.specs.Laws.Primitives.{the_list_only_values, the_list_written, the_list_least};
 ghost use Rattle.bac_value.specs.Identifier.{Identifier, identifier_octets, IsIdentifier};
-ghost use Rattle.bac_value.specs.Laws.Identifier.{identifier_once, identifier_lengths, identifier_each_length};
+ghost use Rattle.bac_value.specs.Laws.AnyOctets.{any_octets_once, any_octets_lengths, any_octets_each_length};
+ghost use Rattle.bac_value.specs.Laws.Identifier.{identifier_any_octets};
 
+use crate::fixed::all_of;
 use crate::primitives::Primitive;
-use bac_tag::{OutOfMemory, Refusal, Why};
+use bac_tag::{OutOfMemory, Refusal};
 use std::alloc::Global;
 use std::marker::Model;
 
@@ -107,13 +109,7 @@ impl Primitive for ObjectId {
     ghost wants_memory = { false };
 
     fn read(_alloc: Global, octets: &[u8]) -> Result<ObjectId, Refusal> {
-        let Ok(octets) = <[u8; 4]>::try_from(octets) else {
-            return Err(Refusal {
-                place: 0,
-                why: Why::Length,
-            });
-        };
-        Ok(ObjectId::of_octets(octets))
+        Ok(ObjectId::of_octets(all_of(octets)?))
     }
 
     fn hopeless(_front: &[u8], _size: usize) -> Option<usize> {
@@ -135,15 +131,15 @@ impl Primitive for ObjectId {
 
     ghost only_values = { the_list_only_values IsIdentifier identifier_octets };
 
-    ghost one_value = { the_list_once IsIdentifier identifier_octets identifier_once };
+    ghost one_value = { any_octets_once identifier_any_octets };
 
     ghost written_contents = { the_list_written IsIdentifier identifier_octets };
 
     ghost written_least = { the_list_least IsIdentifier identifier_octets };
 
-    ghost lengths = { identifier_lengths };
+    ghost lengths = { any_octets_lengths identifier_any_octets };
 
-    ghost each_length = { identifier_each_length };
+    ghost each_length = { any_octets_each_length identifier_any_octets };
 
     ghost within_limit = { (lit≤ tt, lit≤ tt) };
 }

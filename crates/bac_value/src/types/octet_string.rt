@@ -6,9 +6,10 @@ ghost use Rattle.std.specs.Cmp.{partial_equiv_from_equiv};
 ghost use Rattle.std.specs.Cmp.Lexicographic.{pointwise, on_texts_equal};
 ghost use Rattle.std.proofs.Common.{lit≤};
 ghost use Rattle.bac_value.specs.Primitives.{IsTheList};
-ghost use Rattle.bac_value.specs.Laws.Primitives.{the_list_only_values, the_list_written, the_list_least, the_list_once};
+ghost use Rattle.bac_value.specs.Laws.Primitives.{the_list_only_values, the_list_written, the_list_least};
 ghost use Rattle.bac_value.specs.OctetStringContents.{IsOctetString, octets_themselves};
-ghost use Rattle.bac_value.specs.Laws.OctetString.{octet_string_once, octet_string_lengths, octet_string_each_length};
+ghost use Rattle.bac_value.specs.Laws.AnyOctets.{any_octets_once, any_octets_lengths, any_octets_each_length};
+ghost use Rattle.bac_value.specs.Laws.OctetString.{octet_string_any_octets};
 
 use crate::primitives::Primitive;
 use crate::value_faults::{LIMIT, ValueFault};
@@ -79,14 +80,8 @@ impl Primitive for Octets {
     fn read(alloc: Global, octets: &[u8]) -> Result<Octets, Refusal> {
         match Octets::new(alloc, octets) {
             Ok(value) => Ok(value),
-            Err(ValueFault::TooLong) => Err(Refusal {
-                place: 0,
-                why: Why::Length,
-            }),
-            Err(ValueFault::OutOfMemory) => Err(Refusal {
-                place: 0,
-                why: Why::OutOfMemory,
-            }),
+            Err(ValueFault::TooLong) => Err(Why::Length.at(0)),
+            Err(ValueFault::OutOfMemory) => Err(Refusal::out_of_memory()),
         }
     }
 
@@ -109,15 +104,15 @@ impl Primitive for Octets {
 
     ghost only_values = { the_list_only_values IsOctetString octets_themselves };
 
-    ghost one_value = { the_list_once IsOctetString octets_themselves octet_string_once };
+    ghost one_value = { any_octets_once octet_string_any_octets };
 
     ghost written_contents = { the_list_written IsOctetString octets_themselves };
 
     ghost written_least = { the_list_least IsOctetString octets_themselves };
 
-    ghost lengths = { octet_string_lengths };
+    ghost lengths = { any_octets_lengths octet_string_any_octets };
 
-    ghost each_length = { octet_string_each_length };
+    ghost each_length = { any_octets_each_length octet_string_any_octets };
 
     ghost within_limit = { (lit≤ tt, lit≤ tt) };
 }

@@ -10,7 +10,7 @@ use crate::primitives::Primitive;
 use crate::ranged_numbers::{
     hopeless_number, mark_number, read_number, write_number, written_number_len,
 };
-use crate::value_faults::OutOfRange;
+use crate::value_faults::RangeFault;
 use bac_tag::{OutOfMemory, Refusal};
 use std::alloc::Global;
 use std::marker::Model;
@@ -62,18 +62,18 @@ impl Priority {
 impl TryFrom<u8> for Priority {
     ghost use Rattle.std.specs.Prelude.{◌≡◌, ◌≤◌, ◌↔◌, IsOk, IfOk};
 
-    type Error = OutOfRange;
+    type Error = RangeFault;
 
     ghost try_from_gives = { λ number result. (IsOk result ↔ ((1 ≤ number) × (number ≤ 16))) × IfOk result (λ priority. priority ≡ number) };
 
     /// The priority with that number.
     ///
     /// # Errors
-    /// `OutOfRange` where it is not 1 to 16.
-    fn try_from(number: u8) -> Result<Priority, OutOfRange> {
+    /// `RangeFault::Priority` where it is not 1 to 16.
+    fn try_from(number: u8) -> Result<Priority, RangeFault> {
         match Priority::new(number) {
             Some(priority) => Ok(priority),
-            None => Err(OutOfRange),
+            None => Err(RangeFault::Priority),
         }
     }
 }

@@ -3,12 +3,14 @@
 ghost use Rattle.std.specs.Prelude.{false, ◌≡◌};
 ghost use Rattle.std.proofs.Common.{lit≤};
 ghost use Rattle.bac_value.specs.Primitives.{IsTheList};
-ghost use Rattle.bac_value.specs.Laws.Primitives.{the_list_only_values, the_list_written, the_list_least, the_list_once};
+ghost use Rattle.bac_value.specs.Laws.Primitives.{the_list_only_values, the_list_written, the_list_least};
 ghost use Rattle.bac_value.specs.RealContents.{IsReal, real_octets};
-ghost use Rattle.bac_value.specs.Laws.Real.{real_once, real_lengths, real_each_length};
+ghost use Rattle.bac_value.specs.Laws.AnyOctets.{any_octets_once, any_octets_lengths, any_octets_each_length};
+ghost use Rattle.bac_value.specs.Laws.Real.{real_any_octets};
 
+use crate::fixed::all_of;
 use crate::primitives::Primitive;
-use bac_tag::{OutOfMemory, Refusal, Why};
+use bac_tag::{OutOfMemory, Refusal};
 use std::alloc::Global;
 
 /// The bits of a real number of single precision, kept as they are: each pattern is a value, those that are
@@ -50,13 +52,7 @@ impl Primitive for RealBits {
     ghost wants_memory = { false };
 
     fn read(_alloc: Global, octets: &[u8]) -> Result<RealBits, Refusal> {
-        let Ok(octets) = <[u8; 4]>::try_from(octets) else {
-            return Err(Refusal {
-                place: 0,
-                why: Why::Length,
-            });
-        };
-        Ok(RealBits(u32::from_be_bytes(octets)))
+        Ok(RealBits(u32::from_be_bytes(all_of(octets)?)))
     }
 
     fn hopeless(_front: &[u8], _size: usize) -> Option<usize> {
@@ -78,15 +74,15 @@ impl Primitive for RealBits {
 
     ghost only_values = { the_list_only_values IsReal real_octets };
 
-    ghost one_value = { the_list_once IsReal real_octets real_once };
+    ghost one_value = { any_octets_once real_any_octets };
 
     ghost written_contents = { the_list_written IsReal real_octets };
 
     ghost written_least = { the_list_least IsReal real_octets };
 
-    ghost lengths = { real_lengths };
+    ghost lengths = { any_octets_lengths real_any_octets };
 
-    ghost each_length = { real_each_length };
+    ghost each_length = { any_octets_each_length real_any_octets };
 
     ghost within_limit = { (lit≤ tt, lit≤ tt) };
 }

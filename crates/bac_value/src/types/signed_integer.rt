@@ -9,7 +9,8 @@ ghost use Rattle.bac_value.specs.Laws.Signed.{signed_only_values, signed_written
 ghost use Rattle.bac_value.specs.Laws.SignedValues.{one_signed, signed_each_length};
 
 use crate::primitives::Primitive;
-use bac_tag::{OutOfMemory, Refusal, Why, first_difference};
+use bac_tag::layers::first_difference;
+use bac_tag::{OutOfMemory, Refusal, Why};
 use std::alloc::Global;
 
 /// A signed integer: 1 to 8 octets in two's complement, the most significant octet first. The fewest are
@@ -97,10 +98,7 @@ impl Primitive for Signed {
 
     fn read(_alloc: Global, octets: &[u8]) -> Result<Signed, Refusal> {
         if octets.is_empty() || octets.len() > 8 {
-            return Err(Refusal {
-                place: 0,
-                why: Why::Length,
-            });
+            return Err(Why::Length.at(0));
         }
         Ok(Signed(signed_of(octets)))
     }

@@ -3,12 +3,14 @@
 ghost use Rattle.std.specs.Prelude.{false, ◌≡◌};
 ghost use Rattle.std.proofs.Common.{lit≤};
 ghost use Rattle.bac_value.specs.Primitives.{IsTheList};
-ghost use Rattle.bac_value.specs.Laws.Primitives.{the_list_only_values, the_list_written, the_list_least, the_list_once};
+ghost use Rattle.bac_value.specs.Laws.Primitives.{the_list_only_values, the_list_written, the_list_least};
 ghost use Rattle.bac_value.specs.TimeContents.{IsTime, time_octets};
-ghost use Rattle.bac_value.specs.Laws.Time.{time_once, time_lengths, time_each_length};
+ghost use Rattle.bac_value.specs.Laws.AnyOctets.{any_octets_once, any_octets_lengths, any_octets_each_length};
+ghost use Rattle.bac_value.specs.Laws.Time.{time_any_octets};
 
+use crate::fixed::all_of;
 use crate::primitives::Primitive;
-use bac_tag::{OutOfMemory, Refusal, Why};
+use bac_tag::{OutOfMemory, Refusal};
 use std::alloc::Global;
 
 /// A time of day: four octets, which are the hour, the minute, the second and the hundredths of a second.
@@ -49,13 +51,7 @@ impl Primitive for Time {
     ghost wants_memory = { false };
 
     fn read(_alloc: Global, octets: &[u8]) -> Result<Time, Refusal> {
-        let Ok(octets) = <[u8; 4]>::try_from(octets) else {
-            return Err(Refusal {
-                place: 0,
-                why: Why::Length,
-            });
-        };
-        Ok(Time(octets))
+        Ok(Time(all_of(octets)?))
     }
 
     fn hopeless(_front: &[u8], _size: usize) -> Option<usize> {
@@ -77,15 +73,15 @@ impl Primitive for Time {
 
     ghost only_values = { the_list_only_values IsTime time_octets };
 
-    ghost one_value = { the_list_once IsTime time_octets time_once };
+    ghost one_value = { any_octets_once time_any_octets };
 
     ghost written_contents = { the_list_written IsTime time_octets };
 
     ghost written_least = { the_list_least IsTime time_octets };
 
-    ghost lengths = { time_lengths };
+    ghost lengths = { any_octets_lengths time_any_octets };
 
-    ghost each_length = { time_each_length };
+    ghost each_length = { any_octets_each_length time_any_octets };
 
     ghost within_limit = { (lit≤ tt, lit≤ tt) };
 }

@@ -7,7 +7,7 @@ use Rattle.bac_apdu.proofs.complex_ack.decode_complex_ack.Goals as goal
 pub returns-in_default : goal.returns-in_default
 returns-in_default c =
     let small : (k : ℕ) → slice_index c.args.octets.now k < 256 = λ k. omega (arith, c.type_inv.octets k) in
-    rw c.ends_early.ensures (complex_ack_short c.args.octets.now small c.requires.pdu c.requires.whole c.in_default.len_below)
+    rw c.at.ensures (complex_ack_short c.args.octets.now small c.requires.pdu c.requires.whole c.in_default.len_below)
 
 pub returns-in_err-service : goal.returns-in_err-service
 returns-in_err-service c =

@@ -10,17 +10,17 @@ use Rattle.bac_apdu.proofs.segment.decode_request_segment.Goals as goal
 pub returns-in_default : goal.returns-in_default
 returns-in_default c =
     let small : (k : ℕ) → slice_index c.args.octets.now k < 256 = λ k. omega (arith, c.type_inv.octets k) in
-    rw c.ends_early.ensures (request_segment_short c.args.octets.now small c.requires.pdu c.requires.segmented c.in_default.len_below)
+    rw c.at.ensures (request_segment_short c.args.octets.now small c.requires.pdu c.requires.segmented c.in_default.len_below)
 
 pub returns-in_default-new : goal.returns-in_default-new
 returns-in_default-new c =
     let small : (k : ℕ) → slice_index c.args.octets.now k < 256 = λ k. omega (arith, c.type_inv.octets k) in
-    request_segment_window c.args.octets.now small c.requires.pdu c.requires.segmented c.in-len5-up.len_at_least (λ good. let e = c.in_default-new.ensures.some.1 good in cc)
+    rw c.at-in_default-new.ensures (request_segment_window c.args.octets.now small c.requires.pdu c.requires.segmented c.in-len5-up.len_at_least (λ good. let e = c.in_default-new.ensures.some.1 good in cc))
 
 pub returns-in_default-octets : goal.returns-in_default-octets
 returns-in_default-octets c =
     let small : (k : ℕ) → slice_index c.args.octets.now k < 256 = λ k. omega (arith, c.type_inv.octets k) in
-    rw c.ends_early-in_default-octets.ensures (request_segment_shorter c.args.octets.now small c.requires.pdu c.requires.segmented (c.in-Some.ensures.some.0 refl) c.in_default-octets.len_below)
+    rw c.at-in_default-octets.ensures (request_segment_shorter c.args.octets.now small c.requires.pdu c.requires.segmented (c.in-Some.ensures.some.0 refl) c.in_default-octets.len_below)
 
 pub returns-in_default-from_slice : goal.returns-in_default-from_slice
 returns-in_default-from_slice c =

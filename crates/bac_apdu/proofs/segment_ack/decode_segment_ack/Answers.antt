@@ -7,12 +7,12 @@ use Rattle.bac_apdu.proofs.segment_ack.decode_segment_ack.Goals as goal
 pub returns-in_default : goal.returns-in_default
 returns-in_default c =
     let small : (k : ℕ) → slice_index c.args.octets.now k < 256 = λ k. omega (arith, c.type_inv.octets k) in
-    rw c.ends_early.ensures (segment_ack_short c.args.octets.now small c.requires c.in_default.len_below)
+    rw c.at.ensures (segment_ack_short c.args.octets.now small c.requires c.in_default.len_below)
 
 pub returns-in_default-new : goal.returns-in_default-new
 returns-in_default-new c =
     let small : (k : ℕ) → slice_index c.args.octets.now k < 256 = λ k. omega (arith, c.type_inv.octets k) in
-    segment_ack_window c.args.octets.now small c.requires c.in-len4-up.len_at_least (λ good. let e = c.in_default-new.ensures.some.1 good in cc)
+    rw c.at-in_default-new.ensures (segment_ack_window c.args.octets.now small c.requires c.in-len4-up.len_at_least (λ good. let e = c.in_default-new.ensures.some.1 good in cc))
 
 pub returns-in_err-mark : goal.returns-in_err-mark
 returns-in_err-mark c =

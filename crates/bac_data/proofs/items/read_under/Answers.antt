@@ -22,8 +22,8 @@ returns-in_err-contents-in-App-clause-refused c =
 pub returns-then-octets-size-clause-refused : goal.returns-then-octets-size-clause-refused
 returns-then-octets-size-clause-refused c =
     let has : HasContents (Ctx c.in-Ctx.number c.in-Ctx.len) = subst HasContents c.in-Ctx.is c.requires in
-    refused_of c.args.head (Ctx c.in-Ctx.number c.in-Ctx.len) c.args.octets.now _ c.in-Ctx.is
-    (short_context c.in-Ctx.number c.in-Ctx.len c.args.octets.now (octets_at c.args.octets.now (λ k. omega (arith, c.type_inv.octets k))) c.if-octets-size.true has.1)
+    rw c.at.ensures (refused_of c.args.head (Ctx c.in-Ctx.number c.in-Ctx.len) c.args.octets.now _ c.in-Ctx.is
+    (short_context c.in-Ctx.number c.in-Ctx.len c.args.octets.now (octets_at c.args.octets.now (λ k. omega (arith, c.type_inv.octets k))) c.if-octets-size.true has.1))
 
 pub returns-in_ok-contents-in-App-clause-found : goal.returns-in_ok-contents-in-App-clause-found
 returns-in_ok-contents-in-App-clause-found c =

@@ -4,7 +4,7 @@ use Rattle.bac_tag.proofs.reading.read_wide_length.Goals as goal
 
 pub returns-then-least-gt65535-clause-refused : goal.returns-then-least-gt65535-clause-refused
 returns-then-least-gt65535-clause-refused c =
-    hopeless_wide c.args.width c.args.least c.args.most c.args.octets.now _ c.requires.range c.ranges.least.fits (λ e. cc) c.requires.some c.requires.wide c.if-width-eq2.true c.if-least-gt65535.true
+    rw c.at.ensures (hopeless_wide c.args.width c.args.least c.args.most c.args.octets.now _ c.requires.range c.ranges.least.fits (λ e. cc) c.requires.some c.requires.wide c.if-width-eq2.true c.if-least-gt65535.true)
 
 pub returns-in-Err-clause-refused : goal.returns-in-Err-clause-refused
 returns-in-Err-clause-refused c =

@@ -12,7 +12,7 @@ returns-in-Err-Refused-clause-refused g c = λ memory.
 pub returns-then-front-clause-refused : goal.returns-then-front-clause-refused
 returns-then-front-clause-refused g c = λ memory.
     let other : c.in-Ok.front.taken ≢ length c.args.octets.now = λ e. omega (arith, e, c.if-front-octets.false) in
-    whole_trails g.P.Production.spells c.args.octets.now _ c.in-Ok.front.taken c.in-Ok.front.reach c.in-Ok.ensures.found c.in-Ok.ensures.reach other (omega (arith, c.if-front.true))
+    rw c.at.ensures (whole_trails g.P.Production.spells c.args.octets.now _ c.in-Ok.front.taken c.in-Ok.front.reach c.in-Ok.ensures.found c.in-Ok.ensures.reach other (omega (arith, c.if-front.true)))
 
 pub returns-clause-refused : goal.returns-clause-refused
 returns-clause-refused g c = λ memory.

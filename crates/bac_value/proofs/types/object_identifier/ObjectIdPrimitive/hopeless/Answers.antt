@@ -1,12 +1,9 @@
-use Rattle.std.proofs.Common.{arith, ◌≡◌, subst}
-use Rattle.bac_tag.specs.Laws.Octets.{octets_at, zeros_to, octets_filled, length-filled}
-use Rattle.bac_value.specs.Primitives.{IsTheList, IsBegun}
-use Rattle.bac_value.specs.Identifier.{IsIdentifier, identifier_octets}
-use Rattle.bac_value.specs.Laws.Identifier.{identifier_begun}
+use Rattle.std.proofs.Common.{arith}
+use Rattle.bac_tag.specs.Laws.Octets.{octets_at}
+use Rattle.bac_value.specs.Laws.AnyOctets.{any_octets_begun}
+use Rattle.bac_value.specs.Laws.Identifier.{identifier_any_octets}
 use Rattle.bac_value.proofs.types.object_identifier.ObjectIdPrimitive.hopeless.Goals as goal
 
 pub returns-clause-none : goal.returns-clause-none
 returns-clause-none c =
-    let four : 4 ≡ c.args._size = omega arith in
-    subst (IsBegun (IsTheList IsIdentifier identifier_octets) c.args._front.now) four
-    (identifier_begun c.args._front.now (zeros_to c.args._front.now 4) (octets_filled _ _ (octets_at _ (λ k. omega (arith, c.type_inv._front k)))) (length-filled _ _ (omega (arith, c.requires.sized))))
+    any_octets_begun identifier_any_octets c.args._front.now c.args._size (octets_at _ (λ k. omega (arith, c.type_inv._front k))) c.requires.sized c.requires.size.0 c.requires.size.1

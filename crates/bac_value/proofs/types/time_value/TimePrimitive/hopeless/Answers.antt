@@ -1,9 +1,9 @@
 use Rattle.std.proofs.Common.{arith}
-use Rattle.bac_tag.specs.Laws.Octets.{octets_at, zeros_to, octets_filled, length-filled}
-use Rattle.bac_value.specs.Laws.Time.{time_begun}
+use Rattle.bac_tag.specs.Laws.Octets.{octets_at}
+use Rattle.bac_value.specs.Laws.AnyOctets.{any_octets_begun}
+use Rattle.bac_value.specs.Laws.Time.{time_any_octets}
 use Rattle.bac_value.proofs.types.time_value.TimePrimitive.hopeless.Goals as goal
 
 pub returns-clause-none : goal.returns-clause-none
 returns-clause-none c =
-    time_begun c.args._front.now (zeros_to c.args._front.now c.args._size) c.args._size
-    (octets_filled _ _ (octets_at _ (λ k. omega (arith, c.type_inv._front k)))) (length-filled _ _ c.requires.sized) c.requires.size.0 c.requires.size.1
+    any_octets_begun time_any_octets c.args._front.now c.args._size (octets_at _ (λ k. omega (arith, c.type_inv._front k))) c.requires.sized c.requires.size.0 c.requires.size.1

@@ -1,0 +1,8 @@
+//! For the layers above, and for whoever writes a reader of octets: heads among those that may stand at a place, heads
+//! of one octet, marks of parts, and numbers. A program that handles whole messages needs none of it.
+
+pub use crate::expecting::Expected;
+pub use crate::marks::{first_difference, joined_marks, mark_head, mark_read_head};
+pub use crate::numbers::{first_hopeless, number_of, number_within};
+pub use crate::reading::{read_expected, read_one_of};
+pub use crate::short::{is_short_closing, is_short_opening, short_len};
