@@ -11,7 +11,7 @@ use crate::simple_ack::SimpleAck;
 use crate::unconfirmed_request::UnconfirmedRequest;
 
 /// An APDU (clause 20.1): bits 7 to 4 of its first octet are its type, 0 to 7.
-#[derive(Debug, Drop)]
+#[derive(Clone, Debug, PartialEq, Eq, Drop)]
 pub enum Apdu {
     /// Type 0, in one piece: a request that wants an answer.
     Confirmed(ConfirmedRequest),

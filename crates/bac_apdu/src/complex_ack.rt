@@ -20,7 +20,7 @@ use std::marker::Model;
 ///
 /// Octets (clause 20.1.5): type 3 in bits 7 to 4, SEG 0 in bit 3; the invoke id; the service choice; those of the
 /// service. Bits 2 to 0 of the first octet are ignored, and 0 in canonical form.
-#[derive(Debug, Drop)]
+#[derive(Clone, Debug, PartialEq, Eq, Drop)]
 pub struct ComplexAck {
     invoke: u8,
     service: Service,
@@ -39,6 +39,8 @@ impl Model for ComplexAck {
     ghost view = { λ ack. record { invoke = ack.invoke; service = ack.service } };
 
     ghost invariant = { λ ack. (service_of ack.service).kind ≡ of_complex_ack };
+
+    ghost inverse = { λ value. record { invoke = value.invoke; service = value.service } };
 }
 
 impl ComplexAck {

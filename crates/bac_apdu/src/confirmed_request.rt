@@ -36,7 +36,7 @@ pub struct RequestHead {
 /// Octets (clause 20.1.2): type 0 in bits 7 to 4, SEG 0 in bit 3, SA in bit 1; max-segments in bits 6 to 4 and
 /// max-response in bits 3 to 0; the invoke id; the service choice; those of the service. Bits 2 and 0 of the first
 /// octet and bit 7 of the second are ignored, and 0 in canonical form.
-#[derive(Debug, Drop)]
+#[derive(Clone, Debug, PartialEq, Eq, Drop)]
 pub struct ConfirmedRequest {
     head: RequestHead,
     service: Service,
@@ -55,6 +55,8 @@ impl Model for ConfirmedRequest {
     ghost view = { λ request. record { head = request.head; service = request.service } };
 
     ghost invariant = { λ request. (service_of request.service).kind ≡ Confirmed };
+
+    ghost inverse = { λ value. record { head = value.head; service = value.service } };
 }
 
 impl ConfirmedRequest {

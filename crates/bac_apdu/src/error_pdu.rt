@@ -20,7 +20,7 @@ use std::marker::Model;
 ///
 /// Octets (clause 20.1.7): type 5 in bits 7 to 4; the invoke id; the service choice; those of the error. Bits 3 to 0 of
 /// the first octet are ignored, and 0 in canonical form.
-#[derive(Debug, Drop)]
+#[derive(Clone, Debug, PartialEq, Eq, Drop)]
 pub struct ErrorPdu {
     invoke: u8,
     service: Service,
@@ -39,6 +39,8 @@ impl Model for ErrorPdu {
     ghost view = { λ answer. record { invoke = answer.invoke; service = answer.service } };
 
     ghost invariant = { λ answer. (service_of answer.service).kind ≡ of_error };
+
+    ghost inverse = { λ value. record { invoke = value.invoke; service = value.service } };
 }
 
 impl ErrorPdu {

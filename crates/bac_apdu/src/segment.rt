@@ -38,7 +38,7 @@ pub enum SegHead {
 /// Of an answer (clause 20.1.5): type 3 in bits 7 to 4, SEG 1 in bit 3, MOR in bit 2; the invoke id; the sequence
 /// number; the proposed window; the service choice; the piece. Bits 1 and 0 of the first octet are ignored, and 0 in
 /// canonical form.
-#[derive(Debug, Drop)]
+#[derive(Clone, Debug, PartialEq, Eq, Drop)]
 pub struct Segment {
     /// Of what it is a segment.
     pub head: SegHead,

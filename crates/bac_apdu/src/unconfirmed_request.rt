@@ -20,7 +20,7 @@ use std::marker::Model;
 ///
 /// Octets (clause 20.1.3): type 1 in bits 7 to 4; the service choice; those of the service. Bits 3 to 0 of the first
 /// octet are ignored, and 0 in canonical form.
-#[derive(Debug, Drop)]
+#[derive(Clone, Debug, PartialEq, Eq, Drop)]
 pub struct UnconfirmedRequest {
     service: Service,
 }
@@ -39,6 +39,8 @@ impl Model for UnconfirmedRequest {
     ghost view = { λ request. request.service };
 
     ghost invariant = { λ request. (service_of request.service).kind ≡ Unconfirmed };
+
+    ghost inverse = { λ service. record { service = service } };
 }
 
 impl UnconfirmedRequest {

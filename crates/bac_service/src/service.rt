@@ -19,7 +19,7 @@ use crate::services::write_property_multiple::WritePropertyMultiple;
 use crate::services::write_property_multiple_error::WritePropertyMultipleError;
 
 /// A service: a typed one, whose kind and choice have a production, or an opaque one, which is its octets.
-#[derive(Debug, Drop)]
+#[derive(Clone, Debug, PartialEq, Eq, Drop)]
 pub enum Service {
     /// ReadProperty: a confirmed request, choice 12.
     ReadProperty(ReadProperty),

@@ -14,7 +14,7 @@ use bac_value::{ObjectId, Unsigned32};
 ///
 /// Octets (clause 21): `[0]` subscriber process identifier, `[1]` initiating device identifier, `[2]` monitored
 /// object identifier, `[3]` time remaining, `[4] {` list of values `}`. They are the same for both services.
-#[derive(Debug, Drop)]
+#[derive(Clone, Debug, PartialEq, Eq, Drop)]
 pub struct CovNotification {
     /// Whether it is a ConfirmedCOVNotification, which wants an answer, or an UnconfirmedCOVNotification.
     pub confirmed: bool,

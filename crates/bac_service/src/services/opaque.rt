@@ -1,15 +1,17 @@
 //! Services without a production.
 
-ghost use Rattle.std.specs.Prelude.{◌≡◌, ◌↔◌, IsErrOf, IsNone, IsSome, IfOk, OnOk, true};
+ghost use Rattle.std.specs.Prelude.{◌≡◌, ◌↔◌, IsTrue, IsErrOf, IsNone, IsSome, IfOk, OnOk, true};
+ghost use Rattle.std.specs.Cmp.{partial_equiv_from_equiv};
 ghost use Rattle.bac_tag.specs.Spelling.{AppendsLeast};
 ghost use Rattle.bac_tag.specs.Octets.{Extends};
+ghost use Rattle.bac_service.specs.Opaques.{same_opaque, same_opaque_equiv};
 ghost use Rattle.bac_service.specs.ServiceTable.{production_of};
 ghost use Rattle.bac_service.specs.ServiceValues.{opaque};
 ghost use Rattle.bac_service.specs.Services.{SpellsSaid, IsPlaced};
 
 use crate::kind::{Kind, has_production};
 use bac_tag::OutOfMemory;
-use std::alloc::Global;
+use std::alloc::{AllocError, Global};
 use std::error::Error;
 use std::fmt;
 use std::fmt::Display;
@@ -55,6 +57,42 @@ impl Model for Opaque {
     ghost view = { λ service. record { kind = service.kind; choice = service.choice; octets = service.octets.items } };
 
     ghost invariant = { λ service. IsNone (production_of true service.kind service.choice) };
+}
+
+/// Two opaque services are equal exactly where their kinds, their service choices and their octets are.
+impl PartialEq for Opaque {
+    ghost eq = { same_opaque };
+
+    ghost laws = { partial_equiv_from_equiv same_opaque_equiv };
+
+    fn eq(&self, other: &Opaque) -> bool
+        ensures answer { result ≡ same_opaque self.now other.now }
+        ensures same { IsTrue result ↔ (self.now ≡ other.now) }
+    {
+        let is_of_one_choice = self.kind == other.kind && self.choice == other.choice;
+        is_of_one_choice && self.octets == other.octets
+    }
+}
+
+impl Eq for Opaque {
+    ghost laws = { same_opaque_equiv };
+}
+
+/// A copy is the same service.
+impl Clone for Opaque {
+    ghost is_clone = { λ service copy. copy ≡ service };
+
+    /// # Errors
+    /// `AllocError` where memory is refused.
+    fn clone(&self) -> Result<Opaque, AllocError> {
+        let alloc = *self.octets.allocator();
+        let octets = Vec::from_slice(alloc, &self.octets)?;
+        Ok(Opaque {
+            kind: self.kind,
+            choice: self.choice,
+            octets,
+        })
+    }
 }
 
 impl Opaque {

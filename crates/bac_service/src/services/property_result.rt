@@ -20,7 +20,7 @@ use bac_value::{Enumerated, Unsigned32};
 /// The value of a property, or why it could not be read.
 ///
 /// Octets (clause 21): `[4] {` value `}` or `[5] {` error `}`.
-#[derive(Debug, Drop)]
+#[derive(Clone, Debug, PartialEq, Eq, Drop)]
 pub enum ReadResult {
     /// The value that was read.
     Value(Any),
@@ -32,7 +32,7 @@ pub enum ReadResult {
 ///
 /// Octets (clause 21): `[2]` property identifier, `[3]` array index (optional), then the result. The tags go on
 /// from those of the ReadAccessResult in which it stands.
-#[derive(Debug, Drop)]
+#[derive(Clone, Debug, PartialEq, Eq, Drop)]
 pub struct PropertyResult {
     /// The identifier of the property.
     pub property: Enumerated,

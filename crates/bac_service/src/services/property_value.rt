@@ -15,7 +15,7 @@ use bac_value::{Enumerated, Priority, Unsigned32};
 ///
 /// Octets (clause 21): `[0]` property identifier, `[1]` array index (optional), `[2] {` value `}`,
 /// `[3]` priority (optional).
-#[derive(Debug, Drop)]
+#[derive(Clone, Debug, PartialEq, Eq, Drop)]
 pub struct PropertyValue {
     /// The identifier of the property.
     pub property: Enumerated,

@@ -17,7 +17,7 @@ use bac_value::{Enumerated, ObjectId, Unsigned32};
 ///
 /// Octets (clause 21): `[0]` object identifier, `[1]` property identifier, `[2]` array index (optional),
 /// `[3] {` value `}`.
-#[derive(Debug, Drop)]
+#[derive(Clone, Debug, PartialEq, Eq, Drop)]
 pub struct ReadPropertyAck {
     /// The object that has the property.
     pub object: ObjectId,

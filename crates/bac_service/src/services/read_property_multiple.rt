@@ -15,7 +15,7 @@ use bac_value::ObjectId;
 /// An object, and those of its properties that are asked for.
 ///
 /// Octets (clause 21): `[0]` object identifier, `[1] {` list of property references `}`.
-#[derive(Debug, Drop)]
+#[derive(Clone, Debug, PartialEq, Eq, Drop)]
 pub struct ReadAccessSpecification {
     /// The object that has the properties.
     pub object: ObjectId,
@@ -56,7 +56,7 @@ impl Record for ReadAccessSpecification {
 /// A request for properties of several objects.
 ///
 /// Octets (clause 21): the ReadAccessSpecifications one behind the other, with no tag around them.
-#[derive(Debug, Drop)]
+#[derive(Clone, Debug, PartialEq, Eq, Drop)]
 pub struct ReadPropertyMultiple {
     /// The objects and their properties, in their order. There may be none.
     pub specs: Vec<ReadAccessSpecification>,

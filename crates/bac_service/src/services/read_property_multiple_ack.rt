@@ -15,7 +15,7 @@ use bac_value::ObjectId;
 /// An object, and what reading its properties gave.
 ///
 /// Octets (clause 21): `[0]` object identifier, `[1] {` list of results `}` (optional).
-#[derive(Debug, Drop)]
+#[derive(Clone, Debug, PartialEq, Eq, Drop)]
 pub struct ReadAccessResult {
     /// The object that has the properties.
     pub object: ObjectId,
@@ -62,7 +62,7 @@ impl Record for ReadAccessResult {
 /// What reading properties of several objects gave.
 ///
 /// Octets (clause 21): the ReadAccessResults one behind the other, with no tag around them.
-#[derive(Debug, Drop)]
+#[derive(Clone, Debug, PartialEq, Eq, Drop)]
 pub struct ReadPropertyMultipleAck {
     /// The objects and what reading their properties gave, in their order. There may be none.
     pub results: Vec<ReadAccessResult>,

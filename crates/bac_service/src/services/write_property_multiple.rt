@@ -15,7 +15,7 @@ use bac_value::ObjectId;
 /// An object, and what is to be written to its properties.
 ///
 /// Octets (clause 21): `[0]` object identifier, `[1] {` list of property values `}`.
-#[derive(Debug, Drop)]
+#[derive(Clone, Debug, PartialEq, Eq, Drop)]
 pub struct WriteAccessSpecification {
     /// The object that has the properties.
     pub object: ObjectId,
@@ -56,7 +56,7 @@ impl Record for WriteAccessSpecification {
 /// A request to write properties of several objects.
 ///
 /// Octets (clause 21): the WriteAccessSpecifications one behind the other, with no tag around them.
-#[derive(Debug, Drop)]
+#[derive(Clone, Debug, PartialEq, Eq, Drop)]
 pub struct WritePropertyMultiple {
     /// The objects and the values of their properties, in their order. There may be none.
     pub specs: Vec<WriteAccessSpecification>,
