@@ -11,7 +11,7 @@ mod windows;
 use bac_apdu::{Apdu, append_apdu, decode_apdu_marked, encode_apdu};
 use bac_tables::{Outcome, octets_of, places_of, rows_of};
 use bac_tag::{OutOfMemory, Refusal, Why};
-use std::alloc::Global;
+use std::alloc::{AllocError, Global};
 use std::process::Abort;
 use std::test::Fail;
 
@@ -38,7 +38,15 @@ fn encoded(alloc: Global, apdu: &Apdu) -> Result<Vec<u8>, OutOfMemory> {
     }
 }
 
-/// The octets come to that.
+/// A copy, at the latest when memory is asked for again.
+fn copied(apdu: &Apdu) -> Result<Apdu, AllocError> {
+    match apdu.clone() {
+        Ok(copy) => Ok(copy),
+        Err(_) => apdu.clone(),
+    }
+}
+
+/// The octets come to that. What is read is equal to what its canonical octets are, and to its copy.
 fn comes_to(
     rt: &impl Abort,
     alloc: Global,
@@ -49,6 +57,9 @@ fn comes_to(
         Ok((found, mark)) => {
             let written = encoded(alloc, &found)?;
             assert_eq!(rt; Ok((written.as_slice(), mark)), wanted, "of {octets:?}");
+            let (canonical, _) = decoded(rt, alloc, &written)?;
+            assert!(rt; found == canonical, "of {octets:?}");
+            assert!(rt; copied(&found)? == found, "of {octets:?}");
         }
         Err(refusal) => {
             let told = (refusal.why.name(), refusal.place);

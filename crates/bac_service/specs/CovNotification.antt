@@ -26,7 +26,7 @@ SpellsNotification groups n =
     Joins (UnsignedField 3 n.time_remaining) (Grouped 4 (Items (SpellsPropertyValue groups)) n.values)
     )))
 
-pub notification_parts : (groups : ℕ) → IsRecordOf (Joined (UnsignedField 0) (Joined (ObjectField 1) (Joined (ObjectField 2) (Joined (UnsignedField 3) (Grouped 4 (Items (SpellsPropertyValue groups))))))) (SpellsNotification groups)
+unfoldable pub notification_parts : (groups : ℕ) → IsRecordOf (Joined (UnsignedField 0) (Joined (ObjectField 1) (Joined (ObjectField 2) (Joined (UnsignedField 3) (Grouped 4 (Items (SpellsPropertyValue groups))))))) (SpellsNotification groups)
 notification_parts groups = record {
   fields = λ n. (n.process_identifier, (n.device, (n.object, (n.time_remaining, n.values))));
   of_fields = λ p. record { process_identifier = p.0; device = p.1.0; object = p.1.1.0; time_remaining = p.1.1.1.0; values = p.1.1.1.1 };

@@ -25,4 +25,5 @@ pub mod ServiceTable
 pub mod ServiceValues
 pub mod Services
 pub mod Decoded
+pub mod Same
 pub mod Laws

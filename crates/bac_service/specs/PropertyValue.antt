@@ -12,7 +12,7 @@ SpellsPropertyValue groups value =
     Joins (SpellsOpen groups 2 value.value) (Optional (PriorityField 3) value.priority)
     ))
 
-pub property_value_parts : (groups : ℕ) → IsRecordOf (Joined (EnumeratedField 0) (Joined (Optional (UnsignedField 1)) (Joined (SpellsOpen groups 2) (Optional (PriorityField 3))))) (SpellsPropertyValue groups)
+unfoldable pub property_value_parts : (groups : ℕ) → IsRecordOf (Joined (EnumeratedField 0) (Joined (Optional (UnsignedField 1)) (Joined (SpellsOpen groups 2) (Optional (PriorityField 3))))) (SpellsPropertyValue groups)
 property_value_parts groups = record {
   fields = λ v. (v.property, (v.index, (v.value, v.priority)));
   of_fields = λ p. record { property = p.0; index = p.1.0; value = p.1.1.0; priority = p.1.1.1 };

@@ -20,7 +20,7 @@ access_result_of r = record { object = r.object; results = option_map (λ result
 abbrev pub SpellsAccessResult : ℕ → AccessResult → List ℕ → Type 0
 SpellsAccessResult groups r = Joins (ObjectField 0 r.object) (Optional (Grouped 1 (Items (SpellsPropertyResult groups))) r.results)
 
-pub access_result_parts : (groups : ℕ) → IsRecordOf (Joined (ObjectField 0) (Optional (Grouped 1 (Items (SpellsPropertyResult groups))))) (SpellsAccessResult groups)
+unfoldable pub access_result_parts : (groups : ℕ) → IsRecordOf (Joined (ObjectField 0) (Optional (Grouped 1 (Items (SpellsPropertyResult groups))))) (SpellsAccessResult groups)
 access_result_parts groups = record {
   fields = λ r. (r.object, r.results);
   of_fields = λ p. record { object = p.0; results = p.1 };

@@ -19,7 +19,7 @@ specification_of s = record { object = s.object; properties = s.properties.items
 abbrev pub SpellsSpecification : Specification → List ℕ → Type 0
 SpellsSpecification s = Joins (ObjectField 0 s.object) (Grouped 1 (Items SpellsPropertyReference) s.properties)
 
-pub specification_parts : IsRecordOf (Joined (ObjectField 0) (Grouped 1 (Items SpellsPropertyReference))) SpellsSpecification
+unfoldable pub specification_parts : IsRecordOf (Joined (ObjectField 0) (Grouped 1 (Items SpellsPropertyReference))) SpellsSpecification
 specification_parts = record {
   fields = λ s. (s.object, s.properties);
   of_fields = λ p. record { object = p.0; properties = p.1 };

@@ -10,7 +10,7 @@ abbrev pub SpellsReadPropertyAck : ℕ → ReadPropertyAck → List ℕ → Type
 SpellsReadPropertyAck groups ack =
     Joins (ObjectField 0 ack.object) (Joins (EnumeratedField 1 ack.property) (Joins (Optional (UnsignedField 2) ack.index) (SpellsOpen groups 3 ack.value)))
 
-pub read_property_ack_parts : (groups : ℕ) → IsRecordOf (Joined (ObjectField 0) (Joined (EnumeratedField 1) (Joined (Optional (UnsignedField 2)) (SpellsOpen groups 3)))) (SpellsReadPropertyAck groups)
+unfoldable pub read_property_ack_parts : (groups : ℕ) → IsRecordOf (Joined (ObjectField 0) (Joined (EnumeratedField 1) (Joined (Optional (UnsignedField 2)) (SpellsOpen groups 3)))) (SpellsReadPropertyAck groups)
 read_property_ack_parts groups = record {
   fields = λ a. (a.object, (a.property, (a.index, a.value)));
   of_fields = λ p. record { object = p.0; property = p.1.0; index = p.1.1.0; value = p.1.1.1 };

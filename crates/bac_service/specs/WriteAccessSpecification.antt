@@ -19,7 +19,7 @@ write_specification_of s = record { object = s.object; values = s.values.items }
 abbrev pub SpellsWriteSpecification : ℕ → WriteSpecification → List ℕ → Type 0
 SpellsWriteSpecification groups s = Joins (ObjectField 0 s.object) (Grouped 1 (Items (SpellsPropertyValue groups)) s.values)
 
-pub write_specification_parts : (groups : ℕ) → IsRecordOf (Joined (ObjectField 0) (Grouped 1 (Items (SpellsPropertyValue groups)))) (SpellsWriteSpecification groups)
+unfoldable pub write_specification_parts : (groups : ℕ) → IsRecordOf (Joined (ObjectField 0) (Grouped 1 (Items (SpellsPropertyValue groups)))) (SpellsWriteSpecification groups)
 write_specification_parts groups = record {
   fields = λ s. (s.object, s.values);
   of_fields = λ p. record { object = p.0; values = p.1 };

@@ -12,7 +12,7 @@ SpellsWriteProperty groups request =
     Joins (SpellsOpen groups 3 request.value) (Optional (PriorityField 4) request.priority)
     )))
 
-pub write_property_parts : (groups : ℕ) → IsRecordOf (Joined (ObjectField 0) (Joined (EnumeratedField 1) (Joined (Optional (UnsignedField 2)) (Joined (SpellsOpen groups 3) (Optional (PriorityField 4)))))) (SpellsWriteProperty groups)
+unfoldable pub write_property_parts : (groups : ℕ) → IsRecordOf (Joined (ObjectField 0) (Joined (EnumeratedField 1) (Joined (Optional (UnsignedField 2)) (Joined (SpellsOpen groups 3) (Optional (PriorityField 4)))))) (SpellsWriteProperty groups)
 write_property_parts groups = record {
   fields = λ r. (r.object, (r.property, (r.index, (r.value, r.priority))));
   of_fields = λ p. record { object = p.0; property = p.1.0; index = p.1.1.0; value = p.1.1.1.0; priority = p.1.1.1.1 };

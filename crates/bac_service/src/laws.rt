@@ -6,11 +6,13 @@ ghost use Rattle.bac_tag.specs.Spelling.{IsLeast, IsViable, IsPartway, OneOf, Jo
 ghost use Rattle.bac_service.specs.declared.kind.Kind.{Kind};
 ghost use Rattle.bac_service.specs.ServiceTable.{IsUnchanged};
 ghost use Rattle.bac_service.specs.Productions.{HasLeast};
-ghost use Rattle.bac_service.specs.ServiceValues.{ServiceValue, opaque};
+ghost use Rattle.bac_service.specs.Same.{same_service};
+ghost use Rattle.bac_service.specs.ServiceValues.{ServiceValue, opaque, value_of};
 ghost use Rattle.bac_service.specs.Services.{SpellsService, IsPlaced};
 
 use crate::production::Production;
 use crate::production::record::Fields;
+use crate::service::Service;
 use crate::services::cov_notification::CovNotification;
 use crate::services::error_cause::ErrorCause;
 use crate::services::i_am::IAm;
@@ -83,6 +85,15 @@ pub fn canonical_octets_tell_the_service()
     ensures { (kind : Kind) (choice : ℕ) (v w : ServiceValue) (c d : List ℕ) → IsLeast (SpellsService true 32 kind choice v) c → IsLeast (SpellsService true 32 kind choice w) d → (v ≡ w) ↔ (c ≡ d) }
 {
     services_have_one_value();
+}
+
+/// Returns `a == b`: two services that are spelled are equal exactly where they are the same service.
+pub fn equal_services_are_the_same(a: &Service, b: &Service) -> bool
+    ensures answer { result ≡ same_service a.now b.now }
+    ensures same { (kind other : Kind) (choice another : ℕ) (c d : List ℕ) → SpellsService true 32 kind choice (value_of a.now) c → SpellsService true 32 other another (value_of b.now) d → IsTrue result ↔ (value_of a.now ≡ value_of b.now) }
+{
+    bac_data::laws::only_open_values_are_spelled();
+    a == b
 }
 
 /// Formerly WritePropertyMultiple and its error were opaque, and at most 16 groups nested. Each other service that was

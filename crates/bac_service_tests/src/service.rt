@@ -63,7 +63,15 @@ fn encoded(alloc: Global, service: &Service) -> Result<Vec<u8>, OutOfMemory> {
     }
 }
 
-/// The octets come to that.
+/// A copy, at the latest when memory is asked for again.
+fn copied(service: &Service) -> Result<Service, AllocError> {
+    match service.clone() {
+        Ok(copy) => Ok(copy),
+        Err(_) => service.clone(),
+    }
+}
+
+/// The octets come to that. What is read is equal to what its canonical octets are, and to its copy.
 fn comes_to(
     rt: &impl Abort,
     alloc: Global,
@@ -76,6 +84,9 @@ fn comes_to(
             assert_eq!(rt; (found.kind(), found.choice()), service);
             let written = encoded(alloc, &found)?;
             assert_eq!(rt; Ok((written.as_slice(), mark)), wanted, "of {octets:?}");
+            let (canonical, _) = decoded(rt, alloc, service, &written)?;
+            assert!(rt; found == canonical, "of {octets:?}");
+            assert!(rt; copied(&found)? == found, "of {octets:?}");
         }
         Err(refusal) => {
             let told = (refusal.why.name(), refusal.place);

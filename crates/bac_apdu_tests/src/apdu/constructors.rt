@@ -71,3 +71,24 @@ fn parts_are_those_of_the_octets(rt: HostRuntime) -> Result<(), Fail> {
     assert_eq!(rt; Some(ack.window), Window::new(3));
     Ok(())
 }
+
+// One octet of each pair differs, or the type does.
+#[test]
+fn apdus_that_differ_are_not_equal(rt: HostRuntime) -> Result<(), Fail> {
+    for (one, other) in [
+        (
+            "00 05 01 0C 0C 00 00 00 05 19 55",
+            "00 05 02 0C 0C 00 00 00 05 19 55",
+        ),
+        ("10 08", "10 08 09 64 19 C8"),
+        ("20 01 0F", "20 01 10"),
+        ("50 01 0C 91 02 91 20", "50 01 0C 91 02 91 21"),
+        ("0A 73 FF 7F 2A 0C AA BB", "0A 73 FF 7F 2A 0C AA BC"),
+        ("60 01 04", "70 01 04"),
+    ] {
+        let (one, _) = decoded(&rt, rt.alloc(), &octets_of(one)?)?;
+        let (other, _) = decoded(&rt, rt.alloc(), &octets_of(other)?)?;
+        assert!(rt; one != other);
+    }
+    Ok(())
+}

@@ -1,6 +1,6 @@
 //! Services that are made and not read, and those that are read without their marks.
 
-use super::{encoded, object};
+use super::{canonical, encoded, object};
 use bac_service::{
     CovNotification, Kind, PropertyReference, ReadAccessSpecification, ReadProperty,
     ReadPropertyMultiple, Service, Unsigned32, WhoIs, decode_service, laws,
@@ -100,6 +100,43 @@ fn a_service_is_read_without_its_mark(rt: HostRuntime) -> Result<(), Fail> {
     let refusal = decode_service(rt.alloc(), Kind::Unconfirmed, 8, &[9, 0]).err();
     let (place, why) = (2, Why::Short);
     assert_eq!(rt; refusal, Some(Refusal { place, why }));
+    Ok(())
+}
+
+// One octet of each pair differs, or the kind does.
+#[test]
+fn services_that_differ_are_not_equal(rt: HostRuntime) -> Result<(), Fail> {
+    for (kind, choice, one, other) in [
+        (
+            Kind::Confirmed,
+            12,
+            "0C 00 00 00 05 19 55",
+            "0C 00 00 00 05 19 56",
+        ),
+        (
+            Kind::Confirmed,
+            15,
+            "0C 00 00 00 05 19 55 3E 21 05 3F",
+            "0C 00 00 00 05 19 55 3E 91 05 3F",
+        ),
+        (
+            Kind::Confirmed,
+            14,
+            "0C 00 00 00 21 1E 09 55 1F",
+            "0C 00 00 00 21 1E 1F",
+        ),
+        (Kind::Unconfirmed, 8, "none", "09 64 19 C8"),
+        (Kind::Unconfirmed, 9, "00", "01"),
+        (Kind::Error, 12, "91 02 91 20", "91 02 91 21"),
+    ] {
+        let one = canonical(&rt, rt.alloc(), (kind, choice), one)?;
+        let other = canonical(&rt, rt.alloc(), (kind, choice), other)?;
+        assert!(rt; one != other && !laws::equal_services_are_the_same(&one, &other));
+    }
+    let octets = "09 12 1C 02 00 00 04 2C 00 00 00 0A 39 00 4E 4F";
+    let confirmed = canonical(&rt, rt.alloc(), (Kind::Confirmed, 1), octets)?;
+    let unconfirmed = canonical(&rt, rt.alloc(), (Kind::Unconfirmed, 2), octets)?;
+    assert!(rt; confirmed != unconfirmed);
     Ok(())
 }
 

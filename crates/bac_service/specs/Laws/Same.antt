@@ -1,0 +1,356 @@
+-- Services are equal exactly where they are the same service.
+use Rattle.std.proofs.Common.{◌≡◌, ℕ, Bool, true, false, ◌&&◌, nat_eq, Option, None, Some, List, [], ◌∷◌, map, refl, sym, ◌∙◌, ap, subst, arith}
+use Rattle.std.specs.Bool.{Decides, beq}
+use Rattle.std.specs.Option.{option_eq, option_map}
+use Rattle.std.specs.Cmp.{unsigned_Decides, booleans_Decides}
+use Rattle.std.specs.Cmp.Lexicographic.{pointwise, pointwise_decides, bytes_decides}
+use Rattle.bac_tag.specs.Spelling.{Joined}
+use Rattle.bac_value.specs.Identifier.{Identifier}
+use Rattle.bac_value.specs.declared.types.enumeration.Enumerated.{Enumerated}
+use Rattle.bac_value.specs.declared.types.unsigned16.Unsigned16.{Unsigned16}
+use Rattle.bac_value.specs.declared.types.unsigned32.Unsigned32.{Unsigned32}
+use Rattle.bac_data.specs.OpenValue.{Elements, AreElements}
+use Rattle.bac_data.specs.Spells.{SpellsOpen}
+use Rattle.bac_data.specs.Same.{same_values}
+use Rattle.bac_data.specs.Laws.Same.{same_values_tell}
+use Rattle.bac_service.specs.declared.kind.Kind.{Kind}
+use Rattle.bac_service.specs.declared.kind.Kind.TheVariants as kind
+use Rattle.bac_service.specs.declared.services.error_cause.ErrorCause.{ErrorCause}
+use Rattle.bac_service.specs.declared.services.property_reference.PropertyReference.{PropertyReference}
+use Rattle.bac_service.specs.declared.services.property_result.ReadResult.{ReadResult}
+use Rattle.bac_service.specs.declared.services.property_result.ReadResult.TheVariants.{Value, Error}
+use Rattle.bac_service.specs.declared.services.property_result.PropertyResult.{PropertyResult}
+use Rattle.bac_service.specs.declared.services.read_property.ReadProperty.{ReadProperty}
+use Rattle.bac_service.specs.declared.services.read_property_multiple.ReadAccessSpecification.{ReadAccessSpecification}
+use Rattle.bac_service.specs.declared.services.read_property_multiple_ack.ReadAccessResult.{ReadAccessResult}
+use Rattle.bac_service.specs.declared.services.write_property_multiple.WriteAccessSpecification.{WriteAccessSpecification}
+use Rattle.bac_service.specs.declared.services.cov_notification.CovNotification.{CovNotification}
+use Rattle.bac_service.specs.ErrorValues.{ErrorValue}
+use Rattle.bac_service.specs.declared.services.write_property_multiple_error.WritePropertyMultipleError.{WritePropertyMultipleError}
+use Rattle.bac_service.specs.declared.services.who_is.WhoIs.{WhoIs}
+use Rattle.bac_service.specs.declared.services.i_am.IAm.{IAm}
+use Rattle.bac_service.specs.declared.services.subscribe_cov.SubscribeCov.{SubscribeCov}
+use Rattle.bac_service.specs.declared.service.Service.{Service}
+use Rattle.bac_service.specs.declared.service.Service.TheVariants as held
+use Rattle.bac_service.specs.Productions.{Optional, Items, Grouped, IsRecordOf}
+use Rattle.bac_service.specs.Contents.{EnumeratedField, UnsignedField, ObjectField}
+use Rattle.bac_service.specs.PropertyReference.{SpellsPropertyReference}
+use Rattle.bac_service.specs.PropertyValue.{SpellsPropertyValue, property_value_parts}
+use Rattle.bac_service.specs.PropertyResult.{SpellsReadResult, SpellsPropertyResult}
+use Rattle.bac_service.specs.ReadPropertyAck.{SpellsReadPropertyAck, read_property_ack_parts}
+use Rattle.bac_service.specs.WriteProperty.{SpellsWriteProperty, write_property_parts}
+use Rattle.bac_service.specs.ReadAccessSpecification.{Specification, specification_of, SpellsSpecification, specification_parts}
+use Rattle.bac_service.specs.ReadAccessResult.{AccessResult, access_result_of, SpellsAccessResult, access_result_parts}
+use Rattle.bac_service.specs.WriteAccessSpecification.{WriteSpecification, write_specification_of, SpellsWriteSpecification, write_specification_parts}
+use Rattle.bac_service.specs.CovNotification.{Notification, notification_of, SpellsNotification, notification_parts}
+use Rattle.bac_service.specs.Opaques.{OpaqueValue, kind_number, opaque_key}
+use Rattle.bac_service.specs.ServiceTable.{ServiceProduction, read_property, read_property_ack, read_property_multiple, read_property_multiple_ack, write_property, write_property_multiple, write_property_multiple_error, who_is, i_am, subscribe_cov, cov_notification, service_error}
+use Rattle.bac_service.specs.ServiceValues.{SaidBy, Said, ServiceValue, typed, opaque, notification_kind, notification_choice, value_of}
+use Rattle.bac_service.specs.Services.{SpellsService}
+use Rattle.bac_service.specs.Same.{same_object, same_index, same_cause, same_reference, same_property_value, same_read_result, same_property_result, same_read_property, same_specification, same_access_result, same_write_specification, same_write_error, same_who_is, same_i_am, same_subscribe_cov, same_notification, same_service}
+
+-- ---- tests that decide whether any two values are the same
+
+abbrev Decided : {V : Type 0} → (V → V → Bool) → Type 0
+Decided {V} test = (v w : V) → Decides (test v w) (v ≡ w)
+
+by_parts : {P V : Type 0} {v w : V} (r : Bool) → Decides r P → (P → v ≡ w) → (v ≡ w → P) → Decides r (v ≡ w)
+by_parts r d join split = (λ h. join (d.0 h), λ e. d.1 (split e))
+
+both : {P Q : Type 0} (r s : Bool) → Decides r P → Decides s Q → Decides (r && s) (P × Q)
+both true s d f = (λ h. (d.0 refl, f.0 h), λ p. f.1 p.1)
+both false s d f = (λ h. absurd (cc h), λ p. d.1 p.0)
+
+options : {V : Type 0} {test : V → V → Bool} → Decided test → Decided (option_eq test)
+options d None None = (λ h. refl, λ e. refl)
+options d None (Some w) = (λ h. absurd (cc h), λ e. absurd (cc e))
+options d (Some v) None = (λ h. absurd (cc h), λ e. absurd (cc e))
+options {test = test} d (Some v) (Some w) = by_parts (test v w) (d v w) (λ e. ap Some e) (λ e. cc)
+
+pairs : {V W : Type 0} {test : V → V → Bool} {other : W → W → Bool} → Decided test → Decided other → Decided (λ (p q : V × W). test p.0 q.0 && other p.1 q.1)
+pairs {test = test} {other = other} d f p q = by_parts (test p.0 q.0 && other p.1 q.1) (both (test p.0 q.0) (other p.1 q.1) (d p.0 q.0) (f p.1 q.1)) (λ e. λ i. (e.0 i, e.1 i)) (λ e. (λ i. (e i).0, λ i. (e i).1))
+
+enumerated : Decided (λ (v w : Enumerated). nat_eq v.0 w.0)
+enumerated v w = by_parts (nat_eq v.0 w.0) (unsigned_Decides v.0 w.0) (λ e. λ i. record { 0 = e i }) (λ e. λ i. (e i).0)
+
+unsigned16 : Decided (λ (v w : Unsigned16). nat_eq v.0 w.0)
+unsigned16 v w = by_parts (nat_eq v.0 w.0) (unsigned_Decides v.0 w.0) (λ e. λ i. record { 0 = e i }) (λ e. λ i. (e i).0)
+
+unsigned32 : Decided (λ (v w : Unsigned32). nat_eq v.0 w.0)
+unsigned32 v w = by_parts (nat_eq v.0 w.0) (unsigned_Decides v.0 w.0) (λ e. λ i. record { 0 = e i }) (λ e. λ i. (e i).0)
+
+objects : Decided same_object
+objects v w = by_parts (same_object v w) (pairs unsigned_Decides unsigned_Decides (v.kind, v.instance) (w.kind, w.instance)) (λ e. λ i. record { kind = (e i).0; instance = (e i).1 }) (λ e. λ i. ((e i).kind, (e i).instance))
+
+indices : Decided same_index
+indices = options unsigned32
+
+causes : Decided same_cause
+causes v w = by_parts (same_cause v w) (pairs enumerated enumerated (v.class, v.code) (w.class, w.code)) (λ e. λ i. record { class = (e i).0; code = (e i).1 }) (λ e. λ i. ((e i).class, (e i).code))
+
+references : Decided same_reference
+references v w = by_parts (same_reference v w) (pairs enumerated indices (v.property, v.index) (w.property, w.index)) (λ e. λ i. record { property = (e i).0; index = (e i).1 }) (λ e. λ i. ((e i).property, (e i).index))
+
+reads : Decided same_read_property
+reads v w =
+    by_parts (same_read_property v w) (pairs objects (pairs enumerated indices) (v.object, (v.property, v.index)) (w.object, (w.property, w.index)))
+    (λ e. λ i. record { object = (e i).0; property = (e i).1.0; index = (e i).1.1 }) (λ e. λ i. ((e i).object, ((e i).property, (e i).index)))
+
+write_errors : Decided same_write_error
+write_errors v w =
+    by_parts (same_write_error v w)
+    (pairs enumerated (pairs enumerated (pairs objects (pairs enumerated indices))) (v.class, (v.code, (v.object, (v.property, v.index)))) (w.class, (w.code, (w.object, (w.property, w.index)))))
+    (λ e. λ i. record { class = (e i).0; code = (e i).1.0; object = (e i).1.1.0; property = (e i).1.1.1.0; index = (e i).1.1.1.1 })
+    (λ e. λ i. ((e i).class, ((e i).code, ((e i).object, ((e i).property, (e i).index)))))
+
+who_ises : Decided same_who_is
+who_ises v w = by_parts (same_who_is v w) (options (pairs unsigned_Decides unsigned_Decides) v.limits w.limits) (λ e. λ i. record { limits = e i }) (λ e. λ i. (e i).limits)
+
+i_ams : Decided same_i_am
+i_ams v w =
+    by_parts (same_i_am v w)
+    (pairs objects (pairs unsigned32 (pairs enumerated unsigned16)) (v.device, (v.max_apdu_length, (v.segmentation, v.vendor))) (w.device, (w.max_apdu_length, (w.segmentation, w.vendor))))
+    (λ e. λ i. record { device = (e i).0; max_apdu_length = (e i).1.0; segmentation = (e i).1.1.0; vendor = (e i).1.1.1 })
+    (λ e. λ i. ((e i).device, ((e i).max_apdu_length, ((e i).segmentation, (e i).vendor))))
+
+subscriptions : Decided same_subscribe_cov
+subscriptions v w =
+    by_parts (same_subscribe_cov v w)
+    (pairs unsigned32 (pairs objects (pairs (options booleans_Decides) indices)) (v.process_identifier, (v.object, (v.confirmed, v.lifetime))) (w.process_identifier, (w.object, (w.confirmed, w.lifetime))))
+    (λ e. λ i. record { process_identifier = (e i).0; object = (e i).1.0; confirmed = (e i).1.1.0; lifetime = (e i).1.1.1 })
+    (λ e. λ i. ((e i).process_identifier, ((e i).object, ((e i).confirmed, (e i).lifetime))))
+
+-- ---- tests that decide it of values that are spelled
+
+abbrev Tells : {V : Type 0} → (V → List ℕ → Type 0) → (V → V → Bool) → Type 0
+Tells {V} spells test = (v w : V) (b c : List ℕ) → spells v b → spells w c → Decides (test v w) (v ≡ w)
+
+tells_plain : {V : Type 0} (S : V → List ℕ → Type 0) {test : V → V → Bool} → Decided test → Tells S test
+tells_plain S d v w b c s t = d v w
+
+tells_joined : {V W : Type 0} {S : V → List ℕ → Type 0} {T : W → List ℕ → Type 0} {test : V → V → Bool} {other : W → W → Bool}
+    → Tells S test → Tells T other → Tells (Joined S T) (λ p q. test p.0 q.0 && other p.1 q.1)
+tells_joined {test = test} {other = other} d f p q b c s t =
+    by_parts (test p.0 q.0 && other p.1 q.1) (both (test p.0 q.0) (other p.1 q.1) (d p.0 q.0 s.front t.front s.first t.first) (f p.1 q.1 s.back t.back s.second t.second))
+    (λ e. λ i. (e.0 i, e.1 i)) (λ e. (λ i. (e i).0, λ i. (e i).1))
+
+tells_optional : {V : Type 0} {S : V → List ℕ → Type 0} {test : V → V → Bool} → Tells S test → Tells (Optional S) (option_eq test)
+tells_optional d None None b c s t = (λ h. refl, λ e. refl)
+tells_optional d None (Some w) b c s t = (λ h. absurd (cc h), λ e. absurd (cc e))
+tells_optional d (Some v) None b c s t = (λ h. absurd (cc h), λ e. absurd (cc e))
+tells_optional {test = test} d (Some v) (Some w) b c s t = by_parts (test v w) (d v w b c s t) (λ e. ap Some e) (λ e. cc)
+
+tells_items : {V : Type 0} {S : V → List ℕ → Type 0} {test : V → V → Bool} → Tells S test → Tells (Items S) (pointwise test)
+tells_items d [] [] b c s t = (λ h. refl, λ e. refl)
+tells_items d [] (w ∷ ws) b c s t = (λ h. absurd (cc h), λ e. absurd (cc e))
+tells_items d (v ∷ vs) [] b c s t = (λ h. absurd (cc h), λ e. absurd (cc e))
+tells_items {test = test} d (v ∷ vs) (w ∷ ws) b c s t =
+    by_parts (test v w && pointwise test vs ws) (both (test v w) (pointwise test vs ws) (d v w s.front t.front s.first t.first) (tells_items d vs ws s.back t.back s.second t.second))
+    (λ e. λ i. e.0 i ∷ e.1 i) (λ e. (cc, cc))
+
+tells_grouped : {V : Type 0} {S : V → List ℕ → Type 0} {test : V → V → Bool} (number : ℕ) → Tells S test → Tells (Grouped number S) test
+tells_grouped number d v w b c s t = d v w s.second.front t.second.front s.second.first t.second.first
+
+tells_record : {V W : Type 0} {parts : W → List ℕ → Type 0} {whole : V → List ℕ → Type 0} {test : W → W → Bool} (r : IsRecordOf parts whole) → Tells parts test
+    → Tells whole (λ v w. test (r.fields v) (r.fields w))
+tells_record {test = test} r d v w b c s t =
+    by_parts (test (r.fields v) (r.fields w)) (d (r.fields v) (r.fields w) b c (r.split v b s) (r.split w c t)) (λ e. sym (r.same v) ∙ ap r.of_fields e ∙ r.same w) (λ e. ap r.fields e)
+
+-- ---- lists and options of what is held
+
+mapped : {X V : Type 0} (f : X → V) (test : V → V → Bool) (xs ys : List X) → pointwise test (map f xs) (map f ys) ≡ pointwise (λ x y. test (f x) (f y)) xs ys
+mapped f test [] [] = refl
+mapped f test [] (y ∷ ys) = refl
+mapped f test (x ∷ xs) [] = refl
+mapped f test (x ∷ xs) (y ∷ ys) = ap (λ r. test (f x) (f y) && r) (mapped f test xs ys)
+
+mapped_option : {X V : Type 0} (f : X → V) (test : V → V → Bool) (a b : Option X) → option_eq test (option_map f a) (option_map f b) ≡ option_eq (λ x y. test (f x) (f y)) a b
+mapped_option f test None None = refl
+mapped_option f test None (Some y) = refl
+mapped_option f test (Some x) None = refl
+mapped_option f test (Some x) (Some y) = refl
+
+-- ---- what a service says
+
+abbrev picked : (p : ServiceProduction) (q : Option ServiceProduction) → Said q → Option (SaidBy p)
+picked read_property (Some read_property) said = Some said
+picked read_property_ack (Some read_property_ack) said = Some said
+picked read_property_multiple (Some read_property_multiple) said = Some said
+picked read_property_multiple_ack (Some read_property_multiple_ack) said = Some said
+picked write_property (Some write_property) said = Some said
+picked write_property_multiple (Some write_property_multiple) said = Some said
+picked write_property_multiple_error (Some write_property_multiple_error) said = Some said
+picked who_is (Some who_is) said = Some said
+picked i_am (Some i_am) said = Some said
+picked subscribe_cov (Some subscribe_cov) said = Some said
+picked cov_notification (Some cov_notification) said = Some said
+picked service_error (Some service_error) said = Some said
+picked p q said = None
+
+abbrev said_by : (p : ServiceProduction) → ServiceValue → Option (SaidBy p)
+said_by p service = picked p service.production service.said
+
+abbrev octets_of : (q : Option ServiceProduction) → Said q → List ℕ
+octets_of None said = said
+octets_of (Some p) said = []
+
+some_is : {V : Type 0} {v w : V} → Some v ≡ Some w → v ≡ w
+some_is e = cc
+
+typed_tells : (k : Kind) (c : ℕ) (p : ServiceProduction) (v w : SaidBy p) (r : Bool) → said_by p (typed k c p v) ≡ Some v → said_by p (typed k c p w) ≡ Some w → Decides r (v ≡ w)
+    → Decides r (typed k c p v ≡ typed k c p w)
+typed_tells k c p v w r e f d = by_parts r d (λ h. ap (typed k c p) h) (λ h. some_is (sym e ∙ ap (said_by p) h ∙ f))
+
+confirmed_tells : (x y : Bool) → notification_choice x ≡ notification_choice y → x ≡ y
+confirmed_tells true true e = refl
+confirmed_tells false false e = refl
+confirmed_tells true false e = absurd (cc e)
+confirmed_tells false true e = absurd (cc e)
+
+kind_tells : (a b : Kind) → kind_number a ≡ kind_number b → a ≡ b
+kind_tells kind.Confirmed kind.Confirmed e = refl
+kind_tells kind.Unconfirmed kind.Unconfirmed e = refl
+kind_tells kind.ComplexAck kind.ComplexAck e = refl
+kind_tells kind.Error kind.Error e = refl
+kind_tells a b e = absurd (cc e)
+
+head_is : {X : Type 0} (x y : X) (xs ys : List X) → x ∷ xs ≡ y ∷ ys → x ≡ y
+head_is x y xs ys e = cc
+
+tail_is : {X : Type 0} (x y : X) (xs ys : List X) → x ∷ xs ≡ y ∷ ys → xs ≡ ys
+tail_is x y xs ys e = cc
+
+opaque_tells : (a b : OpaqueValue) → Decides (pointwise nat_eq (opaque_key a) (opaque_key b)) (opaque a.kind a.choice a.octets ≡ opaque b.kind b.choice b.octets)
+opaque_tells a b =
+    by_parts (pointwise nat_eq (opaque_key a) (opaque_key b)) (bytes_decides (opaque_key a) (opaque_key b))
+    (
+    λ e. let rest = tail_is _ _ _ _ e in
+    let kinds : a.kind ≡ b.kind = kind_tells a.kind b.kind (head_is _ _ _ _ e) in
+    let choices : a.choice ≡ b.choice = head_is _ _ _ _ rest in
+    let octets : a.octets ≡ b.octets = tail_is _ _ _ _ rest in
+    λ i. opaque (kinds i) (choices i) (octets i)
+    )
+    (λ h. ap (λ (x : ServiceValue). kind_number x.kind ∷ x.choice ∷ octets_of x.production x.said) h)
+
+-- ---- services that are spelled
+
+module _ (open_only : (number : ℕ) (v : Elements) (b : List ℕ) → SpellsOpen 32 number v b → AreElements v) where
+  tells_open : (number : ℕ) → Tells (SpellsOpen 32 number) same_values
+  tells_open number v w b c s t = same_values_tell v w (open_only number v b s) (open_only number w c t)
+
+  tells_property_value : Tells (SpellsPropertyValue 32) same_property_value
+  unfolding property_value_parts
+  tells_property_value = tells_record (property_value_parts 32) (tells_joined (tells_plain _ enumerated) (tells_joined (tells_optional (tells_plain _ unsigned32)) (tells_joined (tells_open 2) (tells_optional (tells_plain _ unsigned_Decides)))))
+
+  tells_read_result : Tells (SpellsReadResult 32) same_read_result
+  tells_read_result (Value v) (Value w) b c s t = by_parts (same_values v w) (tells_open 4 v w b c s t) (λ e. ap Value e) (λ e. cc)
+  tells_read_result (Error v) (Error w) b c s t = by_parts (same_cause v w) (causes v w) (λ e. ap Error e) (λ e. cc)
+  tells_read_result (Value v) (Error w) b c s t = (λ h. absurd (cc h), λ e. absurd (cc e))
+  tells_read_result (Error v) (Value w) b c s t = (λ h. absurd (cc h), λ e. absurd (cc e))
+
+  abbrev property_result_fields : IsRecordOf (Joined (EnumeratedField 2) (Joined (Optional (UnsignedField 3)) (SpellsReadResult 32))) (SpellsPropertyResult 32)
+  property_result_fields = record {
+    fields = λ r. (r.property, (r.index, r.result));
+    of_fields = λ p. record { property = p.0; index = p.1.0; result = p.1.1 };
+    same = λ r. refl;
+    split = λ r b s. s;
+    joined = λ p b s. s;
+  }
+
+  tells_property_result : Tells (SpellsPropertyResult 32) same_property_result
+  tells_property_result = tells_record property_result_fields (tells_joined (tells_plain _ enumerated) (tells_joined (tells_optional (tells_plain _ unsigned32)) tells_read_result))
+
+  tells_read_property_ack : Tells (SpellsReadPropertyAck 32) (λ v w. same_service (held.ReadPropertyAck v) (held.ReadPropertyAck w))
+  unfolding read_property_ack_parts
+  tells_read_property_ack = tells_record (read_property_ack_parts 32) (tells_joined (tells_plain _ objects) (tells_joined (tells_plain _ enumerated) (tells_joined (tells_optional (tells_plain _ unsigned32)) (tells_open 3))))
+
+  tells_write_property : Tells (SpellsWriteProperty 32) (λ v w. same_service (held.WriteProperty v) (held.WriteProperty w))
+  unfolding write_property_parts
+  tells_write_property =
+      tells_record (write_property_parts 32)
+      (tells_joined (tells_plain _ objects) (tells_joined (tells_plain _ enumerated) (tells_joined (tells_optional (tells_plain _ unsigned32)) (tells_joined (tells_open 3) (tells_optional (tells_plain _ unsigned_Decides))))))
+
+  abbrev specification_test : Specification → Specification → Bool
+  specification_test v w = same_object v.object w.object && pointwise same_reference v.properties w.properties
+
+  tells_specification : Tells SpellsSpecification specification_test
+  unfolding specification_parts
+  tells_specification = tells_record specification_parts (tells_joined (tells_plain _ objects) (tells_grouped 1 (tells_items (tells_plain _ references))))
+
+  abbrev access_result_test : AccessResult → AccessResult → Bool
+  access_result_test v w = same_object v.object w.object && option_eq (pointwise same_property_result) v.results w.results
+
+  tells_access_result : Tells (SpellsAccessResult 32) access_result_test
+  unfolding access_result_parts
+  tells_access_result = tells_record (access_result_parts 32) (tells_joined (tells_plain _ objects) (tells_optional (tells_grouped 1 (tells_items tells_property_result))))
+
+  access_result_is : (v w : ReadAccessResult) → access_result_test (access_result_of v) (access_result_of w) ≡ same_access_result v w
+  access_result_is v w = ap (λ r. same_object v.object w.object && r) (mapped_option (λ results. results.items) (pointwise same_property_result) v.results w.results)
+
+  abbrev write_specification_test : WriteSpecification → WriteSpecification → Bool
+  write_specification_test v w = same_object v.object w.object && pointwise same_property_value v.values w.values
+
+  tells_write_specification : Tells (SpellsWriteSpecification 32) write_specification_test
+  unfolding write_specification_parts
+  tells_write_specification = tells_record (write_specification_parts 32) (tells_joined (tells_plain _ objects) (tells_grouped 1 (tells_items tells_property_value)))
+
+  tells_notification : Tells (SpellsNotification 32) (λ v w. nat_eq v.process_identifier.0 w.process_identifier.0 && (same_object v.device w.device && (same_object v.object w.object && (nat_eq v.time_remaining.0 w.time_remaining.0 && pointwise same_property_value v.values w.values))))
+  unfolding notification_parts
+  tells_notification =
+      tells_record (notification_parts 32)
+      (tells_joined (tells_plain _ unsigned32) (tells_joined (tells_plain _ objects) (tells_joined (tells_plain _ objects) (tells_joined (tells_plain _ unsigned32) (tells_grouped 4 (tells_items tells_property_value))))))
+
+  tells_specifications : (v w : List ReadAccessSpecification) (s t : List ℕ) → Items SpellsSpecification (map specification_of v) s → Items SpellsSpecification (map specification_of w) t
+      → Decides (pointwise same_specification v w) (typed kind.Confirmed 14 read_property_multiple (map specification_of v) ≡ typed kind.Confirmed 14 read_property_multiple (map specification_of w))
+  tells_specifications v w s t x y =
+      let vs = map specification_of v in
+      let ws = map specification_of w in
+      let told = typed_tells kind.Confirmed 14 read_property_multiple vs ws (pointwise specification_test vs ws) refl refl (tells_items tells_specification vs ws s t x y) in
+      subst (λ r. Decides r (typed kind.Confirmed 14 read_property_multiple vs ≡ typed kind.Confirmed 14 read_property_multiple ws)) (mapped specification_of specification_test v w) told
+
+  tells_access_results : (v w : List ReadAccessResult) (s t : List ℕ) → Items (SpellsAccessResult 32) (map access_result_of v) s → Items (SpellsAccessResult 32) (map access_result_of w) t
+      → Decides (pointwise same_access_result v w) (typed kind.ComplexAck 14 read_property_multiple_ack (map access_result_of v) ≡ typed kind.ComplexAck 14 read_property_multiple_ack (map access_result_of w))
+  tells_access_results v w s t x y =
+      let vs = map access_result_of v in
+      let ws = map access_result_of w in
+      let told = typed_tells kind.ComplexAck 14 read_property_multiple_ack vs ws (pointwise access_result_test vs ws) refl refl (tells_items tells_access_result vs ws s t x y) in
+      let alike : pointwise access_result_test vs ws ≡ pointwise same_access_result v w =
+      mapped access_result_of access_result_test v w ∙ ap (λ (test : ReadAccessResult → ReadAccessResult → Bool). pointwise test v w) (λ i. λ p q. access_result_is p q i) in
+      subst (λ r. Decides r (typed kind.ComplexAck 14 read_property_multiple_ack vs ≡ typed kind.ComplexAck 14 read_property_multiple_ack ws)) alike told
+
+  tells_write_specifications : (v w : List WriteAccessSpecification) (s t : List ℕ) → Items (SpellsWriteSpecification 32) (map write_specification_of v) s → Items (SpellsWriteSpecification 32) (map write_specification_of w) t
+      → Decides (pointwise same_write_specification v w) (typed kind.Confirmed 16 write_property_multiple (map write_specification_of v) ≡ typed kind.Confirmed 16 write_property_multiple (map write_specification_of w))
+  tells_write_specifications v w s t x y =
+      let vs = map write_specification_of v in
+      let ws = map write_specification_of w in
+      let told = typed_tells kind.Confirmed 16 write_property_multiple vs ws (pointwise write_specification_test vs ws) refl refl (tells_items tells_write_specification vs ws s t x y) in
+      subst (λ r. Decides r (typed kind.Confirmed 16 write_property_multiple vs ≡ typed kind.Confirmed 16 write_property_multiple ws)) (mapped write_specification_of write_specification_test v w) told
+
+  tells_cov : (v w : CovNotification) (s t : List ℕ) → SpellsNotification 32 (notification_of v) s → SpellsNotification 32 (notification_of w) t
+      → Decides (same_notification v w) (value_of (held.CovNotification v) ≡ value_of (held.CovNotification w))
+  tells_cov v w s t x y =
+      by_parts (same_notification v w) (both (beq v.confirmed w.confirmed) _ (booleans_Decides v.confirmed w.confirmed) (tells_notification (notification_of v) (notification_of w) s t x y))
+      (λ e. λ i. typed (notification_kind (e.0 i)) (notification_choice (e.0 i)) cov_notification (e.1 i))
+      (λ h. (confirmed_tells v.confirmed w.confirmed (ap (λ (z : ServiceValue). z.choice) h), some_is (ap (said_by cov_notification) h)))
+
+  tells_error : (v w : ErrorValue) → Decides (nat_eq v.choice w.choice && same_cause v.cause w.cause) (typed kind.Error v.choice service_error v.cause ≡ typed kind.Error w.choice service_error w.cause)
+  tells_error v w =
+      by_parts (nat_eq v.choice w.choice && same_cause v.cause w.cause) (both (nat_eq v.choice w.choice) (same_cause v.cause w.cause) (unsigned_Decides v.choice w.choice) (causes v.cause w.cause))
+      (λ e. λ i. typed kind.Error (e.0 i) service_error (e.1 i))
+      (λ h. (ap (λ (z : ServiceValue). z.choice) h, some_is (ap (said_by service_error) h)))
+
+  pub services_tell : (a b : Service) (k l : Kind) (c d : ℕ) (s t : List ℕ) → SpellsService true 32 k c (value_of a) s → SpellsService true 32 l d (value_of b) t → Decides (same_service a b) (value_of a ≡ value_of b)
+  services_tell (held.ReadProperty v) (held.ReadProperty w) k l c d s t x y = typed_tells kind.Confirmed 12 read_property v w (same_read_property v w) refl refl (reads v w)
+  services_tell (held.ReadPropertyAck v) (held.ReadPropertyAck w) k l c d s t x y = typed_tells kind.ComplexAck 12 read_property_ack v w _ refl refl (tells_read_property_ack v w s t x.spelled y.spelled)
+  services_tell (held.WriteProperty v) (held.WriteProperty w) k l c d s t x y = typed_tells kind.Confirmed 15 write_property v w _ refl refl (tells_write_property v w s t x.spelled y.spelled)
+  services_tell (held.ReadPropertyMultiple v) (held.ReadPropertyMultiple w) k l c d s t x y = tells_specifications v.specs.items w.specs.items s t x.spelled y.spelled
+  services_tell (held.ReadPropertyMultipleAck v) (held.ReadPropertyMultipleAck w) k l c d s t x y = tells_access_results v.results.items w.results.items s t x.spelled y.spelled
+  services_tell (held.WritePropertyMultiple v) (held.WritePropertyMultiple w) k l c d s t x y = tells_write_specifications v.specs.items w.specs.items s t x.spelled y.spelled
+  services_tell (held.WhoIs v) (held.WhoIs w) k l c d s t x y = typed_tells kind.Unconfirmed 8 who_is v w (same_who_is v w) refl refl (who_ises v w)
+  services_tell (held.IAm v) (held.IAm w) k l c d s t x y = typed_tells kind.Unconfirmed 0 i_am v w (same_i_am v w) refl refl (i_ams v w)
+  services_tell (held.SubscribeCov v) (held.SubscribeCov w) k l c d s t x y = typed_tells kind.Confirmed 5 subscribe_cov v w (same_subscribe_cov v w) refl refl (subscriptions v w)
+  services_tell (held.CovNotification v) (held.CovNotification w) k l c d s t x y = tells_cov v w s t x.spelled y.spelled
+  services_tell (held.ServiceError v) (held.ServiceError w) k l c d s t x y = tells_error v w
+  services_tell (held.WritePropertyMultipleError v) (held.WritePropertyMultipleError w) k l c d s t x y = typed_tells kind.Error 16 write_property_multiple_error v w (same_write_error v w) refl refl (write_errors v w)
+  services_tell (held.Opaque v) (held.Opaque w) k l c d s t x y = opaque_tells v w
+  services_tell a b k l c d s t x y = (λ h. absurd (cc h), λ e. let productions = ap (λ (z : ServiceValue). z.production) e in absurd (cc productions))
