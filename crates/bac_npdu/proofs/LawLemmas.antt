@@ -1,0 +1,47 @@
+-- Laws of frames.
+use Rattle.std.specs.Prelude.{◌≡◌, ℕ, ◌≤◌, List, [], ◌∷◌, ◌++◌, length, refl}
+use Rattle.std.proofs.Common.{inl, inr, sym, arith}
+use Rattle.bac_tag.specs.Octets.{NoGreater}
+use Rattle.bac_tag.specs.Spelling.{IsLeast}
+use Rattle.bac_tag.specs.HeadOctets.{Part, Headed, least_head}
+use Rattle.bac_tag.specs.Laws.Octets.{NoGreater-same}
+use Rattle.bac_tag.proofs.HeadOctetLemmas.{parts_are, headed_least}
+use Rattle.bac_apdu.specs.Apdus.{ApduValue, SpellsApdu}
+use Rattle.bac_npdu.specs.Messages.{MessageValue, octets_of, SpellsMessage}
+use Rattle.bac_npdu.specs.Control.{least_of}
+use Rattle.bac_npdu.specs.Frames.{BodyValue, apdu, message, FrameValue, control_of, addresses_of, SpellsBody, SpellsFrame}
+use Rattle.bac_npdu.proofs.FrameLemmas.{frame_least}
+
+no_longer : (c b : List ℕ) → NoGreater c b → length c ≤ length b
+no_longer c b (inl lt) = omega (arith, lt)
+no_longer c b (inr same) = omega (arith, same.0)
+
+pub frame_no_longer : (f : FrameValue) (b c : List ℕ) → IsLeast (SpellsFrame f) c → SpellsFrame f b → length c ≤ length b
+frame_no_longer f b c L s = no_longer c b (L.least b s)
+
+-- what stands behind a head
+headed_rest : (ps : List Part) (B : List ℕ → Type 0) (b : List ℕ) → Headed ps B b → (c : List ℕ) × B c
+headed_rest [] B b h = (b, h)
+headed_rest (p ∷ ps) B [] h = absurd h
+headed_rest (p ∷ ps) B (o ∷ b) h = headed_rest ps B b h.1
+
+nothing_least : IsLeast (λ (rest : List ℕ). rest ≡ []) []
+nothing_least = record { member = refl; least = λ c e. NoGreater-same [] c (sym e) }
+
+message_canonical : (m : MessageValue) (b : List ℕ) → SpellsMessage m b → (c : List ℕ) × IsLeast (SpellsMessage m) c
+message_canonical m b p =
+    let all = headed_least (octets_of m) (λ rest. rest ≡ []) [] (parts_are (octets_of m) (λ rest. rest ≡ []) b p.1) nothing_least in
+    (least_head (octets_of m) ++ [], record { member = (p.0, all.member); least = λ c k. all.least c k.1 })
+
+module _ (apdus : (v : ApduValue) (b : List ℕ) → SpellsApdu v b → (c : List ℕ) × IsLeast (SpellsApdu v) c) where
+  body_canonical : (x : BodyValue) (b : List ℕ) → SpellsBody x b → (c : List ℕ) × IsLeast (SpellsBody x) c
+  body_canonical (apdu a) b p = apdus a b p
+  body_canonical (message m) b p = message_canonical m b p
+
+  pub frame_canonical : (f : FrameValue) (b : List ℕ) → SpellsFrame f b → (c : List ℕ) × IsLeast (SpellsFrame f) c
+  frame_canonical f [] s = absurd s.1
+  frame_canonical f (v ∷ []) s = absurd s.1.1
+  frame_canonical f (v ∷ o ∷ b) s =
+      let rest = headed_rest (addresses_of f) (SpellsBody f.body) b s.1.1.1 in
+      let body = body_canonical f.body rest.0 rest.1 in
+      (1 ∷ least_of (control_of f) ∷ (least_head (addresses_of f) ++ body.0), frame_least f body.0 s.0 (omega (arith, s.1.1.0.priority)) (parts_are (addresses_of f) (SpellsBody f.body) b s.1.1.1) body.1)

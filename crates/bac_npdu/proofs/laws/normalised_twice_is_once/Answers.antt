@@ -1,0 +1,5 @@
+use Rattle.bac_npdu.proofs.OnceLemmas.{normal_once}
+use Rattle.bac_npdu.proofs.laws.normalised_twice_is_once.Goals as goal
+
+pub returns : goal.returns
+returns c = normal_once c.frames_have_one_value.ensures

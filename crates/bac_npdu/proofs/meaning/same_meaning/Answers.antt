@@ -1,0 +1,51 @@
+use Rattle.std.specs.Prelude.{◌≡◌, ◌↔◌, true}
+use Rattle.std.proofs.Common.{rules}
+use Rattle.std.proofs.lemmas.Result.{err_from_is_err_and}
+use Rattle.bac_npdu.specs.Frames.{value_of}
+use Rattle.bac_npdu.proofs.OnceLemmas.{least_itself, same_compared}
+use Rattle.bac_npdu.proofs.meaning.same_meaning.Goals as goal
+
+pub returns-in_err-right_frame-clause-right : goal.returns-in_err-right_frame-clause-right
+returns-in_err-right_frame-clause-right c =
+    let p = err_from_is_err_and c.from_residual-in_err-right_frame.result c.from_residual-in_err-right_frame.ensures.1 in
+    let e = c.in_err-right_frame.ensures in
+    rw (p.1, p.2) (λ side why. ((value_of c.in_ok-left_frame.left_frame, c.in_ok-left_frame.ensures.spelled), e.refused why))
+
+pub returns-in-None-None-clause-same : goal.returns-in-None-None-clause-same
+returns-in-None-None-clause-same c =
+    let left = c.in_ok-left_frame in
+    let right = c.in_ok-right_frame in
+    let told : (c.eq.result ≡ true) ↔ (c.args.left.now ≡ c.args.right.now) = search (rules, c.eq.ensures) in
+    same_compared c.frames_have_one_value.ensures (value_of left.left_frame) (value_of right.right_frame) c.args.left.now c.args.right.now c.args.left.now c.args.right.now c.eq.result left.ensures.spelled right.ensures.spelled
+    (least_itself (value_of left.left_frame) c.args.left.now left.left_mark c.in-None-None.is-0 left.ensures.marked)
+    (least_itself (value_of right.right_frame) c.args.right.now right.right_mark c.in-None-None.is-1 right.ensures.marked) told
+
+pub returns-in-None-Some-clause-same : goal.returns-in-None-Some-clause-same
+returns-in-None-Some-clause-same c =
+    let left = c.in_ok-left_frame in
+    let right = c.in_ok-right_frame in
+    let told : (c.eq-in-None-Some.result ≡ true) ↔ (c.args.left.now ≡ c.in_ok-written-in-None-Some.written.items) = search (rules, c.eq-in-None-Some.ensures) in
+    same_compared c.frames_have_one_value.ensures (value_of left.left_frame) (value_of right.right_frame) c.args.left.now c.args.right.now c.args.left.now c.in_ok-written-in-None-Some.written.items c.eq-in-None-Some.result left.ensures.spelled right.ensures.spelled
+    (least_itself (value_of left.left_frame) c.args.left.now left.left_mark c.in-None-Some.is-0 left.ensures.marked)
+    (c.in_ok-written-in-None-Some.ensures.ok) told
+
+pub returns-in-Some-None-clause-same : goal.returns-in-Some-None-clause-same
+returns-in-Some-None-clause-same c =
+    let left = c.in_ok-left_frame in
+    let right = c.in_ok-right_frame in
+    let told : (c.eq-in-Some-None.result ≡ true) ↔ (c.in_ok-written-in-Some-None.written.items ≡ c.args.right.now) = search (rules, c.eq-in-Some-None.ensures) in
+    same_compared c.frames_have_one_value.ensures (value_of left.left_frame) (value_of right.right_frame) c.args.left.now c.args.right.now c.in_ok-written-in-Some-None.written.items c.args.right.now c.eq-in-Some-None.result left.ensures.spelled right.ensures.spelled
+    (c.in_ok-written-in-Some-None.ensures.ok)
+    (least_itself (value_of right.right_frame) c.args.right.now right.right_mark c.in-Some-None.is-1 right.ensures.marked) told
+
+pub returns-clause-spelled : goal.returns-clause-spelled
+returns-clause-spelled c = ((value_of c.in_ok-left_frame.left_frame, c.in_ok-left_frame.ensures.spelled), (value_of c.in_ok-right_frame.right_frame, c.in_ok-right_frame.ensures.spelled))
+
+pub returns-clause-same : goal.returns-clause-same
+returns-clause-same c =
+    let left = c.in_ok-left_frame in
+    let right = c.in_ok-right_frame in
+    let told : (c.eq-in-Some-Some.result ≡ true) ↔ (c.in_ok-left_written-in-Some-Some.left_written.items ≡ c.in_ok-right_written-in-Some-Some.right_written.items) = search (rules, c.eq-in-Some-Some.ensures) in
+    same_compared c.frames_have_one_value.ensures (value_of left.left_frame) (value_of right.right_frame) c.args.left.now c.args.right.now c.in_ok-left_written-in-Some-Some.left_written.items c.in_ok-right_written-in-Some-Some.right_written.items c.eq-in-Some-Some.result left.ensures.spelled right.ensures.spelled
+    (c.in_ok-left_written-in-Some-Some.ensures.ok)
+    (c.in_ok-right_written-in-Some-Some.ensures.ok) told

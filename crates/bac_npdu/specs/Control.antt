@@ -1,0 +1,32 @@
+-- The control octet (clause 6.2.2).
+use Rattle.std.specs.Prelude.{◌≡◌, ℕ, ◌+◌, ◌*◌, ◌%◌, ◌<◌, Bool, Some, List, [], ◌∷◌}
+use Rattle.bac_tag.specs.HeadOctets.{bit_of, HasBit}
+
+-- whether a network message, a destination, a source are there, whether a reply is expected; the priority
+pub record ControlValue : Type 0 where
+  pub message : Bool
+  pub destination : Bool
+  pub source : Bool
+  pub reply : Bool
+  pub priority : ℕ
+
+-- bits 7, 5, 3 and 2 are a flag each, bits 1 and 0 the priority; bits 6 and 4 are free
+pub record IsControl (c : ControlValue) (o : ℕ) : Type 0 where
+  pub small : o < 256
+  pub message : HasBit 7 (Some c.message) o
+  pub destination : HasBit 5 (Some c.destination) o
+  pub source : HasBit 3 (Some c.source) o
+  pub reply : HasBit 2 (Some c.reply) o
+  pub priority : o % 4 ≡ c.priority
+
+-- a control octet, and behind it a body
+abbrev pub Controlled : ControlValue → (List ℕ → Type 0) → List ℕ → Type 0
+Controlled c Body [] = ⊥
+Controlled c Body (o ∷ b) = IsControl c o × Body b
+
+-- the octet with bits 6 and 4 0
+abbrev pub least_control : Bool → Bool → Bool → Bool → ℕ → ℕ
+least_control message destination source reply priority = 128 * bit_of message + 32 * bit_of destination + 8 * bit_of source + 4 * bit_of reply + priority
+
+abbrev pub least_of : ControlValue → ℕ
+least_of c = least_control c.message c.destination c.source c.reply c.priority

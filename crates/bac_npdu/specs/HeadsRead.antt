@@ -1,0 +1,111 @@
+-- What reading the octets in front of a body gives (clause 6.2).
+use Rattle.std.specs.Prelude.{◌≡◌, ◌≢◌, ◌↔◌, ℕ, ◌+◌, ◌/◌, ◌%◌, ◌^◌, ◌<◌, ◌≤◌, nat_eq, cond, Bool, false, Option, Some, None, List, [], ◌∷◌, ◌++◌, length, slice_index, Result, Ok, Err}
+use Rattle.bac_tag.specs.declared.refusals.Refusal.{Refusal}
+use Rattle.bac_tag.specs.declared.refusals.Why.TheVariants.{PduType, Window, OutOfMemory}
+use Rattle.bac_tag.specs.HeadOctets.{HasBit}
+use Rattle.bac_tag.specs.Spelling.{HasMark, IsWholeRefusal}
+use Rattle.bac_apdu.specs.FirstOctet.{IsTypePlace, IsWindowPlace}
+use Rattle.bac_apdu.specs.Decoded.{IsApduReason, begins_small as begins_small_apdu}
+use Rattle.bac_npdu.specs.declared.control.Control.{Control}
+use Rattle.bac_npdu.specs.declared.frame_heads.Addressed.{Addressed}
+use Rattle.bac_npdu.specs.declared.frame_heads.Head.{Head}
+use Rattle.bac_npdu.specs.Addresses.{SourceValue, DestinationValue, HasAddress}
+use Rattle.bac_npdu.specs.declared.frame.Body.{Body}
+use Rattle.bac_npdu.specs.Control.{ControlValue, least_of}
+use Rattle.bac_npdu.specs.Frames.{BodyValue, body_value, is_there, is_message, SpellsBody}
+use Rattle.bac_npdu.specs.Decoded.{begins_small_message, IsRefused}
+
+-- network, length and address
+abbrev pub address_octets : ℕ → List ℕ → List ℕ
+address_octets network address = network / 256 ∷ network % 256 ∷ length address ∷ address
+
+-- those of an address that is there
+abbrev pub from_octets : Option SourceValue → List ℕ
+from_octets None = []
+from_octets (Some s) = address_octets s.network s.address
+
+abbrev pub hops_octets : Option DestinationValue → List ℕ
+hops_octets None = []
+hops_octets (Some d) = d.hops ∷ []
+
+-- a destination without its hop count
+abbrev pub address_of : Option DestinationValue → Option SourceValue
+address_of None = None
+address_of (Some d) = Some (record { network = d.network; address = d.address })
+
+-- behind the control octet: destination, source, hop count, and the rest
+abbrev pub behind_control : Option DestinationValue → Option SourceValue → List ℕ → List ℕ
+behind_control d s rest = from_octets (address_of d) ++ (from_octets s ++ (hops_octets d ++ rest))
+
+-- the octets end within a network, a length and an address
+abbrev pub IsCutAddress : List ℕ → Type 0
+IsCutAddress b = 3 ≤ length b → length b < 3 + slice_index b 2
+
+-- ---- what was read, as values
+
+abbrev pub address_read : Option Addressed → Option SourceValue
+address_read None = None
+address_read (Some a) = Some (record { network = a.network; address = a.address.now })
+
+abbrev pub destination_read : Option (Addressed × ℕ) → Option DestinationValue
+destination_read None = None
+destination_read (Some p) = Some (record { network = p.0.network; address = p.0.address.now; hops = p.1 })
+
+-- an address of more octets than have room in a Mac
+abbrev pub IsLong : Option SourceValue → Type 0
+IsLong None = ⊥
+IsLong (Some s) = 7 < length s.address
+
+-- what a control octet says
+abbrev pub control_at : ℕ → ControlValue
+control_at c = record { message = nat_eq (c / 2 ^ 7 % 2) 1; destination = nat_eq (c / 2 ^ 5 % 2) 1; source = nat_eq (c / 2 ^ 3 % 2) 1; reply = nat_eq (c / 2 ^ 2 % 2) 1; priority = c % 4 }
+
+-- the place of the control octet, where it has an ignored bit that is not 0
+abbrev pub IsControlMark : ℕ → Option ℕ → Type 0
+IsControlMark c None = c ≡ least_of (control_at c)
+IsControlMark c (Some place) = (place ≡ 1) × (c ≢ least_of (control_at c))
+
+-- the octets are a head that says this, and a rest
+pub record IsHead (octets : List ℕ) (control : ℕ) (d : Option DestinationValue) (s : Option SourceValue) (rest : List ℕ) : Type 0 where
+  pub octets_are : octets ≡ 1 ∷ control ∷ behind_control d s rest
+  pub destination : HasBit 5 (Some (is_there d)) control
+  pub source : HasBit 3 (Some (is_there s)) control
+  pub address : HasAddress s
+
+-- a head that was read, and the rest behind so many octets
+pub record IsHeadOf (octets : List ℕ) (head : Head) : Type 0 where
+  pub rest : List ℕ
+  pub is_head : IsHead octets head.control.0 (destination_read head.destination) (address_read head.source) rest
+  pub size : length octets ≡ head.size + length rest
+
+abbrev pub IsHeadRead : List ℕ → Result Head Refusal → Type 0
+IsHeadRead octets (Ok head) = IsHeadOf octets head
+IsHeadRead octets (Err refusal) = IsRefused octets refusal
+
+-- ---- the body
+
+-- the lists that spell a body: a network message or an APDU
+abbrev pub SpellsBodyOf : Bool → BodyValue → List ℕ → Type 0
+SpellsBodyOf m x b = (is_message x ≡ m) × SpellsBody x b
+
+pub record IsBodyFound (m : Bool) (octets : List ℕ) (body : Body) (mark : Option ℕ) : Type 0 where
+  pub is : is_message (body_value body) ≡ m
+  pub spelled : SpellsBody (body_value body) octets
+  pub marked : HasMark (SpellsBody (body_value body)) octets mark
+
+pub record IsBodyRefused (m : Bool) (octets : List ℕ) (refusal : Refusal) : Type 0 where
+  pub refused : refusal.why ≢ OutOfMemory → IsWholeRefusal (SpellsBodyOf m) octets refusal
+  pub memory : refusal.why ≡ OutOfMemory → (refusal.place ≡ 0) × (cond m (begins_small_message octets) (begins_small_apdu octets) ≡ false)
+  pub of_type : (refusal.why ≡ PduType) ↔ ((m ≡ false) × IsTypePlace octets refusal.place)
+  pub of_window : (refusal.why ≡ Window) ↔ ((m ≡ false) × IsWindowPlace octets refusal.place)
+  pub reason : IsApduReason refusal.why
+
+abbrev pub IsBodyDecoded : Bool → List ℕ → Result (Body × Option ℕ) Refusal → Type 0
+IsBodyDecoded m octets (Ok found) = IsBodyFound m octets found.0 found.1
+IsBodyDecoded m octets (Err refusal) = IsBodyRefused m octets refusal
+
+-- ---- version and control octet
+
+abbrev pub IsControlRead : List ℕ → Result Control Refusal → Type 0
+IsControlRead octets (Ok control) = (rest : List ℕ) × (octets ≡ 1 ∷ control.0 ∷ rest)
+IsControlRead octets (Err refusal) = IsRefused octets refusal

@@ -1,0 +1,11 @@
+pub mod Addresses
+pub mod MessageTypes
+pub mod Ports
+pub mod Messages
+pub mod Control
+pub mod Frames
+pub mod Heads
+pub mod Decoded
+pub mod HeadsRead
+pub mod Refused
+pub mod Meanings

@@ -1,0 +1,16 @@
+-- What two lists mean, and canonical octets of what was read.
+use Rattle.std.specs.Prelude.{ℕ, Some, List}
+use Rattle.bac_tag.specs.Spelling.{IsLeast, HasMark}
+use Rattle.bac_npdu.specs.Frames.{FrameValue, SpellsFrame}
+
+-- one frame has both spellings
+abbrev pub MeanTheSame : List ℕ → List ℕ → Type 0
+MeanTheSame b c = (f : FrameValue) × SpellsFrame f b × SpellsFrame f c
+
+-- c are the canonical octets of the frame that b spells
+abbrev pub IsNormalOf : List ℕ → List ℕ → Type 0
+IsNormalOf b c = (f : FrameValue) × SpellsFrame f b × IsLeast (SpellsFrame f) c
+
+-- the octets spell a frame, and the place is the first at which they differ from its canonical ones
+abbrev pub IsFirstFlaw : List ℕ → ℕ → Type 0
+IsFirstFlaw b place = (f : FrameValue) × SpellsFrame f b × HasMark (SpellsFrame f) b (Some place)

@@ -1,0 +1,24 @@
+-- The types of network messages (clauses 6.2.3 and 6.4).
+use Rattle.std.specs.Prelude.{ℕ, ◌<◌, ◌≤◌, nat_lt, nat_eq, ◌||◌, Bool, Option, Some, None, List, refl}
+use Rattle.std.specs.Coded.{Coded, code_by, coded×, coded_ℕ, coded_list, coded_option}
+
+-- the types that have a layout: 0 to 9, 18 and 19
+abbrev pub is_typed : ℕ → Bool
+is_typed kind = nat_lt kind 10 || (nat_eq kind 18 || nat_eq kind 19)
+
+-- types from 128 on have a vendor, and no others
+abbrev pub IsVendored : ℕ → Option ℕ → Type 0
+IsVendored kind None = kind < 128
+IsVendored kind (Some vendor) = 128 ≤ kind
+
+-- a type, a vendor and octets
+pub record OpaqueNetValue : Type 0 where
+  pub kind : ℕ
+  pub vendor : Option ℕ
+  pub octets : List ℕ
+
+-- how the logic stores one
+abbrev pub opaque_net_code : Coded OpaqueNetValue
+opaque_net_code =
+    code_by (ℕ × (Option ℕ × List ℕ)) (coded× coded_ℕ (coded× (coded_option coded_ℕ) (coded_list coded_ℕ))) (λ m. (m.kind, (m.vendor, m.octets))) (λ p. record { kind = p.0; vendor = p.1.0; octets = p.1.1 })
+    (λ m. refl)

@@ -1,0 +1,75 @@
+//! Addresses on a network (clause 6.2.2.1).
+
+ghost use Rattle.std.specs.Prelude.{◌≡◌, ◌≤◌, ◌<◌, ◌↔◌, length, IsOk, IfOk, IsErrOf};
+
+use smallvec::SmallVec;
+use std::alloc::Global;
+use std::error::Error;
+use std::fmt;
+use std::fmt::Display;
+use std::marker::Model;
+
+/// Why no address is made. `TooLong` is told first.
+#[derive(Clone, Copy, Debug, PartialEq, Eq)]
+pub enum MacFault {
+    /// It would have more than 255 octets.
+    TooLong = 1,
+    /// Memory was refused.
+    OutOfMemory,
+}
+
+impl Display for MacFault {
+    fn fmt<W: fmt::Write>(&self, formatter: &mut fmt::Formatter<W>) -> fmt::Result {
+        formatter.write_str(match self {
+            MacFault::TooLong => "the address would have more than 255 octets",
+            MacFault::OutOfMemory => "out of memory",
+        })
+    }
+}
+
+impl Error for MacFault {}
+
+/// The address of a device on its network, 0 to 255 octets. Up to seven of them want no memory.
+#[derive(Debug, Drop)]
+pub struct Mac {
+    octets: SmallVec<u8, 7>,
+}
+
+impl Model for Mac {
+    ghost use Rattle.std.specs.Prelude.{ℕ, ◌<◌, List, length};
+
+    ghost Value = { List ℕ };
+
+    ghost view = { λ mac. mac.octets.items };
+
+    ghost invariant = { λ mac. length mac.octets.items < 256 };
+}
+
+impl Mac {
+    /// The address with a copy of these octets.
+    ///
+    /// # Errors
+    /// `TooLong` where they are more than 255, else `OutOfMemory` where memory is refused, which is never told of up to
+    /// seven.
+    pub fn new(alloc: Global, octets: &[u8]) -> Result<Mac, MacFault>
+        ensures value { IfOk result (λ mac. mac ≡ octets.now) }
+        ensures too_long { IsErrOf result MacFault.TooLong ↔ (255 < length octets.now) }
+        ensures small { length octets.now ≤ 7 → IsOk result }
+    {
+        if octets.len() > 255 {
+            return Err(MacFault::TooLong);
+        }
+        let Ok(octets) = SmallVec::from_slice(alloc, octets) else {
+            return Err(MacFault::OutOfMemory);
+        };
+        Ok(Mac { octets })
+    }
+
+    /// Its octets, in their order, at most 255.
+    pub fn octets(&self) -> &[u8]
+        ensures octets { result.now ≡ self.now }
+        ensures few { length result.now < 256 }
+    {
+        self.octets.as_slice()
+    }
+}

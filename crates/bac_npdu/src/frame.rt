@@ -1,0 +1,38 @@
+//! Frames.
+
+use crate::destination::Dest;
+use crate::message::NetMessage;
+use crate::net_priority::NetPriority;
+use crate::source::Source;
+use bac_apdu::Apdu;
+
+/// What stands behind the head of a frame.
+#[derive(Debug, Drop)]
+pub enum Body {
+    /// An APDU (clause 20.1).
+    Apdu(Apdu),
+    /// A network message (clause 6.2.4), of which bit 7 of the control octet tells.
+    Net(NetMessage),
+}
+
+/// A frame: one NPDU (clause 6.2).
+///
+/// Octets: the version, 1; the control octet; network, length and address of the destination, where there is one;
+/// network, length and address of the source, where there is one; the hop count, where there is a destination; the
+/// APDU or the network message.
+///
+/// The control octet: bit 7 tells of a network message, bit 5 of a destination, bit 3 of a source, bit 2 that a reply
+/// is expected; bits 1 and 0 are the priority. Bits 6 and 4 are ignored, and 0 in canonical form.
+#[derive(Debug, Drop)]
+pub struct Frame {
+    /// Whether a reply is expected.
+    pub reply: bool,
+    /// How urgent it is.
+    pub priority: NetPriority,
+    /// Where it goes, where that is another network.
+    pub dest: Option<Dest>,
+    /// Whence it comes, where that is another network.
+    pub source: Option<Source>,
+    /// What it carries.
+    pub body: Body,
+}

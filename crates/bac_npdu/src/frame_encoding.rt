@@ -1,0 +1,98 @@
+//! Encoding a frame.
+
+ghost use Rattle.std.specs.Prelude.{◌≡◌, ◌<◌, ◌∷◌, ◌++◌, IfOk, OnOk, OnErr};
+ghost use Rattle.bac_tag.specs.HeadOctets.{least_head};
+ghost use Rattle.bac_tag.specs.Spelling.{IsLeast, AppendsLeast};
+ghost use Rattle.bac_tag.specs.Octets.{Extends};
+ghost use Rattle.bac_npdu.specs.Addresses.{HasAddress};
+ghost use Rattle.bac_npdu.specs.Control.{least_of};
+ghost use Rattle.bac_npdu.specs.Frames.{SpellsFrame, value_of, control_of as control_said, addresses_of};
+
+use crate::control::Control;
+use crate::frame::{Body, Frame};
+use crate::frame_heads::append_address;
+use crate::message_encoding::append_message;
+use bac_apdu::append_apdu;
+use bac_tag::OutOfMemory;
+use bitflags::Flags;
+use std::alloc::Global;
+
+/// The canonical control octet of a frame.
+fn control_of(frame: &Frame) -> Control
+    ensures value { result.0 ≡ least_of (control_said (value_of frame.now)) }
+    ensures range { frame.now.priority < 4 }
+{
+    let is_message = match &frame.body {
+        Body::Apdu(_) => false,
+        Body::Net(_) => true,
+    };
+    let has_destination = frame.dest.is_some();
+    let has_source = frame.source.is_some();
+    Control::new(
+        is_message,
+        has_destination,
+        has_source,
+        frame.reply,
+        frame.priority,
+    )
+}
+
+/// Appends the octets in front of the body. Where memory is refused `out` may hold some of them.
+fn append_head(frame: &Frame, out: &mut Vec<u8>) -> Result<(), OutOfMemory>
+    ensures written { OnOk result (out.new.items ≡ out.old.items ++ 1 ∷ least_of (control_said (value_of frame.now)) ∷ least_head (addresses_of (value_of frame.now))) }
+    ensures addressed { OnOk result (HasAddress frame.now.source) }
+    ensures range { OnOk result (frame.now.priority < 4) }
+    ensures kept { Extends out.old.items out.new.items }
+{
+    out.extend_from_slice(&[1, control_of(frame).bits()])?;
+    if let Some(dest) = &frame.dest {
+        append_address(dest.network, &dest.address, out)?;
+    }
+    if let Some(source) = &frame.source {
+        append_address(source.network(), source.address(), out)?;
+    }
+    if let Some(dest) = &frame.dest {
+        out.push(dest.hops)?;
+    }
+    Ok(())
+}
+
+/// Appends the octets of a frame. Where memory is refused `out` may hold some of them.
+fn append_parts(frame: &Frame, out: &mut Vec<u8>) -> Result<(), OutOfMemory>
+    ensures written { OnOk result (AppendsLeast (SpellsFrame (value_of frame.now)) out.old.items out.new.items) }
+    ensures kept { Extends out.old.items out.new.items }
+{
+    append_head(frame, out)?;
+    match &frame.body {
+        Body::Apdu(apdu) => append_apdu(apdu, out),
+        Body::Net(message) => append_message(message, out),
+    }
+}
+
+/// Appends the canonical octets of a frame, its least spelling, behind what stands in `out`.
+///
+/// # Errors
+/// `OutOfMemory` where memory is refused. `out` then stays as it was.
+pub fn append_frame(frame: &Frame, out: &mut Vec<u8>) -> Result<(), OutOfMemory>
+    ensures written { OnOk result (AppendsLeast (SpellsFrame (value_of frame.now)) out.old.items out.new.items) }
+    ensures unchanged { OnErr result (out.new.items ≡ out.old.items) }
+{
+    let start = out.len();
+    let written = append_parts(frame, out);
+    if written.is_err() {
+        out.truncate(start);
+    }
+    written
+}
+
+/// The canonical octets of a frame: its least spelling.
+///
+/// # Errors
+/// `OutOfMemory` where memory is refused.
+pub fn encode_frame(alloc: Global, frame: &Frame) -> Result<Vec<u8>, OutOfMemory>
+    ensures { IfOk result (λ out. IsLeast (SpellsFrame (value_of frame.now)) out.items) }
+{
+    let mut out = Vec::new(alloc);
+    append_frame(frame, &mut out)?;
+    Ok(out)
+}

@@ -1,0 +1,149 @@
+//! The octets in front of an APDU or a network message (clause 6.2).
+
+ghost use Rattle.std.specs.Prelude.{◌≡◌, ◌↔◌, ◌≤◌, true, [], ◌++◌, length, slice_index, IfSome, IfNone, OnOk};
+ghost use Rattle.bac_tag.specs.HeadOctets.{least_head};
+ghost use Rattle.bac_tag.specs.Octets.{Extends};
+ghost use Rattle.bac_npdu.specs.Addresses.{addressed};
+ghost use Rattle.bac_npdu.specs.Frames.{is_there};
+ghost use Rattle.bac_npdu.specs.HeadsRead.{address_octets, from_octets, hops_octets, IsCutAddress, address_read, destination_read, address_of, IsControlRead, IsHeadRead};
+
+use crate::addresses::Mac;
+use crate::control::Control;
+use crate::octets::{number_at, octets_of_number};
+use bac_tag::{OutOfMemory, Refusal, Why};
+use bitflags::Flags;
+
+/// A network and an address, as they stand in the octets.
+#[derive(Clone, Copy)]
+pub(crate) struct Addressed<'a> {
+    pub(crate) network: u16,
+    pub(crate) address: &'a [u8],
+}
+
+/// What the head of a frame says.
+#[derive(Clone, Copy)]
+pub(crate) struct Head<'a> {
+    pub(crate) control: Control,
+    pub(crate) destination: Option<(Addressed<'a>, u8)>,
+    pub(crate) source: Option<Addressed<'a>>,
+    /// How many octets it has.
+    pub(crate) size: usize,
+}
+
+/// Splits off a network, a length and an address, or none where the octets end before that.
+#[inline(always)]
+fn split_address(octets: &[u8]) -> Option<(Addressed<'_>, &[u8])>
+    ensures some { IfSome result (λ found. octets.now ≡ address_octets found.0.network found.0.address.now ++ found.1.now) }
+    ensures none { IfNone result (IsCutAddress octets.now) }
+{
+    let [_, _, count, rest @ ..] = octets else {
+        return None;
+    };
+    let count = usize::from(*count);
+    if rest.len() < count {
+        return None;
+    }
+    let (address, behind) = rest.split_at(count);
+    let network = number_at(octets, 0);
+    Some((Addressed { network, address }, behind))
+}
+
+/// Splits off a network, a length and an address where they are there, or none where the octets end before that.
+#[inline(always)]
+fn split_where(there: bool, octets: &[u8]) -> Option<(Option<Addressed<'_>>, &[u8])>
+    ensures some { IfSome result (λ found. octets.now ≡ from_octets (address_read found.0) ++ found.1.now) }
+    ensures there { IfSome result (λ found. is_there found.0 ≡ there) }
+    ensures none { IfNone result ((there ≡ true) × IsCutAddress octets.now) }
+{
+    if !there {
+        return Some((None, octets));
+    }
+    let (address, behind) = split_address(octets)?;
+    Some((Some(address), behind))
+}
+
+/// Splits off the hop count of a destination, or none where the octets end before it.
+#[inline(always)]
+fn split_hops<'a>(
+    goes_to: Option<Addressed<'a>>,
+    octets: &'a [u8],
+) -> Option<(Option<(Addressed<'a>, u8)>, &'a [u8])>
+    ensures some { IfSome result (λ found. octets.now ≡ hops_octets (destination_read found.0) ++ found.1.now) }
+    ensures same { IfSome result (λ found. address_of (destination_read found.0) ≡ address_read goes_to.entry) }
+    ensures none { IfNone result ((is_there goes_to.entry ≡ true) × (octets.now ≡ [])) }
+{
+    let Some(address) = goes_to else {
+        return Some((None, octets));
+    };
+    let [hops, behind @ ..] = octets else {
+        return None;
+    };
+    Some((Some((address, *hops)), behind))
+}
+
+/// Whether the length of an address is there, and 0.
+#[inline(always)]
+fn begins_empty(octets: &[u8]) -> bool
+    ensures { (result ≡ true) ↔ ((3 ≤ length octets.now) × (slice_index octets.now 2 ≡ 0)) }
+{
+    matches!(octets, [_, _, 0, ..])
+}
+
+/// Reads version and control octet.
+#[inline(always)]
+fn read_control(octets: &[u8]) -> Result<Control, Refusal>
+    ensures { IsControlRead octets.now result }
+{
+    let [version, ..] = octets else {
+        return Err(Why::Short.at(octets.len()));
+    };
+    if *version != 1 {
+        return Err(Why::Version.at(0));
+    }
+    let [_, control, ..] = octets else {
+        return Err(Why::Short.at(octets.len()));
+    };
+    Ok(Control::from_bits_retain(*control))
+}
+
+/// Reads the octets in front of the APDU or the network message.
+pub(crate) fn read_head(octets: &[u8]) -> Result<Head<'_>, Refusal>
+    ensures { IsHeadRead octets.now result }
+{
+    let control = read_control(octets)?;
+    let Some((goes_to, rest)) = split_where(control.has_destination(), &octets[2..]) else {
+        return Err(Why::Short.at(octets.len()));
+    };
+    let has_source = control.has_source();
+    if has_source && begins_empty(rest) {
+        return Err(Why::Address.at(octets.len() - rest.len() + 2));
+    }
+    let Some((source, rest)) = split_where(has_source, rest) else {
+        return Err(Why::Short.at(octets.len()));
+    };
+    let Some((destination, rest)) = split_hops(goes_to, rest) else {
+        return Err(Why::Short.at(octets.len()));
+    };
+    Ok(Head {
+        control,
+        destination,
+        source,
+        size: octets.len() - rest.len(),
+    })
+}
+
+/// Appends a network, a length and an address. Where memory is refused `out` may hold some of the octets.
+pub(crate) fn append_address(
+    network: u16,
+    address: &Mac,
+    out: &mut Vec<u8>,
+) -> Result<(), OutOfMemory>
+    ensures written { OnOk result (out.new.items ≡ out.old.items ++ least_head (addressed network address.now [])) }
+    ensures kept { Extends out.old.items out.new.items }
+{
+    let octets = address.octets();
+    out.extend_from_slice(&octets_of_number(network))?;
+    out.push(octets.len() as u8)?;
+    out.extend_from_slice(octets)?;
+    Ok(())
+}

@@ -1,0 +1,39 @@
+//! NPDUs (clause 6): version, control octet, destination, source and hop count, and behind them an APDU or a network
+//! message.
+//!
+//! [`decode_frame`] reads a frame, and [`encode_frame`] and [`append_frame`] write one. [`decode_strict`] accepts
+//! canonical octets alone, [`normalise_frame`] gives the canonical octets of what was read, and [`same_meaning`] tells
+//! whether two inputs spell one frame.
+#![tactic(auto)]
+
+mod addresses;
+mod control;
+mod destination;
+mod frame;
+mod frame_decoding;
+mod frame_encoding;
+mod frame_heads;
+pub mod laws;
+mod meaning;
+mod message;
+mod message_decoding;
+mod message_encoding;
+mod messages;
+mod net_priority;
+mod octets;
+mod source;
+mod strict;
+
+pub use addresses::{Mac, MacFault};
+pub use destination::Dest;
+pub use frame::{Body, Frame};
+pub use frame_decoding::{decode_frame, decode_marked};
+pub use frame_encoding::{append_frame, encode_frame};
+pub use meaning::{Side, same_meaning};
+pub use message::NetMessage;
+pub use messages::opaque_net::{NetFault, OpaqueNet};
+pub use messages::port::Port;
+pub use messages::ports::Ports;
+pub use net_priority::NetPriority;
+pub use source::Source;
+pub use strict::{decode_strict, normalise_frame};

@@ -1,0 +1,79 @@
+//! Whether two inputs spell one frame.
+
+ghost use Rattle.std.specs.Prelude.{◌≡◌, ◌≢◌, ◌↔◌, true, IfOk, IfErr};
+ghost use Rattle.bac_tag.specs.declared.refusals.Why.TheVariants.{OutOfMemory};
+ghost use Rattle.bac_tag.specs.Spelling.{HasMark, IsLeast, IsSpelling, IsWholeRefusal};
+ghost use Rattle.bac_npdu.specs.Frames.{SpellsFrame, value_of};
+ghost use Rattle.bac_npdu.specs.Meanings.{MeanTheSame};
+
+use crate::frame::Frame;
+use crate::frame_decoding::decode_marked;
+use crate::frame_encoding::encode_frame;
+use crate::laws::frames_have_one_value;
+use bac_tag::Refusal;
+use std::alloc::Global;
+
+/// One of two inputs.
+#[derive(Clone, Copy, Debug, PartialEq, Eq)]
+pub enum Side {
+    /// The first.
+    Left,
+    /// The second.
+    Right,
+}
+
+/// The frame of one side, with its mark.
+fn read(alloc: Global, side: Side, octets: &[u8]) -> Result<(Frame, Option<usize>), (Side, Refusal)>
+    ensures spelled { IfOk result (λ found. SpellsFrame (value_of found.0) octets.now) }
+    ensures marked { IfOk result (λ found. HasMark (SpellsFrame (value_of found.0)) octets.now found.1) }
+    ensures side { IfErr result (λ told. told.0 ≡ side) }
+    ensures refused { IfErr result (λ told. told.1.why ≢ OutOfMemory → IsWholeRefusal SpellsFrame octets.now told.1) }
+    ensures memory { IfErr result (λ told. told.1.why ≡ OutOfMemory → told.1.place ≡ 0) }
+{
+    match decode_marked(alloc, octets) {
+        Ok(found) => Ok(found),
+        Err(refusal) => Err((side, refusal)),
+    }
+}
+
+/// The canonical octets of the frame of one side.
+fn encoded(alloc: Global, side: Side, frame: &Frame) -> Result<Vec<u8>, (Side, Refusal)>
+    ensures ok { IfOk result (λ out. IsLeast (SpellsFrame (value_of frame.now)) out.items) }
+    ensures memory { IfErr result (λ told. told ≡ (side, record { place = 0; why = OutOfMemory })) }
+{
+    encode_frame(alloc, frame).map_err(|_refused| (side, Refusal::out_of_memory()))
+}
+
+/// Whether both inputs spell one frame. Octets without a mark are their own canonical ones, and are not written again.
+///
+/// # Errors
+/// The side that spells no frame, the left one first, with the refusal of [`decode_marked`]; or the side at which
+/// memory was refused.
+pub fn same_meaning(alloc: Global, left: &[u8], right: &[u8]) -> Result<bool, (Side, Refusal)>
+    ensures spelled { IfOk result (λ same. IsSpelling SpellsFrame left.now × IsSpelling SpellsFrame right.now) }
+    ensures same { IfOk result (λ same. (same ≡ true) ↔ MeanTheSame left.now right.now) }
+    ensures left { IfErr result (λ told. told.0 ≡ Side.Left → told.1.why ≢ OutOfMemory → IsWholeRefusal SpellsFrame left.now told.1) }
+    ensures right { IfErr result (λ told. told.0 ≡ Side.Right → told.1.why ≢ OutOfMemory → IsSpelling SpellsFrame left.now × IsWholeRefusal SpellsFrame right.now told.1) }
+    ensures memory { IfErr result (λ told. told.1.why ≡ OutOfMemory → told.1.place ≡ 0) }
+{
+    // By this law equal canonical octets are those of one frame.
+    frames_have_one_value();
+    let (left_frame, left_mark) = read(alloc, Side::Left, left)?;
+    let (right_frame, right_mark) = read(alloc, Side::Right, right)?;
+    match (left_mark, right_mark) {
+        (None, None) => Ok(left == right),
+        (None, Some(_)) => {
+            let written = encoded(alloc, Side::Right, &right_frame)?;
+            Ok(left == written.as_slice())
+        }
+        (Some(_), None) => {
+            let written = encoded(alloc, Side::Left, &left_frame)?;
+            Ok(written.as_slice() == right)
+        }
+        (Some(_), Some(_)) => {
+            let left_written = encoded(alloc, Side::Left, &left_frame)?;
+            let right_written = encoded(alloc, Side::Right, &right_frame)?;
+            Ok(left_written == right_written)
+        }
+    }
+}

@@ -1,0 +1,53 @@
+//! Routing tables.
+
+ghost use Rattle.std.specs.Prelude.{◌≡◌, ◌<◌, ◌↔◌, length, IsOk, IfOk, IfErr};
+
+use crate::messages::port::Port;
+use std::marker::Model;
+
+/// A routing table (clause 6.4.7), of at most 255 ports.
+///
+/// Octets: the number of ports (1), and the octets of each port in turn.
+#[derive(Debug, Drop)]
+pub struct Ports {
+    list: Vec<Port>,
+}
+
+impl Model for Ports {
+    ghost use Rattle.std.specs.Prelude.{◌<◌, List, length};
+    ghost use Rattle.bac_npdu.specs.declared.messages.port.Port.{Port};
+    ghost use Rattle.bac_npdu.specs.Ports.{ports_code};
+
+    ghost Value = { List Port };
+
+    ghost coded = { ports_code };
+
+    ghost view = { λ ports. ports.list.items };
+
+    ghost invariant = { λ ports. length ports.list.items < 256 };
+}
+
+impl Ports {
+    /// The table of these ports.
+    ///
+    /// # Errors
+    /// The list, where it has more than 255 ports.
+    pub fn new(list: Vec<Port>) -> Result<Ports, Vec<Port>>
+        ensures ok { IsOk result ↔ (length list.items < 256) }
+        ensures value { IfOk result (λ ports. ports ≡ list.items) }
+        ensures back { IfErr result (λ same. same ≡ list) }
+    {
+        if list.len() > 255 {
+            return Err(list);
+        }
+        Ok(Ports { list })
+    }
+
+    /// Its ports, in their order, at most 255.
+    pub fn list(&self) -> &[Port]
+        ensures list { result.now ≡ self.now }
+        ensures few { length result.now < 256 }
+    {
+        self.list.as_slice()
+    }
+}

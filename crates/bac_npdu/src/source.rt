@@ -1,0 +1,69 @@
+//! Whence frames come.
+
+ghost use Rattle.std.specs.Prelude.{◌≡◌, ◌≤◌, ◌<◌, ◌↔◌, length, IsOk, IfOk, IfErr};
+
+use crate::addresses::Mac;
+use std::marker::Model;
+
+/// Whence a frame comes (clause 6.2.2).
+///
+/// Octets: the network (2), the number of octets of the address (1), which is not 0, and the address.
+#[derive(Debug, Drop)]
+pub struct Source {
+    network: u16,
+    address: Mac,
+}
+
+impl Model for Source {
+    ghost use Rattle.std.specs.Prelude.{◌≤◌, ◌<◌, length};
+    ghost use Rattle.bac_npdu.specs.Addresses.{SourceValue, source_code};
+
+    ghost Value = { SourceValue };
+
+    ghost coded = { source_code };
+
+    ghost view = { λ source. record { network = source.network; address = source.address } };
+
+    ghost invariant = { λ source. 1 ≤ length source.address };
+}
+
+impl Source {
+    /// The source with this network and address.
+    ///
+    /// # Errors
+    /// The address, where it is empty.
+    pub fn new(network: u16, address: Mac) -> Result<Source, Mac>
+        ensures ok { IsOk result ↔ (1 ≤ length address) }
+        ensures value { IfOk result (λ source. source ≡ record { network = network; address = address }) }
+        ensures back { IfErr result (λ same. same ≡ address) }
+    {
+        if address.octets().is_empty() {
+            return Err(address);
+        }
+        Ok(Source::of(network, address))
+    }
+
+    /// The source with this network and this address, which is not empty.
+    #[inline(always)]
+    pub(crate) fn of(network: u16, address: Mac) -> Source
+        requires { 1 ≤ length address }
+        ensures { result ≡ record { network = network; address = address } }
+    {
+        Source { network, address }
+    }
+
+    /// Its network.
+    pub fn network(&self) -> u16
+        ensures { result ≡ self.now.network }
+    {
+        self.network
+    }
+
+    /// Its address, of at least one octet.
+    pub fn address(&self) -> &Mac
+        ensures address { result.now ≡ self.now.address }
+        ensures some { 1 ≤ length result.now }
+    {
+        &self.address
+    }
+}
