@@ -1,0 +1,80 @@
+-- Texts that are appended one behind the other.
+use Rattle.std.proofs.Common.{◌≡◌, ℕ, ◌+◌, ◌/◌, ◌%◌, ◌<◌, List, [], ◌∷◌, ◌++◌, length, take, get_or, map, refl, sym, ap, ◌∙◌, append_assoc, append-nil, arith}
+use Rattle.std.proofs.lemmas.List.{take_more, map-append}
+use Rattle.std.proofs.lemmas.List.FromFn.{map-range_with_len_more}
+use Rattle.std.specs.Prelude.{codes, Result, Ok, Err, OnOk, OnErr}
+use Rattle.std.specs.List.{flat_map}
+use Rattle.bac_data.specs.Writing.{Extends}
+use Rattle.bac_value.specs.BitsContents.{bits_in, bit_in}
+use Rattle.bac_text.specs.Words.{digit, hexadecimal, listed}
+use Rattle.bac_text.specs.PrimitiveText.{bit_digit}
+
+-- two texts, one behind the other
+pub appended : (old mid new a b : List ℕ) → mid ≡ old ++ a → new ≡ mid ++ b → new ≡ old ++ (a ++ b)
+appended old mid new a b p q = q ∙ ap (λ l. l ++ b) p ∙ append_assoc old a b
+
+-- the last of several texts, where the result of its call is handed on
+pub appended_last : {T E : Type 0} (r : Result T E) (old mid new a b : List ℕ) → mid ≡ old ++ a → OnOk r (new ≡ mid ++ b) → OnOk r (new ≡ old ++ (a ++ b))
+appended_last (Ok x) old mid new a b p q = appended old mid new a b p q
+appended_last (Err x) old mid new a b p q = tt
+
+-- the same text
+pub same_text : {T E : Type 0} (r : Result T E) (old new a b : List ℕ) → a ≡ b → OnOk r (new ≡ old ++ a) → OnOk r (new ≡ old ++ b)
+same_text (Ok x) old new a b e q = q ∙ ap (λ l. old ++ l) e
+same_text (Err x) old new a b e q = tt
+
+-- ---- what is left where memory is refused
+
+pub on_err : {T E P : Type 0} (r : Result T E) → P → OnErr r P
+on_err (Ok x) p = tt
+on_err (Err x) p = p
+
+pub extends_more : (old mid new : List ℕ) → Extends old mid → Extends mid new → Extends old new
+extends_more old mid new (x, p) (y, q) = (x ++ y, appended old mid new x y p q)
+
+pub extends_last : {T E : Type 0} (r : Result T E) (old mid new : List ℕ) → Extends old mid → OnErr r (Extends mid new) → OnErr r (Extends old new)
+extends_last (Ok x) old mid new p q = tt
+extends_last (Err x) old mid new p q = extends_more old mid new p q
+
+-- ---- octets, bits and lists
+
+flat_map-append : {X : Type 0} (f : X → List ℕ) (xs ys : List X) → flat_map f (xs ++ ys) ≡ flat_map f xs ++ flat_map f ys
+flat_map-append f [] ys = refl
+flat_map-append f (x ∷ xs) ys = ap (λ l. f x ++ l) (flat_map-append f xs ys) ∙ sym (append_assoc (f x) (flat_map f xs) (flat_map f ys))
+
+hexadecimal-append : (octets others : List ℕ) → hexadecimal (octets ++ others) ≡ hexadecimal octets ++ hexadecimal others
+hexadecimal-append [] others = refl
+hexadecimal-append (octet ∷ octets) others = ap (λ l. digit (octet / 16) ∷ digit (octet % 16) ∷ l) (hexadecimal-append octets others)
+
+-- two digits more
+pub hexadecimal_step : (old out mid new octets : List ℕ) (i a b : ℕ) → i < length octets → a ≡ get_or octets i 0 / 16 → b ≡ get_or octets i 0 % 16 → out ≡ old ++ hexadecimal (take i octets) → mid ≡ out ++ digit a ∷ []
+    → new ≡ mid ++ digit b ∷ [] → new ≡ old ++ hexadecimal (take (i + 1) octets)
+hexadecimal_step old out mid new octets i a b below j k p q r =
+    r ∙ ap (λ l. l ++ digit b ∷ []) q ∙ append_assoc out (digit a ∷ []) (digit b ∷ []) ∙ ap (λ l. l ++ digit a ∷ digit b ∷ []) p ∙ append_assoc old (hexadecimal (take i octets)) (digit a ∷ digit b ∷ [])
+    ∙ ap (λ l. old ++ (hexadecimal (take i octets) ++ l)) (ap (λ n. digit n ∷ digit b ∷ []) j ∙ ap (λ n. digit (get_or octets i 0 / 16) ∷ digit n ∷ []) k)
+    ∙ ap (λ l. old ++ l) (sym (ap hexadecimal (take_more octets i 0 below) ∙ hexadecimal-append (take i octets) (get_or octets i 0 ∷ [])))
+
+-- one bit more
+pub bits_step : (old out new packed : List ℕ) (n d : ℕ) → d ≡ bit_digit (bit_in packed n) → out ≡ old ++ map bit_digit (bits_in packed n) → new ≡ out ++ d ∷ [] → new ≡ old ++ map bit_digit (bits_in packed (n + 1))
+bits_step old out new packed n d e p q =
+    q ∙ ap (λ k. out ++ k ∷ []) e ∙ ap (λ l. l ++ bit_digit (bit_in packed n) ∷ []) p ∙ append_assoc old (map bit_digit (bits_in packed n)) (bit_digit (bit_in packed n) ∷ [])
+    ∙ ap (λ l. old ++ l) (sym (ap (map bit_digit) (map-range_with_len_more (bit_in packed) 0 n n (omega arith)) ∙ map-append bit_digit (bits_in packed n) (bit_in packed n ∷ [])))
+
+-- one item more behind a list
+pub others_step : {X : Type 0} (text : X → List ℕ) (old out mid new : List ℕ) (items : List X) (i : ℕ) (item : X) → i < length items → item ≡ get_or items i item → out ≡ old ++ flat_map (λ x. codes " " ++ text x) (take i items)
+    → mid ≡ out ++ codes " " → new ≡ mid ++ text item → new ≡ old ++ flat_map (λ x. codes " " ++ text x) (take (i + 1) items)
+others_step {X} text old out mid new items i item below is p q r =
+    let f : X → List ℕ = λ (x : X). codes " " ++ text x in
+    let taken : take (i + 1) items ≡ take i items ++ item ∷ [] = take_more items i item below ∙ ap (λ x. take i items ++ x ∷ []) (sym is) in
+    r ∙ ap (λ l. l ++ text item) q ∙ append_assoc out (codes " ") (text item) ∙ ap (λ l. l ++ f item) p ∙ append_assoc old (flat_map f (take i items)) (f item)
+    ∙ ap (λ l. old ++ l) (ap (λ l. flat_map f (take i items) ++ l) (sym (append-nil (f item))) ∙ sym (flat_map-append f (take i items) (item ∷ [])) ∙ ap (flat_map f) (sym taken))
+
+-- ---- lists of values that stand for others
+
+flat_map-map : {X Y : Type 0} (of : X → Y) (f : Y → List ℕ) (xs : List X) → flat_map f (map of xs) ≡ flat_map (λ x. f (of x)) xs
+flat_map-map of f [] = refl
+flat_map-map of f (x ∷ xs) = ap (λ l. f (of x) ++ l) (flat_map-map of f xs)
+
+pub listed-map : {X Y : Type 0} (of : X → Y) (text : Y → List ℕ) (xs : List X) → listed (λ x. text (of x)) xs ≡ listed text (map of xs)
+listed-map of text [] = refl
+listed-map of text (x ∷ xs) = ap (λ l. codes "(" ++ (text (of x) ++ l) ++ codes ")") (sym (flat_map-map of (λ y. codes " " ++ text y) xs))

@@ -1,0 +1,28 @@
+-- The text of a frame.
+use Rattle.std.specs.Prelude.{ℕ, List, [], ◌∷◌, ◌++◌, codes}
+use Rattle.bac_npdu.specs.Addresses.{SourceValue, DestinationValue}
+use Rattle.bac_npdu.specs.Frames.{FrameValue, BodyValue, apdu, message}
+use Rattle.bac_text.specs.Words.{number, truth, hexadecimal, field, optional}
+use Rattle.bac_text.specs.ApduText.{apdu_text}
+use Rattle.bac_text.specs.MessageText.{message_text}
+
+-- an address without octets is that of every device on its network
+abbrev pub address_text : List ℕ → List ℕ
+address_text [] = codes "*"
+address_text (octet ∷ octets) = hexadecimal (octet ∷ octets)
+
+abbrev pub destination_text : DestinationValue → List ℕ
+destination_text destination = number destination.network ++ field "/" (address_text destination.address) ++ field " hops=" (number destination.hops)
+
+abbrev pub source_text : SourceValue → List ℕ
+source_text source = number source.network ++ field "/" (hexadecimal source.address)
+
+abbrev pub body_text : BodyValue → List ℕ
+body_text (apdu a) = apdu_text a
+body_text (message m) = message_text m
+
+-- the whole line, without its end
+abbrev pub text : FrameValue → List ℕ
+text frame =
+    field "prio=" (number frame.priority) ++ field " reply=" (truth frame.reply) ++ optional " dest=" destination_text frame.destination ++ optional " src=" source_text frame.source
+    ++ field " " (body_text frame.body)

@@ -1,0 +1,33 @@
+-- The text of properties, their values, and why they have none.
+use Rattle.std.specs.Prelude.{ℕ, Option, List, ◌++◌, codes}
+use Rattle.bac_value.specs.declared.types.enumeration.Enumerated.{Enumerated}
+use Rattle.bac_value.specs.declared.types.unsigned32.Unsigned32.{Unsigned32}
+use Rattle.bac_service.specs.declared.services.property_reference.PropertyReference.{PropertyReference}
+use Rattle.bac_service.specs.declared.services.property_result.ReadResult.{ReadResult}
+use Rattle.bac_service.specs.declared.services.property_result.ReadResult.TheVariants.{Value, Error}
+use Rattle.bac_service.specs.declared.services.property_result.PropertyResult.{PropertyResult}
+use Rattle.bac_service.specs.declared.services.property_value.PropertyValue.{PropertyValue}
+use Rattle.bac_text.specs.Words.{number, field, optional}
+use Rattle.bac_text.specs.OpenValueText.{open_text}
+
+-- the number of a property, and the index, where one element is meant
+abbrev pub property_text : Enumerated → Option Unsigned32 → List ℕ
+property_text property index = number property.0 ++ optional " index=" (λ (i : Unsigned32). number i.0) index
+
+-- class and code of an error
+abbrev pub cause_text : ℕ → ℕ → List ℕ
+cause_text class code = number class ++ field " code=" (number code)
+
+abbrev pub reference_text : PropertyReference → List ℕ
+reference_text reference = field "(property=" (property_text reference.property reference.index) ++ codes ")"
+
+abbrev pub read_result_text : ReadResult → List ℕ
+read_result_text (Value value) = field "value=" (open_text value)
+read_result_text (Error cause) = field "error=(class=" (cause_text cause.class.0 cause.code.0) ++ codes ")"
+
+abbrev pub property_result_text : PropertyResult → List ℕ
+property_result_text result = field "(property=" (property_text result.property result.index) ++ field " " (read_result_text result.result) ++ codes ")"
+
+abbrev pub property_value_text : PropertyValue → List ℕ
+property_value_text value =
+    field "(property=" (property_text value.property value.index) ++ field " value=" (open_text value.value) ++ optional " priority=" number value.priority ++ codes ")"

@@ -1,0 +1,19 @@
+-- The text of segments, and of what is told of them.
+use Rattle.std.specs.Prelude.{ℕ, Bool, List, ◌++◌}
+use Rattle.bac_apdu.specs.declared.segment.SegHead.{SegHead}
+use Rattle.bac_apdu.specs.declared.segment.SegHead.TheVariants.{Request, Ack}
+use Rattle.bac_text.specs.Words.{number, truth, hexadecimal, field}
+use Rattle.bac_text.specs.RequestText.{request_head_text}
+
+abbrev pub segment_head_text : SegHead → List ℕ
+segment_head_text (Request head) = field "conf-seg id=" (request_head_text head)
+segment_head_text (Ack invoke) = field "ack-seg id=" (number invoke)
+
+abbrev pub segment_text : SegHead → ℕ → ℕ → Bool → ℕ → List ℕ → List ℕ
+segment_text head seq window more choice piece =
+    segment_head_text head ++ field " seq=" (number seq) ++ field " win=" (number window) ++ field " more=" (truth more) ++ field " choice=" (number choice)
+    ++ field " octets=" (hexadecimal piece)
+
+abbrev pub segment_ack_text : ℕ → Bool → Bool → ℕ → ℕ → List ℕ
+segment_ack_text invoke nak srv seq window =
+    field "segack id=" (number invoke) ++ field " nak=" (truth nak) ++ field " srv=" (truth srv) ++ field " seq=" (number seq) ++ field " win=" (number window)

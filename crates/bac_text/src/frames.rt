@@ -1,0 +1,98 @@
+//! The text of frames.
+
+ghost use Rattle.std.specs.Prelude.{◌≡◌, ◌++◌, OnOk, OnErr};
+ghost use Rattle.bac_data.specs.Writing.{Extends};
+ghost use Rattle.bac_npdu.specs.Frames.{value_of};
+ghost use Rattle.bac_text.specs.FrameText.{address_text, text};
+
+use crate::numbers::{push_hexadecimal, push_octets};
+use crate::texts::{HasText, push_field, push_optional};
+use bac_npdu::{Body, Dest, Frame, Source};
+use bac_tag::OutOfMemory;
+
+/// Appends the octets of an address, or `*` where it has none.
+fn push_address(out: &mut Vec<u8>, octets: &[u8]) -> Result<(), OutOfMemory>
+    ensures ok { OnOk result (out.new.items ≡ out.old.items ++ address_text octets.now) }
+    ensures err { OnErr result (Extends out.old.items out.new.items) }
+{
+    if octets.is_empty() {
+        out.push(b'*')?;
+        return Ok(());
+    }
+    push_hexadecimal(out, octets)
+}
+
+/// `NET/HEX hops=H`, with `*` for an address without octets.
+impl HasText for Dest {
+    ghost use Rattle.bac_text.specs.FrameText.{destination_text};
+
+    ghost text = { λ dest. destination_text (record { network = dest.network; address = dest.address; hops = dest.hops }) };
+
+    fn push_text(&self, out: &mut Vec<u8>) -> Result<(), OutOfMemory> {
+        self.network.push_text(out)?;
+        out.push(b'/')?;
+        push_address(out, self.address.octets())?;
+        push_field(out, b" hops=", &self.hops)
+    }
+}
+
+/// `NET/HEX`.
+impl HasText for Source {
+    ghost use Rattle.bac_text.specs.FrameText.{source_text};
+
+    ghost text = { source_text };
+
+    fn push_text(&self, out: &mut Vec<u8>) -> Result<(), OutOfMemory> {
+        self.network().push_text(out)?;
+        push_octets(out, b"/", self.address().octets())
+    }
+}
+
+impl HasText for Body {
+    ghost use Rattle.bac_npdu.specs.Frames.{body_value};
+    ghost use Rattle.bac_text.specs.FrameText.{body_text};
+
+    ghost text = { λ body. body_text (body_value body) };
+
+    fn push_text(&self, out: &mut Vec<u8>) -> Result<(), OutOfMemory> {
+        match self {
+            Body::Apdu(apdu) => apdu.push_text(out),
+            Body::Net(message) => message.push_text(out),
+        }
+    }
+}
+
+/// `prio=P reply=R [dest=NET/ADR hops=H] [src=NET/HEX]` and the body.
+impl HasText for Frame {
+    ghost use Rattle.bac_npdu.specs.Frames.{value_of};
+    ghost use Rattle.bac_text.specs.FrameText.{text as frame_text};
+
+    ghost text = { λ frame. frame_text (value_of frame) };
+
+    fn push_text(&self, out: &mut Vec<u8>) -> Result<(), OutOfMemory> {
+        push_field(out, b"prio=", &self.priority.number())?;
+        push_field(out, b" reply=", &self.reply)?;
+        push_optional(out, b" dest=", &self.dest)?;
+        push_optional(out, b" src=", &self.source)?;
+        push_field(out, b" ", &self.body)
+    }
+}
+
+/// Appends the text of a frame, without a line feed behind it:
+/// `prio=P reply=R [dest=NET/ADR hops=H] [src=NET/HEX]` and the APDU or the network message. P is the priority, R whether
+/// a reply is expected, NET a network, HEX an address on it, ADR the same or `*` for an address without octets, and H the
+/// hop count.
+///
+/// # Errors
+/// `OutOfMemory` where memory is refused. `out` then stays as it was.
+pub fn append_text(frame: &Frame, out: &mut Vec<u8>) -> Result<(), OutOfMemory>
+    ensures written { OnOk result (out.new.items ≡ out.old.items ++ text (value_of frame.now)) }
+    ensures unchanged { OnErr result (out.new.items ≡ out.old.items) }
+{
+    let start = out.len();
+    let appended = frame.push_text(out);
+    if appended.is_err() {
+        out.truncate(start);
+    }
+    appended
+}

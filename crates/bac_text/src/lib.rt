@@ -1,0 +1,19 @@
+//! The text of a frame and of everything in it, as one line: parts with one blank between two, numbers in decimal digits
+//! without leading zeros, truth values as 0 or 1, octets as two upper case hexadecimal digits each.
+//!
+//! [`append_text`] appends the text of a frame. The doc comment at each type's text says what stands in it, where
+//! `[ ]` is a part that is shown only where the value has it.
+#![tactic(auto)]
+
+mod apdus;
+mod frames;
+mod lists;
+mod messages;
+mod numbers;
+mod open_values;
+mod pdus;
+mod primitives;
+mod services;
+mod texts;
+
+pub use frames::append_text;

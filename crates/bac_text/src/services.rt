@@ -1,0 +1,44 @@
+//! The text of services.
+
+ghost use Rattle.std.specs.Prelude.{◌≡◌, ◌++◌, OnOk, OnErr};
+
+use crate::texts::HasText;
+use bac_service::Service;
+use bac_tag::OutOfMemory;
+
+pub(crate) mod cov_notification;
+pub(crate) mod i_am;
+pub(crate) mod opaque;
+pub(crate) mod properties;
+pub(crate) mod read_property;
+pub(crate) mod read_property_multiple;
+pub(crate) mod service_error;
+pub(crate) mod subscribe_cov;
+pub(crate) mod who_is;
+pub(crate) mod write_property;
+pub(crate) mod write_property_multiple;
+
+impl HasText for Service {
+    ghost use Rattle.bac_service.specs.ServiceValues.{value_of};
+    ghost use Rattle.bac_text.specs.ServiceText.{service_text};
+
+    ghost text = { λ service. service_text (value_of service) };
+
+    fn push_text(&self, out: &mut Vec<u8>) -> Result<(), OutOfMemory> {
+        match self {
+            Service::ReadProperty(request) => request.push_text(out),
+            Service::ReadPropertyAck(ack) => ack.push_text(out),
+            Service::WriteProperty(request) => request.push_text(out),
+            Service::ReadPropertyMultiple(request) => request.push_text(out),
+            Service::ReadPropertyMultipleAck(ack) => ack.push_text(out),
+            Service::WritePropertyMultiple(request) => request.push_text(out),
+            Service::WhoIs(request) => request.push_text(out),
+            Service::IAm(request) => request.push_text(out),
+            Service::SubscribeCov(request) => request.push_text(out),
+            Service::CovNotification(notification) => notification.push_text(out),
+            Service::ServiceError(error) => error.push_text(out),
+            Service::WritePropertyMultipleError(error) => error.push_text(out),
+            Service::Opaque(service) => service.push_text(out),
+        }
+    }
+}

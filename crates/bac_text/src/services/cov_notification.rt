@@ -1,0 +1,39 @@
+//! The text of notifications of changed values.
+
+ghost use Rattle.std.specs.Prelude.{◌≡◌, ◌++◌, OnOk, OnErr};
+ghost use Rattle.bac_service.specs.ServiceValues.{notification_kind};
+ghost use Rattle.bac_text.specs.CovNotificationText.{notification_name};
+
+use crate::texts::{HasText, push_field};
+use bac_service::CovNotification;
+use bac_tag::OutOfMemory;
+
+/// The name of the service.
+fn notification_name(confirmed: bool) -> &'static [u8]
+    ensures { result.now ≡ notification_name (notification_kind confirmed) }
+{
+    if confirmed {
+        b"ConfirmedCOVNotification"
+    } else {
+        b"UnconfirmedCOVNotification"
+    }
+}
+
+/// `ConfirmedCOVNotification` or `UnconfirmedCOVNotification`, and
+/// ` process=N device=O object=O remaining=N values=(..)`, with the value of each property.
+impl HasText for CovNotification {
+    ghost use Rattle.bac_service.specs.CovNotification.{notification_of};
+    ghost use Rattle.bac_service.specs.ServiceValues.{notification_kind};
+    ghost use Rattle.bac_text.specs.CovNotificationText.{notification_text};
+
+    ghost text = { λ notification. notification_text (notification_kind notification.confirmed) (notification_of notification) };
+
+    fn push_text(&self, out: &mut Vec<u8>) -> Result<(), OutOfMemory> {
+        out.extend_from_slice(notification_name(self.confirmed))?;
+        push_field(out, b" process=", &self.process_identifier)?;
+        push_field(out, b" device=", &self.device)?;
+        push_field(out, b" object=", &self.object)?;
+        push_field(out, b" remaining=", &self.time_remaining)?;
+        push_field(out, b" values=", &self.values)
+    }
+}

@@ -1,0 +1,65 @@
+//! The text of ReadPropertyMultiple and of its answer.
+
+ghost use Rattle.std.specs.Prelude.{◌≡◌, ◌++◌, OnOk, OnErr};
+
+use crate::texts::{HasText, push_field, push_optional};
+use bac_service::{
+    ReadAccessResult, ReadAccessSpecification, ReadPropertyMultiple, ReadPropertyMultipleAck,
+};
+use bac_tag::OutOfMemory;
+
+/// `(object=O properties=(..))`, with a property for each reference.
+impl HasText for ReadAccessSpecification {
+    ghost use Rattle.bac_service.specs.ReadAccessSpecification.{specification_of};
+    ghost use Rattle.bac_text.specs.ReadPropertyMultipleText.{specification_text};
+
+    ghost text = { λ specification. specification_text (specification_of specification) };
+
+    fn push_text(&self, out: &mut Vec<u8>) -> Result<(), OutOfMemory> {
+        push_field(out, b"(object=", &self.object)?;
+        push_field(out, b" properties=", &self.properties)?;
+        out.push(b')')?;
+        Ok(())
+    }
+}
+
+/// `ReadPropertyMultiple specs=(..)`.
+impl HasText for ReadPropertyMultiple {
+    ghost use Rattle.std.specs.Prelude.{map};
+    ghost use Rattle.bac_service.specs.ReadAccessSpecification.{specification_of};
+    ghost use Rattle.bac_text.specs.ReadPropertyMultipleText.{read_multiple_text};
+
+    ghost text = { λ request. read_multiple_text (map specification_of request.specs.items) };
+
+    fn push_text(&self, out: &mut Vec<u8>) -> Result<(), OutOfMemory> {
+        push_field(out, b"ReadPropertyMultiple specs=", &self.specs)
+    }
+}
+
+/// `(object=O [results=(..)])`, with what reading each property gave.
+impl HasText for ReadAccessResult {
+    ghost use Rattle.bac_service.specs.ReadAccessResult.{access_result_of};
+    ghost use Rattle.bac_text.specs.ReadPropertyMultipleText.{access_result_text};
+
+    ghost text = { λ result. access_result_text (access_result_of result) };
+
+    fn push_text(&self, out: &mut Vec<u8>) -> Result<(), OutOfMemory> {
+        push_field(out, b"(object=", &self.object)?;
+        push_optional(out, b" results=", &self.results)?;
+        out.push(b')')?;
+        Ok(())
+    }
+}
+
+/// `ReadPropertyMultiple results=(..)`.
+impl HasText for ReadPropertyMultipleAck {
+    ghost use Rattle.std.specs.Prelude.{map};
+    ghost use Rattle.bac_service.specs.ReadAccessResult.{access_result_of};
+    ghost use Rattle.bac_text.specs.ReadPropertyMultipleText.{read_multiple_ack_text};
+
+    ghost text = { λ ack. read_multiple_ack_text (map access_result_of ack.results.items) };
+
+    fn push_text(&self, out: &mut Vec<u8>) -> Result<(), OutOfMemory> {
+        push_field(out, b"ReadPropertyMultiple results=", &self.results)
+    }
+}

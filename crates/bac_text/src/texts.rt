@@ -1,0 +1,46 @@
+//! What has a text.
+
+ghost use Rattle.std.specs.Prelude.{◌≡◌, ◌++◌, ℕ, List, [], OnOk, OnErr};
+ghost use Rattle.std.specs.Option.{option_map_or};
+ghost use Rattle.bac_data.specs.Writing.{Extends};
+
+use bac_tag::OutOfMemory;
+
+/// What has a text.
+pub(crate) trait HasText: Drop {
+    /// Its text.
+    ghost text: { Self → List ℕ };
+
+    /// Appends the text. Where memory is refused some of it may be there.
+    fn push_text(&self, out: &mut Vec<u8>) -> Result<(), OutOfMemory>
+        ensures ok { OnOk result (out.new.items ≡ out.old.items ++ text self.now) }
+        ensures err { OnErr result (Extends out.old.items out.new.items) };
+}
+
+/// Appends a name and a part.
+pub(crate) fn push_field<T: HasText>(
+    out: &mut Vec<u8>,
+    name: &[u8],
+    part: &T,
+) -> Result<(), OutOfMemory>
+    ensures ok { OnOk result (out.new.items ≡ out.old.items ++ (name.now ++ T.text part.now)) }
+    ensures err { OnErr result (Extends out.old.items out.new.items) }
+{
+    out.extend_from_slice(name)?;
+    part.push_text(out)
+}
+
+/// Appends a name and a part, where the part is there.
+pub(crate) fn push_optional<T: HasText>(
+    out: &mut Vec<u8>,
+    name: &[u8],
+    part: &Option<T>,
+) -> Result<(), OutOfMemory>
+    ensures ok { OnOk result (out.new.items ≡ out.old.items ++ option_map_or (λ there. name.now ++ T.text there) part.now []) }
+    ensures err { OnErr result (Extends out.old.items out.new.items) }
+{
+    match part {
+        Some(part) => push_field(out, name, part),
+        None => Ok(()),
+    }
+}
