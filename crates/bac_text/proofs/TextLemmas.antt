@@ -47,12 +47,14 @@ hexadecimal-append [] others = refl
 hexadecimal-append (octet ∷ octets) others = ap (λ l. digit (octet / 16) ∷ digit (octet % 16) ∷ l) (hexadecimal-append octets others)
 
 -- two digits more
-pub hexadecimal_step : (old out mid new octets : List ℕ) (i a b : ℕ) → i < length octets → a ≡ get_or octets i 0 / 16 → b ≡ get_or octets i 0 % 16 → out ≡ old ++ hexadecimal (take i octets) → mid ≡ out ++ digit a ∷ []
-    → new ≡ mid ++ digit b ∷ [] → new ≡ old ++ hexadecimal (take (i + 1) octets)
-hexadecimal_step old out mid new octets i a b below j k p q r =
-    r ∙ ap (λ l. l ++ digit b ∷ []) q ∙ append_assoc out (digit a ∷ []) (digit b ∷ []) ∙ ap (λ l. l ++ digit a ∷ digit b ∷ []) p ∙ append_assoc old (hexadecimal (take i octets)) (digit a ∷ digit b ∷ [])
-    ∙ ap (λ l. old ++ (hexadecimal (take i octets) ++ l)) (ap (λ n. digit n ∷ digit b ∷ []) j ∙ ap (λ n. digit (get_or octets i 0 / 16) ∷ digit n ∷ []) k)
-    ∙ ap (λ l. old ++ l) (sym (ap hexadecimal (take_more octets i 0 below) ∙ hexadecimal-append (take i octets) (get_or octets i 0 ∷ [])))
+pub hexadecimal_step : (old out new octets digits : List ℕ) (i : ℕ) → i < length octets → digits ≡ digit (get_or octets i 0 / 16) ∷ digit (get_or octets i 0 % 16) ∷ [] → out ≡ old ++ hexadecimal (take i octets)
+    → new ≡ out ++ digits → new ≡ old ++ hexadecimal (take (i + 1) octets)
+hexadecimal_step old out new octets digits i below e p q =
+    appended old out new (hexadecimal (take i octets)) digits p q
+    ∙ ap (λ l. old ++ l) (
+    ap (λ l. hexadecimal (take i octets) ++ l) e
+    ∙ sym (ap hexadecimal (take_more octets i 0 below) ∙ hexadecimal-append (take i octets) (get_or octets i 0 ∷ []))
+    )
 
 -- one bit more
 pub bits_step : (old out new packed : List ℕ) (n d : ℕ) → d ≡ bit_digit (bit_in packed n) → out ≡ old ++ map bit_digit (bits_in packed n) → new ≡ out ++ d ∷ [] → new ≡ old ++ map bit_digit (bits_in packed (n + 1))

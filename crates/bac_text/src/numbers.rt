@@ -1,9 +1,9 @@
 //! Numbers and octets.
 
-ghost use Rattle.std.specs.Prelude.{◌≡◌, ◌++◌, OnOk, OnErr};
+ghost use Rattle.std.specs.Prelude.{◌≡◌, ◌<◌, ◌+◌, ◌/◌, ◌%◌, ◌∷◌, ◌++◌, [], OnOk, OnErr};
 ghost use Rattle.std.specs.Fmt.{decimal, signed_decimal};
 ghost use Rattle.bac_data.specs.Writing.{Extends};
-ghost use Rattle.bac_text.specs.Words.{hexadecimal};
+ghost use Rattle.bac_text.specs.Words.{digit as hexadecimal_digit, hexadecimal};
 
 use crate::texts::HasText;
 use bac_tag::OutOfMemory;
@@ -12,8 +12,17 @@ use bac_value::{Enumerated, Instance, ObjectId, Priority, Unsigned16, Unsigned32
 /// The hexadecimal digits.
 const DIGITS: [u8; 16] = *b"0123456789ABCDEF";
 
+/// The digit of a number below 10.
+#[inline(always)]
+fn digit(number: u64) -> u8
+    requires { number < 10 }
+    ensures { result ≡ 48 + number }
+{
+    b'0' + number as u8
+}
+
 /// Appends the decimal digits of a number. Where memory is refused `out` stays as it was.
-pub(crate) fn push_number(out: &mut Vec<u8>, number: u64) -> Result<(), OutOfMemory>
+fn push_long_number(out: &mut Vec<u8>, number: u64) -> Result<(), OutOfMemory>
     ensures ok { OnOk result (out.new.items ≡ out.old.items ++ decimal number) }
     ensures err { OnErr result (out.new.items ≡ out.old.items) }
 {
@@ -30,6 +39,29 @@ pub(crate) fn push_number(out: &mut Vec<u8>, number: u64) -> Result<(), OutOfMem
     Ok(())
 }
 
+/// The same. Most numbers have one, two or three digits, which are appended at once.
+#[inline]
+pub(crate) fn push_number(out: &mut Vec<u8>, number: u64) -> Result<(), OutOfMemory>
+    ensures ok { OnOk result (out.new.items ≡ out.old.items ++ decimal number) }
+    ensures err { OnErr result (out.new.items ≡ out.old.items) }
+{
+    if number < 10 {
+        out.push(digit(number))?;
+    } else if number < 100 {
+        out.extend_from_slice(&[digit(number / 10), digit(number % 10)])?;
+    } else if number < 1_000 {
+        let digits = [
+            digit(number / 100),
+            digit(number / 10 % 10),
+            digit(number % 10),
+        ];
+        out.extend_from_slice(&digits)?;
+    } else {
+        push_long_number(out, number)?;
+    }
+    Ok(())
+}
+
 /// Appends a minus where the number is negative, and its decimal digits.
 pub(crate) fn push_signed(out: &mut Vec<u8>, number: i64) -> Result<(), OutOfMemory>
     ensures ok { OnOk result (out.new.items ≡ out.old.items ++ signed_decimal number) }
@@ -41,6 +73,17 @@ pub(crate) fn push_signed(out: &mut Vec<u8>, number: i64) -> Result<(), OutOfMem
     push_number(out, number.unsigned_abs())
 }
 
+/// The two hexadecimal digits of an octet.
+#[inline(always)]
+fn digits_of(octet: u8) -> [u8; 2]
+    ensures { result ≡ hexadecimal_digit (octet / 16) ∷ hexadecimal_digit (octet % 16) ∷ [] }
+{
+    [
+        DIGITS[usize::from(octet / 16)],
+        DIGITS[usize::from(octet % 16)],
+    ]
+}
+
 /// Appends two digits for each octet.
 pub(crate) fn push_hexadecimal(out: &mut Vec<u8>, octets: &[u8]) -> Result<(), OutOfMemory>
     ensures ok { OnOk result (out.new.items ≡ out.old.items ++ hexadecimal octets.now) }
@@ -48,13 +91,13 @@ pub(crate) fn push_hexadecimal(out: &mut Vec<u8>, octets: &[u8]) -> Result<(), O
 {
     out.reserve(octets.len().saturating_mul(2))?;
     for octet in octets {
-        out.push(DIGITS[usize::from(*octet / 16)])?;
-        out.push(DIGITS[usize::from(*octet % 16)])?;
+        out.extend_from_slice(&digits_of(*octet))?;
     }
     Ok(())
 }
 
 /// Appends a name, and two digits for each octet.
+#[inline(always)]
 pub(crate) fn push_octets(out: &mut Vec<u8>, name: &[u8], octets: &[u8]) -> Result<(), OutOfMemory>
     ensures ok { OnOk result (out.new.items ≡ out.old.items ++ (name.now ++ hexadecimal octets.now)) }
     ensures err { OnErr result (Extends out.old.items out.new.items) }
@@ -68,6 +111,7 @@ impl HasText for u8 {
 
     ghost text = { number };
 
+    #[inline]
     fn push_text(&self, out: &mut Vec<u8>) -> Result<(), OutOfMemory> {
         push_number(out, u64::from(*self))
     }
@@ -78,6 +122,7 @@ impl HasText for u16 {
 
     ghost text = { number };
 
+    #[inline]
     fn push_text(&self, out: &mut Vec<u8>) -> Result<(), OutOfMemory> {
         push_number(out, u64::from(*self))
     }
@@ -88,6 +133,7 @@ impl HasText for u32 {
 
     ghost text = { number };
 
+    #[inline]
     fn push_text(&self, out: &mut Vec<u8>) -> Result<(), OutOfMemory> {
         push_number(out, u64::from(*self))
     }
@@ -98,6 +144,7 @@ impl HasText for u64 {
 
     ghost text = { number };
 
+    #[inline]
     fn push_text(&self, out: &mut Vec<u8>) -> Result<(), OutOfMemory> {
         push_number(out, *self)
     }
@@ -109,6 +156,7 @@ impl HasText for bool {
 
     ghost text = { truth };
 
+    #[inline]
     fn push_text(&self, out: &mut Vec<u8>) -> Result<(), OutOfMemory> {
         out.push(if *self { b'1' } else { b'0' })?;
         Ok(())
@@ -120,6 +168,7 @@ impl HasText for Unsigned16 {
 
     ghost text = { λ value. number value.0 };
 
+    #[inline]
     fn push_text(&self, out: &mut Vec<u8>) -> Result<(), OutOfMemory> {
         push_number(out, u64::from(self.0))
     }
@@ -130,6 +179,7 @@ impl HasText for Unsigned32 {
 
     ghost text = { λ value. number value.0 };
 
+    #[inline]
     fn push_text(&self, out: &mut Vec<u8>) -> Result<(), OutOfMemory> {
         push_number(out, u64::from(self.0))
     }
@@ -140,6 +190,7 @@ impl HasText for Enumerated {
 
     ghost text = { λ value. number value.0 };
 
+    #[inline]
     fn push_text(&self, out: &mut Vec<u8>) -> Result<(), OutOfMemory> {
         push_number(out, u64::from(self.0))
     }
@@ -150,6 +201,7 @@ impl HasText for Priority {
 
     ghost text = { number };
 
+    #[inline]
     fn push_text(&self, out: &mut Vec<u8>) -> Result<(), OutOfMemory> {
         push_number(out, u64::from(self.number()))
     }
@@ -160,6 +212,7 @@ impl HasText for Instance {
 
     ghost text = { number };
 
+    #[inline]
     fn push_text(&self, out: &mut Vec<u8>) -> Result<(), OutOfMemory> {
         push_number(out, u64::from(self.number()))
     }
@@ -171,6 +224,7 @@ impl HasText for ObjectId {
 
     ghost text = { object_text };
 
+    #[inline]
     fn push_text(&self, out: &mut Vec<u8>) -> Result<(), OutOfMemory> {
         push_number(out, u64::from(self.kind()))?;
         out.push(b':')?;

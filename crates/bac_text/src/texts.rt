@@ -18,6 +18,7 @@ pub(crate) trait HasText: Drop {
 }
 
 /// Appends a name and a part.
+#[inline(always)]
 pub(crate) fn push_field<T: HasText>(
     out: &mut Vec<u8>,
     name: &[u8],
@@ -31,6 +32,7 @@ pub(crate) fn push_field<T: HasText>(
 }
 
 /// Appends a name and a part, where the part is there.
+#[inline(always)]
 pub(crate) fn push_optional<T: HasText>(
     out: &mut Vec<u8>,
     name: &[u8],

@@ -9,6 +9,7 @@ use bac_apdu::{ConfirmedRequest, RequestHead, UnconfirmedRequest};
 use bac_tag::OutOfMemory;
 
 /// Appends a name, and `I sa=A segs=S resp=M` of the head of a request with invoke id I.
+#[inline(always)]
 pub(crate) fn push_request_head(
     out: &mut Vec<u8>,
     name: &[u8],

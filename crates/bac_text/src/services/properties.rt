@@ -10,6 +10,7 @@ use bac_tag::OutOfMemory;
 use bac_value::Enumerated;
 
 /// Appends a name, and `N [index=N]` of a property or of one element of it.
+#[inline(always)]
 pub(crate) fn push_property(
     out: &mut Vec<u8>,
     name: &[u8],
@@ -24,6 +25,7 @@ pub(crate) fn push_property(
 }
 
 /// Appends a name, and `N code=N` of an error with this class and this code.
+#[inline(always)]
 pub(crate) fn push_cause(
     out: &mut Vec<u8>,
     name: &[u8],

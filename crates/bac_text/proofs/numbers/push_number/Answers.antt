@@ -1,18 +1,20 @@
-use Rattle.std.proofs.Common.{arith, ap, ◌∙◌, ◌++◌, ℕ, List, length-drop}
-use Rattle.std.proofs.Math.ListN.{length-set}
-use Rattle.std.proofs.lemmas.List.{take_all}
-use Rattle.bac_text.proofs.NumberLemmas.{fewer_left, digit_more, digit_last}
+use Rattle.std.proofs.Common.{arith, ℕ, List, ◌++◌, ap, ◌∙◌}
+use Rattle.bac_text.proofs.NumberLemmas.{one_digit, two_digits, three_digits}
 use Rattle.bac_text.proofs.numbers.push_number.Goals as goal
 
-pub loop-rest-preserved : goal.loop-rest-preserved
-loop-rest-preserved c = record {
-  written = digit_more c.args.number c.loop-rest.rest c.loop-rest.first c.loop-rest.digits c.loop-rest.invariant.written (omega arith) (omega arith) c.loop-rest.invariant.few c.loop-rest.invariant.within;
-  few = fewer_left c.loop-rest.rest c.loop-rest.first (omega arith) c.loop-rest.invariant.few;
-  within = omega (arith, length-set {A = ℕ});
-  sized = omega (arith, length-set {A = ℕ});
-}
+pub returns-in_ok-push-clause-ok : goal.returns-in_ok-push-clause-ok
+returns-in_ok-push-clause-ok c =
+    c.in_ok-push.ensures.items ∙ ap (λ (l : List ℕ). c.args.out.now.items ++ l) (one_digit c.args.number c.digit.result (omega arith) c.digit.ensures)
 
-pub returns-clause-ok : goal.returns-clause-ok
-returns-clause-ok c =
-    c.in_ok-extend_from_slice.ensures.items ∙ ap (λ (l : List ℕ). c.args.out.now.items ++ l)
-    (take_all _ _ (omega (arith, length-drop {A = ℕ}, length-set {A = ℕ})) ∙ digit_last c.args.number c.loop-rest.rest c.loop-rest.first c.loop-rest.digits c.loop-rest.invariant.written (omega arith) c.loop-rest.invariant.within)
+pub returns-in_ok-extend_from_slice-clause-ok : goal.returns-in_ok-extend_from_slice-clause-ok
+returns-in_ok-extend_from_slice-clause-ok c =
+    c.in_ok-extend_from_slice.ensures.items
+    ∙ ap (λ (l : List ℕ). c.args.out.now.items ++ l)
+    (two_digits c.args.number c.digit-then-number-lt100.result c.digit-then-number-lt100-2.result (omega arith) (omega arith) c.digit-then-number-lt100.ensures c.digit-then-number-lt100-2.ensures)
+
+pub returns-in_ok-extend_from_slice-2-clause-ok : goal.returns-in_ok-extend_from_slice-2-clause-ok
+returns-in_ok-extend_from_slice-2-clause-ok c =
+    c.in_ok-extend_from_slice-2.ensures.items
+    ∙ ap (λ (l : List ℕ). c.args.out.now.items ++ l)
+    (three_digits c.args.number c.digit-then-number-lt1000.result c.digit-then-number-lt1000-2.result c.digit-then-number-lt1000-3.result (omega arith) (omega arith) c.digit-then-number-lt1000.ensures
+    c.digit-then-number-lt1000-2.ensures c.digit-then-number-lt1000-3.ensures)

@@ -1,6 +1,6 @@
 use Rattle.std.proofs.Common.{◌+◌, ◌≡◌, ◌++◌, ◌^◌, ◌<◌, length, drop}
 use Rattle.std.specs.Fmt.{decimal}
-use Rattle.bac_text.proofs.numbers.push_number.Given as goal
+use Rattle.bac_text.proofs.numbers.push_long_number.Given as goal
 
 abbrev pub invariant-loop-rest : goal.invariant-loop-rest
 invariant-loop-rest l = record {
