@@ -1,6 +1,6 @@
 //! Numbers and octets.
 
-ghost use Rattle.std.specs.Prelude.{◌≡◌, ◌<◌, ◌+◌, ◌/◌, ◌%◌, ◌∷◌, ◌++◌, [], OnOk, OnErr};
+ghost use Rattle.std.specs.Prelude.{◌≡◌, ◌<◌, ◌≤◌, ◌+◌, ◌/◌, ◌%◌, ◌∷◌, ◌++◌, [], OnOk, OnErr};
 ghost use Rattle.std.specs.Fmt.{decimal, signed_decimal};
 ghost use Rattle.bac_data.specs.Writing.{Extends};
 ghost use Rattle.bac_text.specs.Words.{digit as hexadecimal_digit, hexadecimal};
@@ -21,7 +21,7 @@ fn digit(number: u64) -> u8
     b'0' + number as u8
 }
 
-/// Appends the decimal digits of a number. Where memory is refused `out` stays as it was.
+/// Appends the decimal digits of a number, from the last one on. Where memory is refused `out` stays as it was.
 fn push_long_number(out: &mut Vec<u8>, number: u64) -> Result<(), OutOfMemory>
     ensures ok { OnOk result (out.new.items ≡ out.old.items ++ decimal number) }
     ensures err { OnErr result (out.new.items ≡ out.old.items) }
@@ -39,27 +39,50 @@ fn push_long_number(out: &mut Vec<u8>, number: u64) -> Result<(), OutOfMemory>
     Ok(())
 }
 
-/// The same. Most numbers have one, two or three digits, which are appended at once.
-#[inline]
-pub(crate) fn push_number(out: &mut Vec<u8>, number: u64) -> Result<(), OutOfMemory>
+/// Appends the digits of a number from 100 on. Three or four digits are appended at once.
+#[inline(never)]
+fn push_further_number(out: &mut Vec<u8>, number: u64) -> Result<(), OutOfMemory>
+    requires { 100 ≤ number }
     ensures ok { OnOk result (out.new.items ≡ out.old.items ++ decimal number) }
     ensures err { OnErr result (out.new.items ≡ out.old.items) }
 {
-    if number < 10 {
-        out.push(digit(number))?;
-    } else if number < 100 {
-        out.extend_from_slice(&[digit(number / 10), digit(number % 10)])?;
-    } else if number < 1_000 {
+    if number < 1_000 {
         let digits = [
             digit(number / 100),
             digit(number / 10 % 10),
             digit(number % 10),
         ];
         out.extend_from_slice(&digits)?;
+        Ok(())
+    } else if number < 10_000 {
+        let digits = [
+            digit(number / 1_000),
+            digit(number / 100 % 10),
+            digit(number / 10 % 10),
+            digit(number % 10),
+        ];
+        out.extend_from_slice(&digits)?;
+        Ok(())
     } else {
-        push_long_number(out, number)?;
+        push_long_number(out, number)
     }
-    Ok(())
+}
+
+/// Appends the decimal digits of a number. Where memory is refused `out` stays as it was.
+#[inline(always)]
+pub(crate) fn push_number(out: &mut Vec<u8>, number: u64) -> Result<(), OutOfMemory>
+    ensures ok { OnOk result (out.new.items ≡ out.old.items ++ decimal number) }
+    ensures err { OnErr result (out.new.items ≡ out.old.items) }
+{
+    if number < 10 {
+        out.push(digit(number))?;
+        Ok(())
+    } else if number < 100 {
+        out.extend_from_slice(&[digit(number / 10), digit(number % 10)])?;
+        Ok(())
+    } else {
+        push_further_number(out, number)
+    }
 }
 
 /// Appends a minus where the number is negative, and its decimal digits.
@@ -111,7 +134,7 @@ impl HasText for u8 {
 
     ghost text = { number };
 
-    #[inline]
+    #[inline(always)]
     fn push_text(&self, out: &mut Vec<u8>) -> Result<(), OutOfMemory> {
         push_number(out, u64::from(*self))
     }
@@ -122,7 +145,7 @@ impl HasText for u16 {
 
     ghost text = { number };
 
-    #[inline]
+    #[inline(always)]
     fn push_text(&self, out: &mut Vec<u8>) -> Result<(), OutOfMemory> {
         push_number(out, u64::from(*self))
     }
@@ -133,7 +156,7 @@ impl HasText for u32 {
 
     ghost text = { number };
 
-    #[inline]
+    #[inline(always)]
     fn push_text(&self, out: &mut Vec<u8>) -> Result<(), OutOfMemory> {
         push_number(out, u64::from(*self))
     }
@@ -144,7 +167,7 @@ impl HasText for u64 {
 
     ghost text = { number };
 
-    #[inline]
+    #[inline(always)]
     fn push_text(&self, out: &mut Vec<u8>) -> Result<(), OutOfMemory> {
         push_number(out, *self)
     }
@@ -156,7 +179,7 @@ impl HasText for bool {
 
     ghost text = { truth };
 
-    #[inline]
+    #[inline(always)]
     fn push_text(&self, out: &mut Vec<u8>) -> Result<(), OutOfMemory> {
         out.push(if *self { b'1' } else { b'0' })?;
         Ok(())
@@ -168,7 +191,7 @@ impl HasText for Unsigned16 {
 
     ghost text = { λ value. number value.0 };
 
-    #[inline]
+    #[inline(always)]
     fn push_text(&self, out: &mut Vec<u8>) -> Result<(), OutOfMemory> {
         push_number(out, u64::from(self.0))
     }
@@ -179,7 +202,7 @@ impl HasText for Unsigned32 {
 
     ghost text = { λ value. number value.0 };
 
-    #[inline]
+    #[inline(always)]
     fn push_text(&self, out: &mut Vec<u8>) -> Result<(), OutOfMemory> {
         push_number(out, u64::from(self.0))
     }
@@ -190,7 +213,7 @@ impl HasText for Enumerated {
 
     ghost text = { λ value. number value.0 };
 
-    #[inline]
+    #[inline(always)]
     fn push_text(&self, out: &mut Vec<u8>) -> Result<(), OutOfMemory> {
         push_number(out, u64::from(self.0))
     }
@@ -201,7 +224,7 @@ impl HasText for Priority {
 
     ghost text = { number };
 
-    #[inline]
+    #[inline(always)]
     fn push_text(&self, out: &mut Vec<u8>) -> Result<(), OutOfMemory> {
         push_number(out, u64::from(self.number()))
     }
@@ -212,7 +235,7 @@ impl HasText for Instance {
 
     ghost text = { number };
 
-    #[inline]
+    #[inline(always)]
     fn push_text(&self, out: &mut Vec<u8>) -> Result<(), OutOfMemory> {
         push_number(out, u64::from(self.number()))
     }
@@ -224,7 +247,7 @@ impl HasText for ObjectId {
 
     ghost text = { object_text };
 
-    #[inline]
+    #[inline(always)]
     fn push_text(&self, out: &mut Vec<u8>) -> Result<(), OutOfMemory> {
         push_number(out, u64::from(self.kind()))?;
         out.push(b':')?;

@@ -1,6 +1,7 @@
 //! The text of notifications of changed values.
 
 ghost use Rattle.std.specs.Prelude.{◌≡◌, ◌++◌, OnOk, OnErr};
+ghost use Rattle.bac_data.specs.Writing.{Extends};
 ghost use Rattle.bac_service.specs.ServiceValues.{notification_kind};
 ghost use Rattle.bac_text.specs.CovNotificationText.{notification_name};
 
@@ -8,15 +9,18 @@ use crate::texts::{HasText, push_field};
 use bac_service::CovNotification;
 use bac_tag::OutOfMemory;
 
-/// The name of the service.
-fn notification_name(confirmed: bool) -> &'static [u8]
-    ensures { result.now ≡ notification_name (notification_kind confirmed) }
+/// Appends the name of the service.
+#[inline(always)]
+fn push_name(out: &mut Vec<u8>, confirmed: bool) -> Result<(), OutOfMemory>
+    ensures ok { OnOk result (out.new.items ≡ out.old.items ++ notification_name (notification_kind confirmed)) }
+    ensures err { OnErr result (Extends out.old.items out.new.items) }
 {
     if confirmed {
-        b"ConfirmedCOVNotification"
+        out.extend_from_slice(b"ConfirmedCOVNotification")?;
     } else {
-        b"UnconfirmedCOVNotification"
+        out.extend_from_slice(b"UnconfirmedCOVNotification")?;
     }
+    Ok(())
 }
 
 /// `ConfirmedCOVNotification` or `UnconfirmedCOVNotification`, and
@@ -29,7 +33,7 @@ impl HasText for CovNotification {
     ghost text = { λ notification. notification_text (notification_kind notification.confirmed) (notification_of notification) };
 
     fn push_text(&self, out: &mut Vec<u8>) -> Result<(), OutOfMemory> {
-        out.extend_from_slice(notification_name(self.confirmed))?;
+        push_name(out, self.confirmed)?;
         push_field(out, b" process=", &self.process_identifier)?;
         push_field(out, b" device=", &self.device)?;
         push_field(out, b" object=", &self.object)?;

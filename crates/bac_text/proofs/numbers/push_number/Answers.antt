@@ -1,5 +1,5 @@
 use Rattle.std.proofs.Common.{arith, ℕ, List, ◌++◌, ap, ◌∙◌}
-use Rattle.bac_text.proofs.NumberLemmas.{one_digit, two_digits, three_digits}
+use Rattle.bac_text.proofs.NumberLemmas.{one_digit, two_digits}
 use Rattle.bac_text.proofs.numbers.push_number.Goals as goal
 
 pub returns-in_ok-push-clause-ok : goal.returns-in_ok-push-clause-ok
@@ -11,10 +11,3 @@ returns-in_ok-extend_from_slice-clause-ok c =
     c.in_ok-extend_from_slice.ensures.items
     ∙ ap (λ (l : List ℕ). c.args.out.now.items ++ l)
     (two_digits c.args.number c.digit-then-number-lt100.result c.digit-then-number-lt100-2.result (omega arith) (omega arith) c.digit-then-number-lt100.ensures c.digit-then-number-lt100-2.ensures)
-
-pub returns-in_ok-extend_from_slice-2-clause-ok : goal.returns-in_ok-extend_from_slice-2-clause-ok
-returns-in_ok-extend_from_slice-2-clause-ok c =
-    c.in_ok-extend_from_slice-2.ensures.items
-    ∙ ap (λ (l : List ℕ). c.args.out.now.items ++ l)
-    (three_digits c.args.number c.digit-then-number-lt1000.result c.digit-then-number-lt1000-2.result c.digit-then-number-lt1000-3.result (omega arith) (omega arith) c.digit-then-number-lt1000.ensures
-    c.digit-then-number-lt1000-2.ensures c.digit-then-number-lt1000-3.ensures)
