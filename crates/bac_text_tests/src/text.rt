@@ -6,6 +6,7 @@ mod examples;
 mod messages;
 mod open_values;
 mod services;
+mod sizes;
 
 use bac_npdu::{Frame, decode_frame};
 use bac_tables::{octets_of, rows_of};
