@@ -4,7 +4,7 @@ use Rattle.std.proofs.lemmas.List.{take_more, map-append}
 use Rattle.std.proofs.lemmas.List.FromFn.{map-range_with_len_more}
 use Rattle.std.specs.Prelude.{codes, Result, Ok, Err, OnOk, OnErr}
 use Rattle.std.specs.List.{flat_map}
-use Rattle.bac_data.specs.Writing.{Extends}
+use Rattle.bac_tag.specs.Octets.{Extends}
 use Rattle.bac_value.specs.BitsContents.{bits_in, bit_in}
 use Rattle.bac_text.specs.Words.{digit, hexadecimal, listed}
 use Rattle.bac_text.specs.PrimitiveText.{bit_digit}

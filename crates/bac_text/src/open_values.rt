@@ -1,7 +1,7 @@
 //! The text of open values.
 
 ghost use Rattle.std.specs.Prelude.{◌≡◌, ◌++◌, OnOk, OnErr};
-ghost use Rattle.bac_data.specs.Writing.{Extends};
+ghost use Rattle.bac_tag.specs.Octets.{Extends};
 ghost use Rattle.bac_data.specs.Walks.{event_of};
 ghost use Rattle.bac_text.specs.WalkText.{blank, event_text, begins_group};
 

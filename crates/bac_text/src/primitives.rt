@@ -4,7 +4,7 @@ ghost use Rattle.std.specs.Prelude.{◌≡◌, ◌++◌, codes, map, if◌then�
 ghost use Rattle.std.specs.Int.{w64, to_be_bytes};
 ghost use Rattle.std.specs.List.{list_all};
 ghost use Rattle.std.specs.Str.{is_utf8};
-ghost use Rattle.bac_data.specs.Writing.{Extends};
+ghost use Rattle.bac_tag.specs.Octets.{Extends};
 ghost use Rattle.bac_value.specs.BitsContents.{bits_in, bit_in, IsPacked};
 ghost use Rattle.bac_value.specs.PrimRefValue.{prim_of, IsPackedRef};
 ghost use Rattle.bac_text.specs.Words.{hexadecimal};

@@ -2,7 +2,7 @@
 
 ghost use Rattle.std.specs.Prelude.{◌≡◌, ◌++◌, ℕ, List, [], OnOk, OnErr};
 ghost use Rattle.std.specs.Option.{option_map_or};
-ghost use Rattle.bac_data.specs.Writing.{Extends};
+ghost use Rattle.bac_tag.specs.Octets.{Extends};
 
 use bac_tag::OutOfMemory;
 

@@ -14,10 +14,6 @@ pub mod FileEnds
 pub mod FileRuns
 pub mod FirstRecords
 pub mod DecimalLemmas
-pub mod PartLemmas
-pub mod HeaderLemmas
-pub mod FieldLemmas
-pub mod FrameLemmas
 pub mod Named
 pub mod Answering
 pub mod JudgingLemmas

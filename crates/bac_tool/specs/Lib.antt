@@ -7,12 +7,7 @@ pub mod Runs
 pub mod Batches
 pub mod Files
 pub mod DecimalText
-pub mod Fields
-pub mod ThinHeader
-pub mod ThinFrame
-pub mod ThinText
 pub mod Judging
 pub mod Lines
 pub mod CommandLine
 pub mod Tool
-pub mod Laws

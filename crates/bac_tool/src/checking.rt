@@ -1,8 +1,9 @@
 //! The run of `check`.
 
-ghost use Rattle.std.specs.Prelude.{◌≡◌, ◌↔◌, IfErr, IfOk, IsTrue, MatchResult, List, ℕ, Some};
-ghost use Rattle.bac_tool.specs.Judging.{IsCanonical, IsRefused};
-ghost use Rattle.bac_tool.specs.Lines.{IsChecked, ChecksAs};
+ghost use Rattle.std.specs.Prelude.{◌≡◌, ◌↔◌, IfErr, IfOk, IsTrue, MatchResult, List, ℕ, None, Some};
+ghost use Rattle.bac_tool.specs.Deals.{DealFails};
+ghost use Rattle.bac_tool.specs.Judging.{IsCanonical, IsRefused, Refuses};
+ghost use Rattle.bac_tool.specs.Lines.{IsChecked, ChecksAs, line_of};
 ghost use Rattle.bac_tool.specs.Records.{Records};
 ghost use Rattle.bac_tool.specs.Runs.{RanThrough, RunCounts, Stopped};
 ghost use Rattle.bac_tool.specs.Files.{RunsOver};
@@ -21,48 +22,35 @@ struct Check {
     mode: Mode,
 }
 
-/// What is said of the octets, and how the record counts.
-fn checked(alloc: Global, mode: Mode, octets: &[u8]) -> (Line, Dealt)
-    ensures line { IsChecked mode octets.now result.0 }
-    ensures canonical { IsTrue result.1.is_canonical ↔ IsCanonical octets.now }
-    ensures refused { IsTrue result.1.is_refused ↔ IsRefused mode octets.now }
+/// The first place where accepted octets differ from the canonical ones of their frame.
+///
+/// # Errors
+/// As [`judge`].
+fn mark_of(alloc: Global, mode: Mode, octets: &[u8]) -> Result<Option<usize>, DealFault>
+    ensures line { IfOk result (λ mark. IsChecked mode octets.now (line_of mark)) }
+    ensures canonical { IfOk result (λ mark. (mark ≡ None) ↔ IsCanonical octets.now) }
+    ensures accepted { IfOk result (λ mark. IsRefused mode octets.now → ⊥) }
+    ensures fault { IfErr result (DealFails (Refuses mode octets.now)) }
+    ensures refused { IfErr result (DealFails (λ _. IsRefused mode octets.now)) }
 {
-    let mark = match judge(alloc, mode, octets) {
-        Ok((_, mark)) => mark,
-        Err(refusal) => {
-            let is_canonical = false;
-            let is_refused = true;
-            return (
-                Line::Refused(refusal),
-                Dealt {
-                    is_canonical,
-                    is_refused,
-                },
-            );
-        }
-    };
-    let is_refused = false;
-    match mark {
-        None => {
-            let is_canonical = true;
-            (
-                Line::Canonical,
-                Dealt {
-                    is_canonical,
-                    is_refused,
-                },
-            )
-        }
-        Some(place) => {
-            let is_canonical = false;
-            (
-                Line::Tolerated(place),
-                Dealt {
-                    is_canonical,
-                    is_refused,
-                },
-            )
-        }
+    let (_frame, mark) = judge(alloc, mode, octets)?;
+    Ok(mark)
+}
+
+/// What is said of the octets, and how the record counts.
+///
+/// # Errors
+/// `Memory` where memory is refused.
+fn checked(alloc: Global, mode: Mode, octets: &[u8]) -> Result<(Line, Dealt), DealFault>
+    ensures line { IfOk result (λ found. IsChecked mode octets.now found.0) }
+    ensures canonical { IfOk result (λ found. IsTrue found.1.is_canonical ↔ IsCanonical octets.now) }
+    ensures refused { IfOk result (λ found. IsTrue found.1.is_refused ↔ IsRefused mode octets.now) }
+    ensures memory { IfErr result (λ fault. fault ≡ DealFault.Memory) }
+{
+    match mark_of(alloc, mode, octets) {
+        Ok(mark) => Ok((Line::of_mark(mark), Dealt::accepted(mark))),
+        Err(DealFault::Stop(refusal)) => Ok((Line::Refused(refusal), Dealt::refused())),
+        Err(DealFault::Memory) => Err(DealFault::Memory),
     }
 }
 
@@ -76,7 +64,7 @@ impl Job for Check {
     ghost is_refused = { λ check. IsRefused check.mode };
 
     fn deal(&self, number: u32, octets: &[u8], out: &mut Vec<u8>) -> Result<Dealt, DealFault> {
-        let (line, dealt) = checked(self.alloc, self.mode, octets);
+        let (line, dealt) = checked(self.alloc, self.mode, octets)?;
         match line.push(number, out) {
             Ok(()) => Ok(dealt),
             Err(_) => Err(DealFault::Memory),

@@ -1,6 +1,6 @@
 //! What a run does with each record.
 
-ghost use Rattle.std.specs.Prelude.{◌≡◌, IfErr, IfOk, List, OnErr, ℕ};
+ghost use Rattle.std.specs.Prelude.{◌≡◌, ◌↔◌, IfErr, IfOk, IsTrue, List, None, OnErr, true, false, ℕ};
 ghost use Rattle.bac_tag.specs.declared.refusals.Refusal.{Refusal as RefusalValue};
 ghost use Rattle.bac_tool.specs.Deals.{DealFails, IsDealt};
 ghost use Rattle.bac_tool.specs.Records.{IsRecord};
@@ -12,6 +12,31 @@ use bac_tag::Refusal;
 pub(crate) struct Dealt {
     pub(crate) is_canonical: bool,
     pub(crate) is_refused: bool,
+}
+
+impl Dealt {
+    /// A record that is refused.
+    #[inline(always)]
+    pub(crate) fn refused() -> Dealt
+        ensures { result ≡ record { is_canonical = false; is_refused = true } }
+    {
+        Dealt {
+            is_canonical: false,
+            is_refused: true,
+        }
+    }
+
+    /// A record that is accepted: it is canonical where it has no mark.
+    #[inline(always)]
+    pub(crate) fn accepted(mark: Option<usize>) -> Dealt
+        ensures canonical { IsTrue result.is_canonical ↔ (mark ≡ None) }
+        ensures accepted { result.is_refused ≡ false }
+    {
+        Dealt {
+            is_canonical: mark.is_none(),
+            is_refused: false,
+        }
+    }
 }
 
 /// Why a job did not deal with a record.

@@ -2,14 +2,15 @@
 
 ghost use Rattle.std.specs.Prelude.{◌≡◌, ◌++◌, OnOk, OnErr};
 ghost use Rattle.bac_tag.specs.Octets.{Extends};
-ghost use Rattle.bac_tool.specs.Lines.{line_text, numbered};
+ghost use Rattle.bac_tool.specs.Lines.{line_of, line_text, numbered};
 
-use crate::ThinFrame;
 use crate::decimal_text::push_decimal;
+use bac_npdu::Frame;
 use bac_tag::{OutOfMemory, Refusal};
+use bac_text::append_text;
 
 /// What a line says of a record, behind its number.
-#[derive(Clone, Copy, Debug, PartialEq, Eq)]
+#[derive(Debug, Drop)]
 pub(crate) enum Line {
     /// `ok`: the record is canonical.
     Canonical,
@@ -18,10 +19,21 @@ pub(crate) enum Line {
     /// `refused WHY at P`.
     Refused(Refusal),
     /// The frame as it is shown.
-    Shown(ThinFrame),
+    Shown(Frame),
 }
 
 impl Line {
+    /// What `check` says of a record that is accepted, by its mark.
+    #[inline(always)]
+    pub(crate) fn of_mark(mark: Option<usize>) -> Line
+        ensures { result ≡ line_of mark }
+    {
+        match mark {
+            None => Line::Canonical,
+            Some(place) => Line::Tolerated(place),
+        }
+    }
+
     /// Appends the text. Where memory is refused some of it may be there.
     fn append_text(&self, out: &mut Vec<u8>) -> Result<(), OutOfMemory>
         ensures ok { OnOk result (out.new.items ≡ out.old.items ++ line_text self.now) }
@@ -42,7 +54,7 @@ impl Line {
                 out.extend_from_slice(b" at ")?;
                 push_decimal(out, refusal.place as u64)
             }
-            Line::Shown(frame) => frame.push_text(out),
+            Line::Shown(frame) => append_text(frame, out),
         }
     }
 

@@ -1,11 +1,9 @@
 //! The program `bactool`: shows, checks and normalises files of BACnet frames (ANSI/ASHRAE 135).
 //!
-//! A file is a list of records, each two octets of length and then an NPDU. So far the program knows one
-//! message, the *thin frame*: an unsegmented Confirmed-Request with ReadProperty that has no destination and
-//! no source. Every other record is refused.
+//! A file is a list of records, each two octets of length and then a frame: one NPDU (clause 6), with an APDU (clause
+//! 20.1) or a network message (clause 6.4) in it.
 #![tactic(auto)]
 
-mod array_index;
 mod batches;
 mod checking;
 mod command_line;
@@ -16,7 +14,6 @@ mod devices;
 #[cfg(test)]
 mod fakes;
 mod faults;
-mod fields;
 mod fronts;
 mod judging;
 pub mod laws;
@@ -29,12 +26,6 @@ mod showing;
 #[cfg(test)]
 mod stream_tests;
 mod summaries;
-mod thin_frame;
-mod thin_header;
-pub mod thin_laws;
-#[cfg(test)]
-mod thin_tests;
-mod thin_text;
 mod tool;
 #[cfg(test)]
 mod tool_tests;
@@ -42,7 +33,6 @@ mod transfers;
 mod windows;
 mod words;
 
-pub use array_index::ArrayIndex;
 pub use checking::run_check;
 pub use command_line::Job;
 pub use counting::Counted;
@@ -55,8 +45,6 @@ pub use showing::run_show;
 use std::io;
 use std::process::ExitCode;
 pub use summaries::Summary;
-pub use thin_frame::ThinFrame;
-pub use thin_header::ThinHeader;
 pub use tool::run_tool;
 pub use words::job;
 

@@ -1,18 +1,20 @@
 //! The run of `normalise`.
 
-ghost use Rattle.std.specs.Prelude.{◌≡◌, ◌≤◌, ◌++◌, IfErr, IfOk, OnErr, OnOk, MatchResult, List, ℕ, Some, length};
-ghost use Rattle.bac_tool.specs.ThinFrame.{SpellsThin, thin_octets};
-ghost use Rattle.bac_tag.specs.Octets.{IsMark, Extends};
-ghost use Rattle.bac_tool.specs.Judging.{IsCanonical, IsRefused, Refuses};
-ghost use Rattle.bac_tool.specs.Lines.{NormalisesTo};
-ghost use Rattle.bac_tool.specs.Records.{Records, IsRecord, record_of, LONGEST};
+ghost use Rattle.std.specs.Prelude.{◌≡◌, ◌++◌, IfErr, IfOk, OnErr, OnOk, MatchResult, List, ℕ, Some};
+ghost use Rattle.bac_tag.specs.Octets.{Extends};
+ghost use Rattle.bac_tag.specs.Spelling.{HasMark};
+ghost use Rattle.bac_npdu.specs.Frames.{SpellsFrame, value_of};
+ghost use Rattle.bac_tool.specs.Judging.{IsCanonicalFor, IsCanonical, IsRefused, Refuses};
+ghost use Rattle.bac_tool.specs.Lines.{AppendsRecord, NormalisesTo};
+ghost use Rattle.bac_tool.specs.Records.{Records, IsRecord, record_of};
 ghost use Rattle.bac_tool.specs.Runs.{RanThrough, RunCounts, Stopped};
 ghost use Rattle.bac_tool.specs.Files.{RunsOver};
 
 use crate::dealing::{DealFault, Dealt, Job};
 use crate::judging::judge;
 use crate::runs::run;
-use crate::{Input, Mode, Output, RunFault, Summary, ThinFrame};
+use crate::{Input, Mode, Output, RunFault, Summary};
+use bac_npdu::{Frame, encode_frame};
 use bac_tag::OutOfMemory;
 use std::alloc::Global;
 
@@ -21,17 +23,6 @@ use std::alloc::Global;
 struct Normalise {
     alloc: Global,
     mode: Mode,
-}
-
-/// Appends the canonical octets of the frame as a record. Where memory is refused some of it may be there.
-fn append_record(frame: &ThinFrame, out: &mut Vec<u8>) -> Result<(), OutOfMemory>
-    requires { length (thin_octets frame.now) ≤ LONGEST }
-    ensures ok { OnOk result (out.new.items ≡ out.old.items ++ record_of (thin_octets frame.now)) }
-    ensures err { OnErr result (Extends out.old.items out.new.items) }
-{
-    let length = frame.encoded_len() as u16;
-    out.extend_from_slice(&length.to_be_bytes())?;
-    frame.encode(out)
 }
 
 /// Appends the octets as a record. Where memory is refused some of it may be there.
@@ -46,24 +37,35 @@ fn append_octets(octets: &[u8], out: &mut Vec<u8>) -> Result<(), OutOfMemory>
     Ok(())
 }
 
+/// Appends the canonical octets of the frame as a record. Where memory is refused some of it may be there.
+fn append_record(alloc: Global, frame: &Frame, out: &mut Vec<u8>) -> Result<(), OutOfMemory>
+    requires { (canonical : List ℕ) → IsCanonicalFor (value_of frame.now) canonical → IsRecord canonical }
+    ensures ok { OnOk result (AppendsRecord (value_of frame.now) out.old.items out.new.items) }
+    ensures err { OnErr result (Extends out.old.items out.new.items) }
+{
+    let canonical = encode_frame(alloc, frame)?;
+    append_octets(canonical.as_slice(), out)
+}
+
 /// Appends the canonical octets of the frame that these octets spell as a record: they themselves, where nothing
 /// marks them. Where memory is refused `out` stays as it was.
 fn push_canonical(
-    frame: &ThinFrame,
+    alloc: Global,
+    frame: &Frame,
     mark: Option<usize>,
     octets: &[u8],
     out: &mut Vec<u8>,
 ) -> Result<(), OutOfMemory>
     requires small { IsRecord octets.now }
-    requires spelled { SpellsThin frame.now octets.now }
-    requires marked { IsMark octets.now (thin_octets frame.now) mark }
-    ensures ok { OnOk result (out.new.items ≡ out.old.items ++ record_of (thin_octets frame.now)) }
+    requires marked { HasMark (SpellsFrame (value_of frame.now)) octets.now mark }
+    requires spelled { SpellsFrame (value_of frame.now) octets.now }
+    ensures ok { OnOk result (AppendsRecord (value_of frame.now) out.old.items out.new.items) }
     ensures err { OnErr result (out.new.items ≡ out.old.items) }
 {
     let start = out.len();
     let appended = match mark {
         None => append_octets(octets, out),
-        Some(_) => append_record(frame, out),
+        Some(_) => append_record(alloc, frame, out),
     };
     if appended.is_err() {
         out.truncate(start);
@@ -81,15 +83,9 @@ impl Job for Normalise {
     ghost is_refused = { λ normalise. IsRefused normalise.mode };
 
     fn deal(&self, _number: u32, octets: &[u8], out: &mut Vec<u8>) -> Result<Dealt, DealFault> {
-        let (frame, mark) = match judge(self.alloc, self.mode, octets) {
-            Ok(found) => found,
-            Err(refusal) => return Err(DealFault::Stop(refusal)),
-        };
-        match push_canonical(&frame, mark, octets, out) {
-            Ok(()) => Ok(Dealt {
-                is_canonical: mark.is_none(),
-                is_refused: false,
-            }),
+        let (frame, mark) = judge(self.alloc, self.mode, octets)?;
+        match push_canonical(self.alloc, &frame, mark, octets, out) {
+            Ok(()) => Ok(Dealt::accepted(mark)),
             Err(_) => Err(DealFault::Memory),
         }
     }

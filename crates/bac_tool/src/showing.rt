@@ -22,34 +22,19 @@ struct Show {
 }
 
 /// What is said of the octets, and how the record counts.
-fn shown(alloc: Global, mode: Mode, octets: &[u8]) -> (Line, Dealt)
-    ensures line { IsShown mode octets.now result.0 }
-    ensures canonical { IsTrue result.1.is_canonical ↔ IsCanonical octets.now }
-    ensures refused { IsTrue result.1.is_refused ↔ IsRefused mode octets.now }
+///
+/// # Errors
+/// `Memory` where memory is refused.
+fn shown(alloc: Global, mode: Mode, octets: &[u8]) -> Result<(Line, Dealt), DealFault>
+    ensures line { IfOk result (λ found. IsShown mode octets.now found.0) }
+    ensures canonical { IfOk result (λ found. IsTrue found.1.is_canonical ↔ IsCanonical octets.now) }
+    ensures refused { IfOk result (λ found. IsTrue found.1.is_refused ↔ IsRefused mode octets.now) }
+    ensures memory { IfErr result (λ fault. fault ≡ DealFault.Memory) }
 {
     match judge(alloc, mode, octets) {
-        Ok((frame, mark)) => {
-            let is_canonical = mark.is_none();
-            let is_refused = false;
-            (
-                Line::Shown(frame),
-                Dealt {
-                    is_canonical,
-                    is_refused,
-                },
-            )
-        }
-        Err(refusal) => {
-            let is_canonical = false;
-            let is_refused = true;
-            (
-                Line::Refused(refusal),
-                Dealt {
-                    is_canonical,
-                    is_refused,
-                },
-            )
-        }
+        Ok((frame, mark)) => Ok((Line::Shown(frame), Dealt::accepted(mark))),
+        Err(DealFault::Stop(refusal)) => Ok((Line::Refused(refusal), Dealt::refused())),
+        Err(DealFault::Memory) => Err(DealFault::Memory),
     }
 }
 
@@ -63,7 +48,7 @@ impl Job for Show {
     ghost is_refused = { λ show. IsRefused show.mode };
 
     fn deal(&self, number: u32, octets: &[u8], out: &mut Vec<u8>) -> Result<Dealt, DealFault> {
-        let (line, dealt) = shown(self.alloc, self.mode, octets);
+        let (line, dealt) = shown(self.alloc, self.mode, octets)?;
         match line.push(number, out) {
             Ok(()) => Ok(dealt),
             Err(_) => Err(DealFault::Memory),

@@ -1,7 +1,7 @@
 //! The text of messages with networks.
 
 ghost use Rattle.std.specs.Prelude.{◌≡◌, ◌++◌, OnOk, OnErr};
-ghost use Rattle.bac_data.specs.Writing.{Extends};
+ghost use Rattle.bac_tag.specs.Octets.{Extends};
 ghost use Rattle.bac_text.specs.MessageText.{who_is_router_text, networks_text};
 
 use crate::texts::{push_field, push_optional};

@@ -1,7 +1,7 @@
 //! The text of messages of which each number stands once.
 
 ghost use Rattle.std.specs.Prelude.{◌≡◌, ◌++◌, codes, OnOk, OnErr};
-ghost use Rattle.bac_data.specs.Writing.{Extends};
+ghost use Rattle.bac_tag.specs.Octets.{Extends};
 ghost use Rattle.bac_text.specs.MessageText.{i_could_be_router_text, reject_message_text, establish_text, disconnect_text, network_number_text};
 
 use crate::texts::push_field;

@@ -1,7 +1,7 @@
 //! The text of requests.
 
 ghost use Rattle.std.specs.Prelude.{◌≡◌, ◌++◌, OnOk, OnErr};
-ghost use Rattle.bac_data.specs.Writing.{Extends};
+ghost use Rattle.bac_tag.specs.Octets.{Extends};
 ghost use Rattle.bac_text.specs.RequestText.{request_head_text};
 
 use crate::texts::{HasText, push_field};

@@ -1,7 +1,7 @@
 //! The text of notifications of changed values.
 
 ghost use Rattle.std.specs.Prelude.{◌≡◌, ◌++◌, OnOk, OnErr};
-ghost use Rattle.bac_data.specs.Writing.{Extends};
+ghost use Rattle.bac_tag.specs.Octets.{Extends};
 ghost use Rattle.bac_service.specs.ServiceValues.{notification_kind};
 ghost use Rattle.bac_text.specs.CovNotificationText.{notification_name};
 

@@ -1,7 +1,7 @@
 //! The text of properties, their values, and why they have none.
 
 ghost use Rattle.std.specs.Prelude.{◌≡◌, ◌++◌, OnOk, OnErr};
-ghost use Rattle.bac_data.specs.Writing.{Extends};
+ghost use Rattle.bac_tag.specs.Octets.{Extends};
 ghost use Rattle.bac_text.specs.PropertyText.{property_text, cause_text};
 
 use crate::texts::{HasText, push_field, push_optional};

@@ -1,5 +1,5 @@
 use Rattle.std.proofs.Common.{◌≡◌, ◌++◌}
-use Rattle.bac_data.specs.Writing.{Extends}
+use Rattle.bac_tag.specs.Octets.{Extends}
 use Rattle.bac_text.specs.Words.{field}
 use Rattle.bac_text.specs.OpenValueText.{elements_text}
 use Rattle.bac_text.specs.WalkText.{events_text}

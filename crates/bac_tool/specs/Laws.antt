@@ -1,2 +1,0 @@
--- What only proofs need: laws of the definitions, which no contract cites.
-pub mod ArrayIndex
