@@ -46,6 +46,24 @@ fn copied(apdu: &Apdu) -> Result<Apdu, AllocError> {
     }
 }
 
+/// Whether the two are equal.
+fn are_equal(one: &Apdu, other: &Apdu) -> bool {
+    one == other
+}
+
+/// The APDU is equal to that of its canonical octets, and to its copy.
+fn is_equal_to_its_like(
+    rt: &impl Abort,
+    alloc: Global,
+    apdu: &Apdu,
+    canonical: &[u8],
+) -> Result<(), Fail> {
+    let (again, _) = decoded(rt, alloc, canonical)?;
+    assert!(rt; are_equal(apdu, &again), "of {canonical:?}");
+    assert!(rt; are_equal(&copied(apdu)?, apdu), "of {canonical:?}");
+    Ok(())
+}
+
 /// The octets come to that. What is read is equal to what its canonical octets are, and to its copy.
 fn comes_to(
     rt: &impl Abort,
@@ -57,9 +75,7 @@ fn comes_to(
         Ok((found, mark)) => {
             let written = encoded(alloc, &found)?;
             assert_eq!(rt; Ok((written.as_slice(), mark)), wanted, "of {octets:?}");
-            let (canonical, _) = decoded(rt, alloc, &written)?;
-            assert!(rt; found == canonical, "of {octets:?}");
-            assert!(rt; copied(&found)? == found, "of {octets:?}");
+            is_equal_to_its_like(rt, alloc, &found, &written)?;
         }
         Err(refusal) => {
             let told = (refusal.why.name(), refusal.place);

@@ -1,12 +1,14 @@
 //! Constructors and parts.
 
-use super::{decoded, encoded};
+use super::{are_equal, decoded, encoded};
 use bac_apdu::{
     Apdu, ComplexAck, ConfirmedRequest, ErrorPdu, MaxResp, MaxSegs, RequestHead, SegHead, Segment,
     UnconfirmedRequest, Window,
 };
 use bac_service::{Kind, Service, WhoIs};
 use bac_tables::octets_of;
+use std::alloc::Global;
+use std::process::Abort;
 use std::test::Fail;
 
 // Of example 53 of docs/EXAMPLES.md.
@@ -72,23 +74,37 @@ fn parts_are_those_of_the_octets(rt: HostRuntime) -> Result<(), Fail> {
     Ok(())
 }
 
+/// The two are not equal.
+fn differ(rt: &impl Abort, alloc: Global, one: &str, other: &str) -> Result<(), Fail> {
+    let (one, _) = decoded(rt, alloc, &octets_of(one)?)?;
+    let (other, _) = decoded(rt, alloc, &octets_of(other)?)?;
+    assert!(rt; !are_equal(&one, &other));
+    Ok(())
+}
+
 // One octet of each pair differs, or the type does.
 #[test]
 fn apdus_that_differ_are_not_equal(rt: HostRuntime) -> Result<(), Fail> {
-    for (one, other) in [
-        (
-            "00 05 01 0C 0C 00 00 00 05 19 55",
-            "00 05 02 0C 0C 00 00 00 05 19 55",
-        ),
-        ("10 08", "10 08 09 64 19 C8"),
-        ("20 01 0F", "20 01 10"),
-        ("50 01 0C 91 02 91 20", "50 01 0C 91 02 91 21"),
-        ("0A 73 FF 7F 2A 0C AA BB", "0A 73 FF 7F 2A 0C AA BC"),
-        ("60 01 04", "70 01 04"),
-    ] {
-        let (one, _) = decoded(&rt, rt.alloc(), &octets_of(one)?)?;
-        let (other, _) = decoded(&rt, rt.alloc(), &octets_of(other)?)?;
-        assert!(rt; one != other);
-    }
-    Ok(())
+    let confirmed = "00 05 01 0C 0C 00 00 00 05 19 55";
+    differ(
+        &rt,
+        rt.alloc(),
+        confirmed,
+        "00 05 02 0C 0C 00 00 00 05 19 55",
+    )?;
+    differ(&rt, rt.alloc(), "10 08", "10 08 09 64 19 C8")?;
+    differ(&rt, rt.alloc(), "20 01 0F", "20 01 10")?;
+    differ(
+        &rt,
+        rt.alloc(),
+        "50 01 0C 91 02 91 20",
+        "50 01 0C 91 02 91 21",
+    )?;
+    differ(
+        &rt,
+        rt.alloc(),
+        "0A 73 FF 7F 2A 0C AA BB",
+        "0A 73 FF 7F 2A 0C AA BC",
+    )?;
+    differ(&rt, rt.alloc(), "60 01 04", "70 01 04")
 }
