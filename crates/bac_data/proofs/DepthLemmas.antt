@@ -1,13 +1,13 @@
 -- Where another group begins that may not.
-use Rattle.std.specs.Prelude.{◌≡◌, ◌≢◌, ◌↔◌, ℕ, ◌+◌, ◌<◌, ◌≤◌, ◌%◌, Bool, true, false, IsTrue, List, [], ◌∷◌, length, take, drop, slice_index, refl}
+use Rattle.std.specs.Prelude.{◌≡◌, ◌≢◌, ◌↔◌, ℕ, ◌+◌, ◌<◌, ◌≤◌, ◌%◌, Bool, true, false, IsTrue, List, [], ◌∷◌, length, drop, slice_index}
 use Rattle.std.proofs.Common.{sym, ◌∙◌, ap, subst, arith, length-drop, add-zero}
 use Rattle.std.proofs.lemmas.List.{get_or-drop}
 use Rattle.bac_tag.specs.declared.refusals.Refusal.{Refusal}
 use Rattle.bac_tag.specs.declared.refusals.Why.{Why}
 use Rattle.bac_tag.specs.declared.refusals.Why.TheVariants.{Depth}
 use Rattle.bac_tag.specs.Refusals.{IsHeadReason}
-use Rattle.bac_data.specs.Events.{Event, application, contextual, opening, closing, SpellsEvents, Opens}
-use Rattle.bac_data.specs.Building.{HasOpen, IsPlace}
+use Rattle.bac_data.specs.Events.{Event, application, contextual, opening, closing, Opens}
+use Rattle.bac_data.specs.Building.{IsPlace}
 use Rattle.bac_data.specs.Refusals.{IsContentsReason, BeginsGroup, IsTooDeep}
 use Rattle.bac_data.proofs.AnyLemmas.{HasRead}
 

@@ -1,11 +1,10 @@
 -- What begins a spelling of an element, and of elements.
-use Rattle.std.specs.Prelude.{◌≡◌, ◌↔◌, ◌⊎◌, ℕ, List, [], ◌++◌, refl}
+use Rattle.std.specs.Prelude.{◌↔◌, ◌⊎◌, ℕ, List, [], ◌++◌, refl}
 use Rattle.std.proofs.Common.{inl, inr}
-use Rattle.bac_tag.specs.Spelling.{IsViable, IsPartway, JoinedBy, Joins}
+use Rattle.bac_tag.specs.Spelling.{IsViable, IsPartway, JoinedBy}
 use Rattle.bac_tag.specs.Laws.Spelling.{viable-JoinedBy}
-use Rattle.bac_value.specs.declared.prim.PrimitiveValue.{PrimitiveValue}
-use Rattle.bac_data.specs.OpenValue.{Element, primitive, context, group, Elements, none, more}
-use Rattle.bac_data.specs.Spells.{SpellsPrimitive, SpellsContext, Spells, SpellsAll}
+use Rattle.bac_data.specs.OpenValue.{Element, primitive, context, group, none}
+use Rattle.bac_data.specs.Spells.{SpellsPrimitive, Spells, SpellsAll}
 use Rattle.bac_data.specs.Parts.{SpellsContextOf, SpellsGroup, SpellsMore}
 
 -- ---- an element is of one of three cases

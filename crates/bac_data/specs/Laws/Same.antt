@@ -1,8 +1,8 @@
 -- Two open values are the same where the keys of their events are.
-use Rattle.std.proofs.Common.{◌≡◌, ◌↔◌, ℕ, true, List, [], ◌∷◌, ◌++◌, map, refl, sym, ◌∙◌, ap, subst}
+use Rattle.std.proofs.Common.{◌≡◌, ◌↔◌, true, List, [], ◌∷◌, ◌++◌, map, refl, sym, ◌∙◌, ap, subst}
 use Rattle.std.specs.List.{AllByRecursion}
 use Rattle.std.specs.Cmp.Lexicographic.{pointwise_decides, bytes_decides}
-use Rattle.bac_value.specs.PrimContents.{application_number, IsPrim, PrimContents, prim_written}
+use Rattle.bac_value.specs.PrimContents.{IsPrim, PrimContents, prim_written}
 use Rattle.bac_value.specs.Laws.Prim.{prim_once, prim_written_contents}
 use Rattle.bac_data.specs.OpenValue.{Element, primitive, context, group, Elements, none, more, IsElement, AreElements}
 use Rattle.bac_data.specs.Events.{Event, application, contextual, opening, closing, element_events, events}

@@ -1,8 +1,7 @@
 -- Laws on types of which any octets, from so many to so many, are the one list of a value.
-use Rattle.std.proofs.Common.{◌≡◌, ℕ, ◌≤◌, List, [], ◌++◌, length, replicate, arith, refl, sym, subst, ◌∙◌, ap}
-use Rattle.std.proofs.lemmas.List.{length-replicate}
+use Rattle.std.proofs.Common.{◌≡◌, ℕ, ◌≤◌, List, [], ◌++◌, length, arith, sym, subst}
 use Rattle.bac_tag.specs.Octets.{IsOctets}
-use Rattle.bac_tag.specs.Laws.Octets.{octets_replicate, zeros_to, octets_filled, length-filled}
+use Rattle.bac_tag.specs.Laws.Octets.{zeros_to, octets_filled, length-filled}
 use Rattle.bac_value.specs.Primitives.{IsTheList, IsBegun}
 use Rattle.bac_value.specs.Laws.Primitives.{the_list_once}
 

@@ -1,6 +1,5 @@
 -- Laws on the contents of Null.
-use Rattle.std.proofs.Common.{◌≡◌, ℕ, ◌≤◌, List, [], ◌∷◌, length, arith, ap, refl}
-use Rattle.bac_value.specs.declared.types.null_value.Null.{Null}
+use Rattle.std.proofs.Common.{◌≡◌, ℕ, ◌≤◌, List, [], ◌∷◌, length, arith, refl}
 use Rattle.bac_value.specs.Laws.AnyOctets.{AreAnyOctets}
 use Rattle.bac_value.specs.NullContents.{IsNull, null_octets}
 

@@ -1,5 +1,5 @@
 -- Laws on octet strings as contents.
-use Rattle.std.proofs.Common.{ℕ, ◌≤◌, List, length, arith, refl}
+use Rattle.std.proofs.Common.{◌≤◌, length, arith, refl}
 use Rattle.bac_value.specs.Laws.AnyOctets.{AreAnyOctets}
 use Rattle.bac_value.specs.OctetStringContents.{IsOctetString, octets_themselves}
 

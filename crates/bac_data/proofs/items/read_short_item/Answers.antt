@@ -1,4 +1,4 @@
-use Rattle.std.proofs.Common.{◌≡◌, take, arith, take-add}
+use Rattle.std.proofs.Common.{arith, take-add}
 use Rattle.std.proofs.lemmas.List.{take_rest}
 use Rattle.bac_tag.specs.declared.heads.TagHead.TheVariants.{App}
 use Rattle.bac_data.specs.Reading.{item_event}

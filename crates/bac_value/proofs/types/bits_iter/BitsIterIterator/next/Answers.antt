@@ -1,4 +1,4 @@
-use Rattle.std.proofs.Common.{rules, false, ◌≡◌, ℕ, suc, ◌+◌, Option, Some, None, List, [], ◌∷◌, drop, slice_get, get_or, length, sym, ◌∙◌, ap, inl, inr, arith}
+use Rattle.std.proofs.Common.{rules, false, ◌≡◌, ℕ, suc, ◌+◌, Option, Some, None, List, [], ◌∷◌, drop, slice_get, length, sym, ◌∙◌, ap, inl, inr, arith}
 use Rattle.std.proofs.Math.Seq.{drop-cons}
 use Rattle.std.proofs.lemmas.Bool.{cases_lt}
 use Rattle.std.proofs.lemmas.List.{drop_all}
