@@ -1,5 +1,5 @@
 -- Whether two services are the same: what `==` answers.
-use Rattle.std.specs.Prelude.{ℕ, Bool, true, false, nat_eq, ◌&&◌, Option, List}
+use Rattle.std.specs.Prelude.{Bool, false, nat_eq, ◌&&◌, Option}
 use Rattle.std.specs.Bool.{beq}
 use Rattle.std.specs.Option.{option_eq}
 use Rattle.std.specs.Cmp.Lexicographic.{pointwise}

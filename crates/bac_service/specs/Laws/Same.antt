@@ -1,11 +1,10 @@
 -- Services are equal exactly where they are the same service.
-use Rattle.std.proofs.Common.{◌≡◌, ℕ, Bool, true, false, ◌&&◌, nat_eq, Option, None, Some, List, [], ◌∷◌, map, refl, sym, ◌∙◌, ap, subst, arith}
+use Rattle.std.proofs.Common.{◌≡◌, ℕ, Bool, true, false, ◌&&◌, nat_eq, Option, None, Some, List, [], ◌∷◌, map, refl, sym, ◌∙◌, ap, subst}
 use Rattle.std.specs.Bool.{Decides, beq}
 use Rattle.std.specs.Option.{option_eq, option_map}
 use Rattle.std.specs.Cmp.{unsigned_Decides, booleans_Decides}
-use Rattle.std.specs.Cmp.Lexicographic.{pointwise, pointwise_decides, bytes_decides}
+use Rattle.std.specs.Cmp.Lexicographic.{pointwise, bytes_decides}
 use Rattle.bac_tag.specs.Spelling.{Joined}
-use Rattle.bac_value.specs.Identifier.{Identifier}
 use Rattle.bac_value.specs.declared.types.enumeration.Enumerated.{Enumerated}
 use Rattle.bac_value.specs.declared.types.unsigned16.Unsigned16.{Unsigned16}
 use Rattle.bac_value.specs.declared.types.unsigned32.Unsigned32.{Unsigned32}
@@ -15,26 +14,16 @@ use Rattle.bac_data.specs.Same.{same_values}
 use Rattle.bac_data.specs.Laws.Same.{same_values_tell}
 use Rattle.bac_service.specs.declared.kind.Kind.{Kind}
 use Rattle.bac_service.specs.declared.kind.Kind.TheVariants as kind
-use Rattle.bac_service.specs.declared.services.error_cause.ErrorCause.{ErrorCause}
-use Rattle.bac_service.specs.declared.services.property_reference.PropertyReference.{PropertyReference}
-use Rattle.bac_service.specs.declared.services.property_result.ReadResult.{ReadResult}
 use Rattle.bac_service.specs.declared.services.property_result.ReadResult.TheVariants.{Value, Error}
-use Rattle.bac_service.specs.declared.services.property_result.PropertyResult.{PropertyResult}
-use Rattle.bac_service.specs.declared.services.read_property.ReadProperty.{ReadProperty}
 use Rattle.bac_service.specs.declared.services.read_property_multiple.ReadAccessSpecification.{ReadAccessSpecification}
 use Rattle.bac_service.specs.declared.services.read_property_multiple_ack.ReadAccessResult.{ReadAccessResult}
 use Rattle.bac_service.specs.declared.services.write_property_multiple.WriteAccessSpecification.{WriteAccessSpecification}
 use Rattle.bac_service.specs.declared.services.cov_notification.CovNotification.{CovNotification}
 use Rattle.bac_service.specs.ErrorValues.{ErrorValue}
-use Rattle.bac_service.specs.declared.services.write_property_multiple_error.WritePropertyMultipleError.{WritePropertyMultipleError}
-use Rattle.bac_service.specs.declared.services.who_is.WhoIs.{WhoIs}
-use Rattle.bac_service.specs.declared.services.i_am.IAm.{IAm}
-use Rattle.bac_service.specs.declared.services.subscribe_cov.SubscribeCov.{SubscribeCov}
 use Rattle.bac_service.specs.declared.service.Service.{Service}
 use Rattle.bac_service.specs.declared.service.Service.TheVariants as held
 use Rattle.bac_service.specs.Productions.{Optional, Items, Grouped, IsRecordOf}
-use Rattle.bac_service.specs.Contents.{EnumeratedField, UnsignedField, ObjectField}
-use Rattle.bac_service.specs.PropertyReference.{SpellsPropertyReference}
+use Rattle.bac_service.specs.Contents.{EnumeratedField, UnsignedField}
 use Rattle.bac_service.specs.PropertyValue.{SpellsPropertyValue, property_value_parts}
 use Rattle.bac_service.specs.PropertyResult.{SpellsReadResult, SpellsPropertyResult}
 use Rattle.bac_service.specs.ReadPropertyAck.{SpellsReadPropertyAck, read_property_ack_parts}
@@ -42,7 +31,7 @@ use Rattle.bac_service.specs.WriteProperty.{SpellsWriteProperty, write_property_
 use Rattle.bac_service.specs.ReadAccessSpecification.{Specification, specification_of, SpellsSpecification, specification_parts}
 use Rattle.bac_service.specs.ReadAccessResult.{AccessResult, access_result_of, SpellsAccessResult, access_result_parts}
 use Rattle.bac_service.specs.WriteAccessSpecification.{WriteSpecification, write_specification_of, SpellsWriteSpecification, write_specification_parts}
-use Rattle.bac_service.specs.CovNotification.{Notification, notification_of, SpellsNotification, notification_parts}
+use Rattle.bac_service.specs.CovNotification.{notification_of, SpellsNotification, notification_parts}
 use Rattle.bac_service.specs.Opaques.{OpaqueValue, kind_number, opaque_key}
 use Rattle.bac_service.specs.ServiceTable.{ServiceProduction, read_property, read_property_ack, read_property_multiple, read_property_multiple_ack, write_property, write_property_multiple, write_property_multiple_error, who_is, i_am, subscribe_cov, cov_notification, service_error}
 use Rattle.bac_service.specs.ServiceValues.{SaidBy, Said, ServiceValue, typed, opaque, notification_kind, notification_choice, value_of}
