@@ -6,7 +6,8 @@ use Rattle.std.specs.Prelude.{codes, Result, Ok, Err, OnOk, OnErr}
 use Rattle.std.specs.List.{flat_map}
 use Rattle.bac_tag.specs.Octets.{Extends}
 use Rattle.bac_value.specs.BitsContents.{bits_in, bit_in}
-use Rattle.bac_text.specs.Words.{digit, hexadecimal, listed}
+use Rattle.bac_text.specs.Numbers.{digit, hexadecimal}
+use Rattle.bac_text.specs.Words.{listed}
 use Rattle.bac_text.specs.PrimitiveText.{bit_digit}
 
 -- two texts, one behind the other
@@ -41,20 +42,6 @@ extends_last (Err x) old mid new p q = extends_more old mid new p q
 flat_map-append : {X : Type 0} (f : X → List ℕ) (xs ys : List X) → flat_map f (xs ++ ys) ≡ flat_map f xs ++ flat_map f ys
 flat_map-append f [] ys = refl
 flat_map-append f (x ∷ xs) ys = ap (λ l. f x ++ l) (flat_map-append f xs ys) ∙ sym (append_assoc (f x) (flat_map f xs) (flat_map f ys))
-
-hexadecimal-append : (octets others : List ℕ) → hexadecimal (octets ++ others) ≡ hexadecimal octets ++ hexadecimal others
-hexadecimal-append [] others = refl
-hexadecimal-append (octet ∷ octets) others = ap (λ l. digit (octet / 16) ∷ digit (octet % 16) ∷ l) (hexadecimal-append octets others)
-
--- two digits more
-pub hexadecimal_step : (old out new octets digits : List ℕ) (i : ℕ) → i < length octets → digits ≡ digit (get_or octets i 0 / 16) ∷ digit (get_or octets i 0 % 16) ∷ [] → out ≡ old ++ hexadecimal (take i octets)
-    → new ≡ out ++ digits → new ≡ old ++ hexadecimal (take (i + 1) octets)
-hexadecimal_step old out new octets digits i below e p q =
-    appended old out new (hexadecimal (take i octets)) digits p q
-    ∙ ap (λ l. old ++ l) (
-    ap (λ l. hexadecimal (take i octets) ++ l) e
-    ∙ sym (ap hexadecimal (take_more octets i 0 below) ∙ hexadecimal-append (take i octets) (get_or octets i 0 ∷ []))
-    )
 
 -- one bit more
 pub bits_step : (old out new packed : List ℕ) (n d : ℕ) → d ≡ bit_digit (bit_in packed n) → out ≡ old ++ map bit_digit (bits_in packed n) → new ≡ out ++ d ∷ [] → new ≡ old ++ map bit_digit (bits_in packed (n + 1))

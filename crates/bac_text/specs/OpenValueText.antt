@@ -1,7 +1,8 @@
 -- The text of an open value.
 use Rattle.std.specs.Prelude.{ℕ, List, [], ◌++◌, codes}
 use Rattle.bac_data.specs.OpenValue.{Element, primitive, context, group, Elements, none, more}
-use Rattle.bac_text.specs.Words.{number, hexadecimal, field}
+use Rattle.bac_text.specs.Numbers.{hexadecimal}
+use Rattle.bac_text.specs.Words.{number, field}
 use Rattle.bac_text.specs.PrimitiveText.{primitive_text}
 
 -- one blank stands between two elements

@@ -1,5 +1,5 @@
 -- The words of a text.
-use Rattle.std.specs.Prelude.{ℕ, Bool, Option, List, [], ◌∷◌, ◌++◌, ◌/◌, ◌%◌, slice_index, codes, if◌then◌else◌}
+use Rattle.std.specs.Prelude.{ℕ, Bool, Option, List, [], ◌++◌, codes, if◌then◌else◌}
 use Rattle.std.specs.Fmt.{decimal}
 use Rattle.std.specs.List.{join_by}
 use Rattle.std.specs.Option.{option_map_or}
@@ -12,15 +12,6 @@ number = decimal
 
 abbrev pub truth : Bool → List ℕ
 truth value = if value then codes "1" else codes "0"
-
--- a hexadecimal digit
-abbrev pub digit : ℕ → ℕ
-digit n = slice_index (codes "0123456789ABCDEF") n
-
--- two digits an octet
-abbrev pub hexadecimal : List ℕ → List ℕ
-hexadecimal [] = []
-hexadecimal (octet ∷ octets) = digit (octet / 16) ∷ digit (octet % 16) ∷ hexadecimal octets
 
 -- a name, and what is named by it
 abbrev pub field : String → List ℕ → List ℕ

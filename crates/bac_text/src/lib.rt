@@ -13,6 +13,7 @@ mod numbers;
 mod open_values;
 mod pdus;
 mod primitives;
+mod scalars;
 mod services;
 mod texts;
 

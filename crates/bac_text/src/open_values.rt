@@ -2,11 +2,11 @@
 
 ghost use Rattle.std.specs.Prelude.{◌≡◌, ◌++◌, OnOk, OnErr};
 ghost use Rattle.bac_tag.specs.Octets.{Extends};
-ghost use Rattle.bac_data.specs.Walks.{event_of};
+ghost use Rattle.bac_data.specs.Walks.{event_of, IsPackedStep};
 ghost use Rattle.bac_text.specs.WalkText.{blank, event_text, begins_group};
 
-use crate::numbers::push_octets;
 use crate::primitives::push_primitive;
+use crate::scalars::push_octets;
 use crate::texts::{HasText, push_field};
 use bac_data::{Any, Event};
 use bac_tag::OutOfMemory;
@@ -25,6 +25,7 @@ fn push_blank(out: &mut Vec<u8>, first: bool) -> Result<(), OutOfMemory>
 
 /// Appends what one event adds.
 fn push_event(out: &mut Vec<u8>, first: bool, event: &Event<'_>) -> Result<(), OutOfMemory>
+    requires { IsPackedStep event.now }
     ensures ok { OnOk result (out.new.items ≡ out.old.items ++ event_text first (event_of event.now)) }
     ensures err { OnErr result (Extends out.old.items out.new.items) }
 {

@@ -1,16 +1,17 @@
 //! The text of primitive values.
 
-ghost use Rattle.std.specs.Prelude.{◌≡◌, ◌++◌, codes, map, if◌then◌else◌, OnOk, OnErr};
+ghost use Rattle.std.specs.Prelude.{◌≡◌, ◌<◌, ◌/◌, ◌++◌, length, codes, map, if◌then◌else◌, OnOk, OnErr};
 ghost use Rattle.std.specs.Int.{w64, to_be_bytes};
 ghost use Rattle.std.specs.List.{list_all};
 ghost use Rattle.std.specs.Str.{is_utf8};
 ghost use Rattle.bac_tag.specs.Octets.{Extends};
 ghost use Rattle.bac_value.specs.BitsContents.{bits_in, bit_in, IsPacked};
 ghost use Rattle.bac_value.specs.PrimRefValue.{prim_of, IsPackedRef};
-ghost use Rattle.bac_text.specs.Words.{hexadecimal};
+ghost use Rattle.bac_text.specs.Numbers.{hexadecimal};
 ghost use Rattle.bac_text.specs.PrimitiveText.{is_plain_octet, is_plain, string_text, bit_digit, primitive_text};
 
-use crate::numbers::{push_octets, push_signed};
+use crate::numbers::push_signed;
+use crate::scalars::push_octets;
 use crate::texts::{HasText, push_field};
 use bac_tag::OutOfMemory;
 use bac_value::{Boolean, Null, PrimRef};
@@ -63,13 +64,10 @@ fn push_string(out: &mut Vec<u8>, set: u8, octets: &[u8]) -> Result<(), OutOfMem
 /// The digit of a bit.
 #[inline]
 fn bit_digit(packed: &[u8], place: usize) -> u8
+    requires { place / 8 < length packed.now }
     ensures { result ≡ bit_digit (bit_in packed.now place) }
 {
-    let octet = match packed.get(place / 8) {
-        Some(octet) => *octet,
-        None => 0,
-    };
-    if octet >> (7 - place % 8) & 1 == 1 {
+    if packed[place / 8] >> (7 - place % 8) & 1 == 1 {
         b'1'
     } else {
         b'0'
@@ -78,6 +76,7 @@ fn bit_digit(packed: &[u8], place: usize) -> u8
 
 /// Appends `b:` and a digit for each of so many bits.
 fn push_bits(out: &mut Vec<u8>, packed: &[u8], count: usize) -> Result<(), OutOfMemory>
+    requires { IsPacked count packed.now }
     ensures ok { OnOk result (out.new.items ≡ out.old.items ++ (codes "b:" ++ map bit_digit (bits_in packed.now count))) }
     ensures err { OnErr result (Extends out.old.items out.new.items) }
 {
@@ -117,6 +116,7 @@ fn push_double(out: &mut Vec<u8>, bits: u64) -> Result<(), OutOfMemory>
 
 /// Appends a primitive value: its type as a letter, a colon, and its value.
 pub(crate) fn push_primitive(out: &mut Vec<u8>, prim: &PrimRef<'_>) -> Result<(), OutOfMemory>
+    requires { IsPackedRef prim.now }
     ensures ok { OnOk result (out.new.items ≡ out.old.items ++ primitive_text (prim_of prim.now)) }
     ensures err { OnErr result (Extends out.old.items out.new.items) }
 {

@@ -2,7 +2,7 @@
 
 ghost use Rattle.std.specs.Prelude.{◌≡◌, ◌++◌, OnOk, OnErr};
 
-use crate::numbers::push_octets;
+use crate::scalars::push_octets;
 use crate::texts::{HasText, push_optional};
 use bac_npdu::OpaqueNet;
 use bac_tag::OutOfMemory;

@@ -5,7 +5,7 @@ ghost use Rattle.bac_tag.specs.Octets.{Extends};
 ghost use Rattle.bac_text.specs.MessageText.{init_table_text, init_table_ack_text};
 
 use crate::lists::push_list;
-use crate::numbers::push_octets;
+use crate::scalars::push_octets;
 use crate::texts::{HasText, push_field, push_optional};
 use bac_npdu::{Port, Ports};
 use bac_tag::OutOfMemory;

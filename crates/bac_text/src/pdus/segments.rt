@@ -2,8 +2,8 @@
 
 ghost use Rattle.std.specs.Prelude.{◌≡◌, ◌++◌, OnOk, OnErr};
 
-use crate::numbers::push_octets;
 use crate::pdus::requests::push_request_head;
+use crate::scalars::push_octets;
 use crate::texts::{HasText, push_field};
 use bac_apdu::{SegHead, Segment, SegmentAck};
 use bac_tag::OutOfMemory;

@@ -3,7 +3,7 @@
 ghost use Rattle.std.specs.Prelude.{◌≡◌, ◌++◌, OnOk, OnErr};
 ghost use Rattle.bac_text.specs.OpaqueText.{choice_name};
 
-use crate::numbers::push_octets;
+use crate::scalars::push_octets;
 use crate::texts::{HasText, push_field};
 use bac_service::{Kind, Opaque};
 use bac_tag::OutOfMemory;

@@ -1,5 +1,5 @@
 use Rattle.std.proofs.Common.{arith}
-use Rattle.bac_text.proofs.TextLemmas.{hexadecimal_step}
+use Rattle.bac_text.proofs.NumberLemmas.{hexadecimal_step}
 use Rattle.bac_text.proofs.numbers.push_hexadecimal.Goals as goal
 
 pub loop-octet-preserved : goal.loop-octet-preserved

@@ -1,5 +1,5 @@
 use Rattle.std.proofs.Common.{◌≡◌, ◌++◌, take}
-use Rattle.bac_text.specs.Words.{hexadecimal}
+use Rattle.bac_text.specs.Numbers.{hexadecimal}
 use Rattle.bac_text.proofs.numbers.push_hexadecimal.Given as goal
 
 abbrev pub invariant-loop-octet : goal.invariant-loop-octet
