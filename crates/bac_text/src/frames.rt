@@ -86,6 +86,19 @@ impl HasText for Frame {
 ///
 /// # Errors
 /// `OutOfMemory` where memory is refused. `out` then stays as it was.
+///
+/// # Examples
+/// ```rust
+/// use bac_npdu::decode_frame;
+/// use bac_text::append_text;
+///
+/// // A Who-Is to every device on every network.
+/// let octets = [0x01, 0x20, 0xFF, 0xFF, 0x00, 0xFF, 0x10, 0x08];
+/// let frame = decode_frame(rt.alloc(), &octets)?;
+/// let mut line = Vec::new(rt.alloc());
+/// append_text(&frame, &mut line)?;
+/// assert!(rt; line.ends_with(b"dest=65535/* hops=255 unconf Who-Is"));
+/// ```
 pub fn append_text(frame: &Frame, out: &mut Vec<u8>) -> Result<(), OutOfMemory>
     ensures written { OnOk result (out.new.items ≡ out.old.items ++ text (value_of frame.now)) }
     ensures unchanged { OnErr result (out.new.items ≡ out.old.items) }
