@@ -1,12 +1,11 @@
 -- Texts that are appended one behind the other.
-use Rattle.std.proofs.Common.{◌≡◌, ℕ, ◌+◌, ◌/◌, ◌%◌, ◌<◌, List, [], ◌∷◌, ◌++◌, length, take, get_or, map, refl, sym, ap, ◌∙◌, append_assoc, append-nil, arith}
+use Rattle.std.proofs.Common.{◌≡◌, ℕ, ◌+◌, ◌<◌, List, [], ◌∷◌, ◌++◌, length, take, get_or, map, refl, sym, ap, ◌∙◌, append_assoc, append-nil, arith}
 use Rattle.std.proofs.lemmas.List.{take_more, map-append}
 use Rattle.std.proofs.lemmas.List.FromFn.{map-range_with_len_more}
 use Rattle.std.specs.Prelude.{codes, Result, Ok, Err, OnOk, OnErr}
 use Rattle.std.specs.List.{flat_map}
 use Rattle.bac_tag.specs.Octets.{Extends}
 use Rattle.bac_value.specs.BitsContents.{bits_in, bit_in}
-use Rattle.bac_text.specs.Numbers.{digit, hexadecimal}
 use Rattle.bac_text.specs.Words.{listed}
 use Rattle.bac_text.specs.PrimitiveText.{bit_digit}
 
