@@ -18,3 +18,4 @@ pub mod Named
 pub mod Answering
 pub mod JudgingLemmas
 pub mod RecordLemmas
+pub mod KeptLemmas

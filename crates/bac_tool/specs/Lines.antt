@@ -3,7 +3,9 @@ use Rattle.std.specs.Prelude.{◌≡◌, ℕ, ◌++◌, List, Option, Some, None
 use Rattle.std.specs.Fmt.{decimal}
 use Rattle.bac_tag.specs.Octets.{IsMark}
 use Rattle.bac_tag.specs.Refusals.{name_of}
-use Rattle.bac_tool.specs.Records.{record_of}
+use Rattle.std.specs.List.{AllByRecursion}
+use Rattle.bac_tool.specs.Outputs.{Outputs}
+use Rattle.bac_tool.specs.Records.{record_of, joined, IsRecord}
 use Rattle.bac_npdu.specs.declared.frame.Frame.{Frame}
 use Rattle.bac_npdu.specs.Frames.{FrameValue, SpellsFrame, value_of}
 use Rattle.bac_text.specs.FrameText.{text}
@@ -62,3 +64,11 @@ pub record AppendsRecord (frame : FrameValue) (old new : List ℕ) : Type 0 wher
   pub canonical : List ℕ
   pub is_canonical : IsCanonicalFor frame canonical
   pub new_is : new ≡ old ++ record_of canonical
+
+-- The octets are records, and in each mode what normalise writes of these are the octets, and nothing else.
+pub record IsKept (file : List ℕ) : Type 0 where
+  pub list : List (List ℕ)
+  pub each : AllByRecursion IsRecord list
+  pub joins : file ≡ joined list
+  pub written : (mode : Mode) → Outputs (NormalisesTo mode) 1 list file
+  pub alone : (mode : Mode) (output : List ℕ) → Outputs (NormalisesTo mode) 1 list output → output ≡ file
