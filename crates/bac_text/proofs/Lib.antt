@@ -1,3 +1,2 @@
-mod NumberLemmas
 mod TextLemmas
 mod WalkLemmas

@@ -2,7 +2,7 @@
 use Rattle.std.specs.Prelude.{ℕ, List, [], ◌∷◌, ◌++◌, codes}
 use Rattle.bac_npdu.specs.Addresses.{SourceValue, DestinationValue}
 use Rattle.bac_npdu.specs.Frames.{FrameValue, BodyValue, apdu, message}
-use Rattle.bac_text.specs.Numbers.{hexadecimal}
+use Rattle.bac_record.specs.Digits.{hexadecimal}
 use Rattle.bac_text.specs.Words.{number, truth, field, optional}
 use Rattle.bac_text.specs.ApduText.{apdu_text}
 use Rattle.bac_text.specs.MessageText.{message_text}

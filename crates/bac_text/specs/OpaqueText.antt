@@ -2,7 +2,7 @@
 use Rattle.std.specs.Prelude.{ℕ, List, ◌++◌, codes}
 use Rattle.bac_service.specs.declared.kind.Kind.{Kind}
 use Rattle.bac_service.specs.declared.kind.Kind.TheVariants.{Error}
-use Rattle.bac_text.specs.Numbers.{hexadecimal}
+use Rattle.bac_record.specs.Digits.{hexadecimal}
 use Rattle.bac_text.specs.Words.{number, field}
 
 -- an error has a name in front already

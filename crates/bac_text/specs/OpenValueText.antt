@@ -1,7 +1,7 @@
 -- The text of an open value.
 use Rattle.std.specs.Prelude.{ℕ, List, [], ◌++◌, codes}
 use Rattle.bac_data.specs.OpenValue.{Element, primitive, context, group, Elements, none, more}
-use Rattle.bac_text.specs.Numbers.{hexadecimal}
+use Rattle.bac_record.specs.Digits.{hexadecimal}
 use Rattle.bac_text.specs.Words.{number, field}
 use Rattle.bac_text.specs.PrimitiveText.{primitive_text}
 

@@ -7,7 +7,7 @@ use Rattle.std.specs.Str.{is_utf8}
 use Rattle.bac_value.specs.TextContents.{TextValue}
 use Rattle.bac_value.specs.declared.prim.PrimitiveValue.{PrimitiveValue}
 use Rattle.bac_value.specs.declared.prim.PrimitiveValue.TheVariants.{Null, Boolean, Unsigned, Signed, RealBits, DoubleBits, Octets, Text, Bits, Enumerated, Date, Time, ObjectId}
-use Rattle.bac_text.specs.Numbers.{hexadecimal}
+use Rattle.bac_record.specs.Digits.{hexadecimal}
 use Rattle.bac_text.specs.Words.{number, field, object_text}
 
 -- no control octet, no quotation mark, no backslash and no delete

@@ -2,7 +2,7 @@
 use Rattle.std.specs.Prelude.{ℕ, Bool, List, ◌++◌}
 use Rattle.bac_apdu.specs.declared.segment.SegHead.{SegHead}
 use Rattle.bac_apdu.specs.declared.segment.SegHead.TheVariants.{Request, Ack}
-use Rattle.bac_text.specs.Numbers.{hexadecimal}
+use Rattle.bac_record.specs.Digits.{hexadecimal}
 use Rattle.bac_text.specs.Words.{number, truth, field}
 use Rattle.bac_text.specs.RequestText.{request_head_text}
 

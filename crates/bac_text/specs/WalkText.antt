@@ -1,7 +1,7 @@
 -- What each event of a walk over an open value adds to its text.
 use Rattle.std.specs.Prelude.{ℕ, Bool, true, false, List, [], ◌∷◌, ◌++◌, if◌then◌else◌, codes}
 use Rattle.bac_data.specs.Events.{Event, application, contextual, opening, closing}
-use Rattle.bac_text.specs.Numbers.{hexadecimal}
+use Rattle.bac_record.specs.Digits.{hexadecimal}
 use Rattle.bac_text.specs.Words.{number, field}
 use Rattle.bac_text.specs.PrimitiveText.{primitive_text}
 

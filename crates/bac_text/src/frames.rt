@@ -5,10 +5,10 @@ ghost use Rattle.bac_tag.specs.Octets.{Extends};
 ghost use Rattle.bac_npdu.specs.Frames.{value_of};
 ghost use Rattle.bac_text.specs.FrameText.{address_text, text};
 
-use crate::numbers::push_hexadecimal;
 use crate::scalars::push_octets;
 use crate::texts::{HasText, push_field, push_optional};
 use bac_npdu::{Body, Dest, Frame, Source};
+use bac_record::push_hexadecimal;
 use bac_tag::OutOfMemory;
 
 /// Appends the octets of an address, or `*` where it has none.

@@ -11,7 +11,6 @@ mod apdus;
 mod frames;
 mod lists;
 mod messages;
-mod numbers;
 mod open_values;
 mod pdus;
 mod primitives;

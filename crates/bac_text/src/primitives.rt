@@ -7,12 +7,12 @@ ghost use Rattle.std.specs.Str.{is_utf8};
 ghost use Rattle.bac_tag.specs.Octets.{Extends};
 ghost use Rattle.bac_value.specs.BitsContents.{bits_in, bit_in, IsPacked};
 ghost use Rattle.bac_value.specs.PrimRefValue.{prim_of, IsPackedRef};
-ghost use Rattle.bac_text.specs.Numbers.{hexadecimal};
+ghost use Rattle.bac_record.specs.Digits.{hexadecimal};
 ghost use Rattle.bac_text.specs.PrimitiveText.{is_plain_octet, is_plain, string_text, bit_digit, primitive_text};
 
-use crate::numbers::push_signed;
 use crate::scalars::push_octets;
 use crate::texts::{HasText, push_field};
+use bac_record::push_signed_decimal;
 use bac_tag::OutOfMemory;
 use bac_value::{Boolean, Null, PrimRef};
 
@@ -126,7 +126,7 @@ pub(crate) fn push_primitive(out: &mut Vec<u8>, prim: &PrimRef<'_>) -> Result<()
         PrimRef::Unsigned(value) => push_field(out, b"u:", &value.0),
         PrimRef::Signed(value) => {
             out.extend_from_slice(b"i:")?;
-            push_signed(out, value.0)
+            push_signed_decimal(out, value.0)
         }
         PrimRef::RealBits(value) => push_octets(out, b"r:", &value.0.to_be_bytes()),
         PrimRef::DoubleBits(value) => push_double(out, value.0),

@@ -2,10 +2,10 @@
 
 ghost use Rattle.std.specs.Prelude.{◌≡◌, ◌++◌, OnOk, OnErr};
 ghost use Rattle.bac_tag.specs.Octets.{Extends};
-ghost use Rattle.bac_text.specs.Numbers.{hexadecimal};
+ghost use Rattle.bac_record.specs.Digits.{hexadecimal};
 
-use crate::numbers::{push_hexadecimal, push_number};
 use crate::texts::HasText;
+use bac_record::{push_decimal, push_hexadecimal};
 use bac_tag::OutOfMemory;
 use bac_value::{Enumerated, Instance, ObjectId, Priority, Unsigned16, Unsigned32};
 
@@ -26,7 +26,7 @@ impl HasText for u8 {
 
     #[inline(always)]
     fn push_text(&self, out: &mut Vec<u8>) -> Result<(), OutOfMemory> {
-        push_number(out, u64::from(*self))
+        push_decimal(out, u64::from(*self))
     }
 }
 
@@ -37,7 +37,7 @@ impl HasText for u16 {
 
     #[inline(always)]
     fn push_text(&self, out: &mut Vec<u8>) -> Result<(), OutOfMemory> {
-        push_number(out, u64::from(*self))
+        push_decimal(out, u64::from(*self))
     }
 }
 
@@ -48,7 +48,7 @@ impl HasText for u32 {
 
     #[inline(always)]
     fn push_text(&self, out: &mut Vec<u8>) -> Result<(), OutOfMemory> {
-        push_number(out, u64::from(*self))
+        push_decimal(out, u64::from(*self))
     }
 }
 
@@ -59,7 +59,7 @@ impl HasText for u64 {
 
     #[inline(always)]
     fn push_text(&self, out: &mut Vec<u8>) -> Result<(), OutOfMemory> {
-        push_number(out, *self)
+        push_decimal(out, *self)
     }
 }
 
@@ -83,7 +83,7 @@ impl HasText for Unsigned16 {
 
     #[inline(always)]
     fn push_text(&self, out: &mut Vec<u8>) -> Result<(), OutOfMemory> {
-        push_number(out, u64::from(self.0))
+        push_decimal(out, u64::from(self.0))
     }
 }
 
@@ -94,7 +94,7 @@ impl HasText for Unsigned32 {
 
     #[inline(always)]
     fn push_text(&self, out: &mut Vec<u8>) -> Result<(), OutOfMemory> {
-        push_number(out, u64::from(self.0))
+        push_decimal(out, u64::from(self.0))
     }
 }
 
@@ -105,7 +105,7 @@ impl HasText for Enumerated {
 
     #[inline(always)]
     fn push_text(&self, out: &mut Vec<u8>) -> Result<(), OutOfMemory> {
-        push_number(out, u64::from(self.0))
+        push_decimal(out, u64::from(self.0))
     }
 }
 
@@ -116,7 +116,7 @@ impl HasText for Priority {
 
     #[inline(always)]
     fn push_text(&self, out: &mut Vec<u8>) -> Result<(), OutOfMemory> {
-        push_number(out, u64::from(self.number()))
+        push_decimal(out, u64::from(self.number()))
     }
 }
 
@@ -127,7 +127,7 @@ impl HasText for Instance {
 
     #[inline(always)]
     fn push_text(&self, out: &mut Vec<u8>) -> Result<(), OutOfMemory> {
-        push_number(out, u64::from(self.number()))
+        push_decimal(out, u64::from(self.number()))
     }
 }
 
@@ -139,8 +139,8 @@ impl HasText for ObjectId {
 
     #[inline(always)]
     fn push_text(&self, out: &mut Vec<u8>) -> Result<(), OutOfMemory> {
-        push_number(out, u64::from(self.kind()))?;
+        push_decimal(out, u64::from(self.kind()))?;
         out.push(b':')?;
-        push_number(out, u64::from(self.instance()))
+        push_decimal(out, u64::from(self.instance()))
     }
 }

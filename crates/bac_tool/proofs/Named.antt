@@ -12,8 +12,8 @@ use Rattle.std.specs.List.{AllByRecursion}
 use Rattle.bac_tool.specs.CommandLine.{bactool, NamesJob, IsJobOf, HasMode, word_lists}
 use Rattle.bac_tool.specs.declared.command_line.Job.{Job}
 use Rattle.bac_tool.specs.declared.command_line.Job.TheVariants.{Show, Check, Normalise}
-use Rattle.bac_tool.specs.declared.modes.Mode.{Mode}
-use Rattle.bac_tool.specs.declared.modes.Mode.TheVariants.{Tolerant, Strict}
+use Rattle.bac_stream.specs.declared.modes.Mode.{Mode}
+use Rattle.bac_stream.specs.declared.modes.Mode.TheVariants.{Tolerant, Strict}
 
 pub is_simple_program : is_simple bactool ≡ true
 unfolding clap_on_literals

@@ -2,8 +2,8 @@
 use Rattle.std.specs.Prelude.{◌≡◌, List, [], ◌∷◌, codes, true, Option, Some, None}
 use Rattle.clap.specs.Words.{App, Row, Rule, Text, new_app, new_rule, one_of, with_rule, with_subcommand}
 use Rattle.clap.specs.declared.builder.action.ArgAction.TheVariants.{SetTrue}
-use Rattle.bac_tool.specs.declared.modes.Mode.{Mode}
-use Rattle.bac_tool.specs.declared.modes.Mode.TheVariants.{Tolerant, Strict}
+use Rattle.bac_stream.specs.declared.modes.Mode.{Mode}
+use Rattle.bac_stream.specs.declared.modes.Mode.TheVariants.{Tolerant, Strict}
 use Rattle.bac_tool.specs.declared.command_line.Job.{Job}
 use Rattle.bac_tool.specs.declared.command_line.Job.TheVariants.{Show, Check, Normalise}
 

@@ -1,13 +1,2 @@
-pub mod Devices
-pub mod Records
-pub mod Transfers
-pub mod Outputs
-pub mod Deals
-pub mod Runs
-pub mod Batches
-pub mod Files
-pub mod DecimalText
-pub mod Judging
-pub mod Lines
 pub mod CommandLine
 pub mod Tool

@@ -5,16 +5,16 @@ use Rattle.clap.specs.Words.{IsAmong, Kinds, Row, Text}
 use Rattle.clap.specs.declared.error.ErrorKind.{ErrorKind}
 use Rattle.clap.specs.declared.error.ErrorKind.TheVariants.{DisplayHelp, OutOfMemory}
 use Rattle.bac_tool.specs.CommandLine.{NamesJob}
-use Rattle.bac_tool.specs.Judging.{IsCanonical, IsRefused, Refuses}
-use Rattle.bac_tool.specs.Lines.{ShowsAs, ChecksAs, NormalisesTo}
-use Rattle.bac_tool.specs.Devices.{HasRisen}
-use Rattle.bac_tool.specs.Runs.{RanThrough, RunCounts, Stopped}
-use Rattle.bac_tool.specs.Transfers.{TakesFront}
+use Rattle.bac_stream.specs.Judging.{IsCanonical, IsRefused, Refuses}
+use Rattle.bac_stream.specs.Lines.{ShowsAs, ChecksAs, NormalisesTo}
+use Rattle.bac_record.specs.Devices.{HasRisen}
+use Rattle.bac_record.specs.Runs.{RanThrough, RunCounts, Stopped}
+use Rattle.bac_record.specs.Transfers.{TakesFront}
 use Rattle.bac_tool.specs.declared.command_line.Job.{Job}
 use Rattle.bac_tool.specs.declared.command_line.Job.TheVariants.{Show, Check, Normalise}
-use Rattle.bac_tool.specs.declared.faults.RunFault.{RunFault}
-use Rattle.bac_tool.specs.declared.faults.RunFault.TheVariants.{Stream, Frame}
-use Rattle.bac_tool.specs.declared.summaries.Summary.{Summary}
+use Rattle.bac_record.specs.declared.faults.RunFault.{RunFault}
+use Rattle.bac_record.specs.declared.faults.RunFault.TheVariants.{Stream, Frame}
+use Rattle.bac_record.specs.declared.summaries.Summary.{Summary}
 
 -- what the run of a job leaves, by its answer
 abbrev pub RunsAs : Job → Option (List ℕ) → Option (List ℕ) → Option (List ℕ) → Option (List ℕ) → Result Summary RunFault → Type 0

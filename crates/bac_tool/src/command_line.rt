@@ -1,6 +1,6 @@
 //! What the program is asked to do.
 
-use crate::Mode;
+use bac_stream::Mode;
 
 /// What the program is asked to do with the file of records on its standard input.
 #[derive(Clone, Copy, Debug, PartialEq, Eq)]

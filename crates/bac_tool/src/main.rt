@@ -1,50 +1,20 @@
 //! The program `bactool`: shows, checks and normalises files of BACnet frames (ANSI/ASHRAE 135).
 //!
 //! A file is a list of records, each two octets of length and then a frame: one NPDU (clause 6), with an APDU (clause
-//! 20.1) or a network message (clause 6.4) in it.
+//! 20.1) or a network message (clause 6.4) in it. The runs over such files are those of bac_stream; here stand the
+//! words of the command line, the exit status and what is told on standard error.
 #![tactic(auto)]
 
-mod batches;
-mod checking;
 mod command_line;
-mod counting;
-mod dealing;
-mod decimal_text;
-mod devices;
-#[cfg(test)]
-mod fakes;
-mod faults;
-mod fronts;
-mod judging;
-pub mod laws;
-mod lines;
-mod modes;
-mod normalising;
-mod records;
-mod runs;
-mod showing;
-#[cfg(test)]
-mod stream_tests;
-mod summaries;
 mod tool;
 #[cfg(test)]
 mod tool_tests;
-mod transfers;
-mod windows;
 mod words;
 
-pub use checking::run_check;
+use bac_stream::Counted;
 pub use command_line::Job;
-pub use counting::Counted;
-pub use devices::{Device, Input, Output};
-pub use faults::{RunFault, StreamFault};
-pub use modes::Mode;
-pub use normalising::run_normalise;
-pub use records::{read_record, write_record};
-pub use showing::run_show;
 use std::io;
 use std::process::ExitCode;
-pub use summaries::Summary;
 pub use tool::run_tool;
 pub use words::job;
 

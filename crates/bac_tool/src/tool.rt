@@ -3,14 +3,15 @@
 ghost use Rattle.std.specs.Prelude.{◌≡◌, ◌⊎◌, MatchResult, map};
 ghost use Rattle.clap.specs.Words.{fault_of, kind_of, subcommand_of, takes};
 ghost use Rattle.bac_tool.specs.CommandLine.{bactool};
-ghost use Rattle.bac_tool.specs.Runs.{RunCounts};
+ghost use Rattle.bac_record.specs.Runs.{RunCounts};
 ghost use Rattle.bac_tool.specs.Tool.{Answers, HasNotRun, HasRun, Receives, RunsAs, status_of as status_of_answer};
 
-use crate::transfers::write_whole;
-use crate::{
-    Input, Job, Output, RunFault, StreamFault, Summary, job, run_check, run_normalise, run_show,
-};
+use crate::{Job, job};
 use arrayvec::ArrayString;
+use bac_record::write_whole;
+use bac_stream::{
+    Input, Output, RunFault, StreamFault, Summary, run_check, run_normalise, run_show,
+};
 use clap::Error;
 use clap::error::ErrorKind;
 use std::alloc::Global;

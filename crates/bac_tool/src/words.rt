@@ -6,8 +6,8 @@ ghost use Rattle.clap.specs.Words.{app_of, rule_of, subcommand_of, takes, fault_
 ghost use Rattle.clap.specs.declared.builder.command.Command.{out-Command as fields_of};
 ghost use Rattle.bac_tool.specs.CommandLine.{bactool, strict, moded, bare, NamesJob, HasMode, word_lists};
 
-use crate::Mode;
 use crate::command_line::Job;
+use bac_stream::Mode;
 use clap::error::ErrorKind;
 use clap::{Arg, ArgAction, ArgMatches, Command, Error};
 use std::alloc::{AllocError, Global};

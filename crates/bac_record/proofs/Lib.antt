@@ -1,0 +1,16 @@
+pub mod DigitLemmas
+pub mod Lists
+pub mod Partial
+pub mod Stops
+pub mod RecordFronts
+pub mod Unique
+pub mod Exist
+pub mod WindowLists
+pub mod Appended
+pub mod BatchRecords
+pub mod Cuts
+pub mod RunSoFar
+pub mod Waiting
+pub mod FileEnds
+pub mod FileRuns
+pub mod FirstRecords

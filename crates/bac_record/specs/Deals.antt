@@ -1,0 +1,20 @@
+-- What dealing with one record gives.
+use Rattle.std.specs.Prelude.{◌≡◌, ℕ, ◌↔◌, ◌++◌, List, IsTrue, ⊤}
+use Rattle.bac_tag.specs.declared.refusals.Refusal.{Refusal}
+use Rattle.bac_record.specs.declared.dealing.Dealt.{Dealt}
+use Rattle.bac_record.specs.declared.dealing.DealFault.{DealFault}
+use Rattle.bac_record.specs.declared.dealing.DealFault.TheVariants.{Stop, Memory}
+
+-- A record was dealt with: its output was appended.
+pub record IsDealt (line : ℕ → List ℕ → List ℕ → Type 0) (is_canonical is_refused : List ℕ → Type 0)
+    (number : ℕ) (octets old new : List ℕ) (dealt : Dealt) : Type 0 where
+  pub output : List ℕ
+  pub is_output : line number octets output
+  pub appended : new ≡ old ++ output
+  pub canonical : IsTrue dealt.is_canonical ↔ is_canonical octets
+  pub refused : IsTrue dealt.is_refused ↔ is_refused octets
+
+-- A record was not dealt with.
+abbrev pub DealFails : (Refusal → Type 0) → DealFault → Type 0
+DealFails stops (Stop refusal) = stops refusal
+DealFails stops Memory = ⊤

@@ -1,0 +1,9 @@
+pub mod Digits
+pub mod Devices
+pub mod Records
+pub mod Transfers
+pub mod Outputs
+pub mod Deals
+pub mod Runs
+pub mod Batches
+pub mod Files

@@ -1,0 +1,76 @@
+//! What a run does with each record.
+
+ghost use Rattle.std.specs.Prelude.{◌≡◌, ◌↔◌, IfErr, IfOk, IsTrue, List, None, OnErr, true, false, ℕ};
+ghost use Rattle.bac_tag.specs.declared.refusals.Refusal.{Refusal as RefusalValue};
+ghost use Rattle.bac_record.specs.Deals.{DealFails, IsDealt};
+ghost use Rattle.bac_record.specs.Records.{IsRecord};
+
+use bac_tag::Refusal;
+
+/// What a job found of a record that it dealt with: how the record counts in a summary.
+#[derive(Clone, Copy, Debug, PartialEq, Eq)]
+pub struct Dealt {
+    /// The record counts as canonical.
+    pub is_canonical: bool,
+    /// The record counts as refused.
+    pub is_refused: bool,
+}
+
+impl Dealt {
+    /// A record that is refused.
+    #[inline(always)]
+    pub fn refused() -> Dealt
+        ensures { result ≡ record { is_canonical = false; is_refused = true } }
+    {
+        Dealt {
+            is_canonical: false,
+            is_refused: true,
+        }
+    }
+
+    /// A record that is accepted: it is canonical where it has no mark.
+    #[inline(always)]
+    pub fn accepted(mark: Option<usize>) -> Dealt
+        ensures canonical { IsTrue result.is_canonical ↔ (mark ≡ None) }
+        ensures accepted { result.is_refused ≡ false }
+    {
+        Dealt {
+            is_canonical: mark.is_none(),
+            is_refused: false,
+        }
+    }
+}
+
+/// Why a job did not deal with a record.
+#[derive(Clone, Copy, Debug, PartialEq, Eq)]
+pub enum DealFault {
+    /// The record ends the run.
+    Stop(Refusal),
+    /// Memory was wanted and refused.
+    Memory,
+}
+
+/// What a run does with each record.
+pub trait Job {
+    /// The output of a record, by its number and its octets.
+    ghost line: { Self → ℕ → List ℕ → List ℕ → Type 0 };
+
+    /// The record ends the run with this refusal.
+    ghost stops: { Self → List ℕ → RefusalValue → Type 0 };
+
+    /// The record counts as canonical.
+    ghost is_canonical: { Self → List ℕ → Type 0 };
+
+    /// The record counts as refused.
+    ghost is_refused: { Self → List ℕ → Type 0 };
+
+    /// Appends the output of the record of this number, counted from 1, to `out`. Returns how the record counts.
+    ///
+    /// # Errors
+    /// `Stop` where the record ends the run, and `Memory` where memory is refused. `out` then stays as it was.
+    fn deal(&self, number: u32, octets: &[u8], out: &mut Vec<u8>) -> Result<Dealt, DealFault>
+        requires { IsRecord octets.now }
+        ensures dealt { IfOk result (IsDealt (line self.now) (is_canonical self.now) (is_refused self.now) number octets.now out.old.items out.new.items) }
+        ensures fault { IfErr result (DealFails (stops self.now octets.now)) }
+        ensures err { OnErr result (out.new.items ≡ out.old.items) };
+}

@@ -1,0 +1,35 @@
+//! Files of records, and runs over them. A record is two octets of length, the most significant first, and then that
+//! many octets; what these say is not asked here.
+//!
+//! - An [`Input`] and an [`Output`] are what octets are read from and written to, each with a count of its failures.
+//!   [`Counted`] makes one of any standard reader or writer.
+//! - [`read_record`] and [`write_record`] take and give one record.
+//! - [`run`] does a [`Job`] with each record of a file: it appends what the job makes of the record to what it writes,
+//!   and counts. A [`Summary`] or a [`RunFault`] says how it ended.
+//! - [`push_decimal`], [`push_signed_decimal`] and [`push_hexadecimal`] append numbers and octets as digits.
+#![tactic(auto)]
+
+mod batches;
+mod counting;
+mod dealing;
+mod devices;
+mod digits;
+mod faults;
+mod fronts;
+pub mod laws;
+mod records;
+mod runs;
+mod summaries;
+mod transfers;
+mod windows;
+
+pub use counting::Counted;
+pub use dealing::{DealFault, Dealt, Job};
+pub use devices::{Device, Input, Output};
+pub use digits::{push_decimal, push_hexadecimal, push_signed_decimal};
+pub use faults::{RunFault, StreamFault};
+pub use fronts::front_record;
+pub use records::{read_record, write_record};
+pub use runs::run;
+pub use summaries::Summary;
+pub use transfers::write_whole;

@@ -1,0 +1,110 @@
+//! Records: two octets of length, and then so many octets.
+
+ghost use Rattle.std.specs.Prelude.{◌≡◌, IfErr, IfOk, List, MatchResult, OnOk, Some, length, ℕ};
+ghost use Rattle.std.specs.Io.KnownBytes.{Appends, Consumes};
+ghost use Rattle.std.specs.Option.{option_map};
+ghost use Rattle.bac_record.specs.Devices.{HasRisen};
+ghost use Rattle.bac_record.specs.Records.{IsRecord, Records, record_of};
+ghost use Rattle.bac_record.specs.Transfers.{GivesLength, GivesRecord, IsFirst, IsFirstFault, ReadFaultCounts, StopsReading, StopsWithin, StopsWriting};
+
+use crate::transfers::{read_full, write_whole};
+use crate::{Input, Output, StreamFault};
+use std::alloc::Global;
+
+/// The longest record, without its length octets: as many octets as these can tell.
+pub(crate) const LONGEST: usize = 65_535;
+
+/// The length octets of the next record, as a number, or `None` where the reader is at its end.
+fn read_length<R: Input>(reader: &mut R) -> Result<Option<usize>, StreamFault>
+    ensures found { IfOk result (GivesLength (R.left reader.old) (R.left reader.new)) }
+    ensures stops { IfErr result (StopsReading (R.left reader.old) (R.left reader.new)) }
+    ensures counted { MatchResult result (λ _. R.failures reader.new ≡ R.failures reader.old) (ReadFaultCounts (R.failures reader.old) (R.failures reader.new)) }
+{
+    let mut head = [0; 2];
+    let Ok(count) = read_full(reader, &mut head) else {
+        return Err(StreamFault::ReadFault);
+    };
+    if count == 0 {
+        return Ok(None);
+    }
+    if count == 1 {
+        return Err(StreamFault::Truncated);
+    }
+    let [high, low] = head;
+    Ok(Some(256 * usize::from(high) + usize::from(low)))
+}
+
+/// So many octets. An `Err` is a fault within them.
+fn read_octets<R: Input>(
+    alloc: Global,
+    reader: &mut R,
+    count: usize,
+) -> Result<Vec<u8>, StreamFault>
+    ensures found { IfOk result (λ octets. (length octets.items ≡ count) × Consumes (R.left reader.old) (R.left reader.new) octets.items) }
+    ensures stops { IfErr result (StopsWithin (R.left reader.old) (R.left reader.new) count) }
+    ensures counted { MatchResult result (λ _. R.failures reader.new ≡ R.failures reader.old) (ReadFaultCounts (R.failures reader.old) (R.failures reader.new)) }
+{
+    let Ok(mut octets) = vec![in alloc; 0; count] else {
+        return Err(StreamFault::OutOfMemory);
+    };
+    let Ok(filled) = read_full(reader, octets.as_mut_slice()) else {
+        return Err(StreamFault::ReadFault);
+    };
+    if filled < count {
+        return Err(StreamFault::Truncated);
+    }
+    Ok(octets)
+}
+
+/// The octets of the next record, or `None` where the reader is at its end.
+fn next_record<R: Input>(alloc: Global, reader: &mut R) -> Result<Option<Vec<u8>>, StreamFault>
+    ensures found { IfOk result (λ found. GivesRecord (R.left reader.old) (R.left reader.new) (option_map (λ octets. octets.items) found)) }
+    ensures stops { IfErr result (StopsReading (R.left reader.old) (R.left reader.new)) }
+    ensures counted { MatchResult result (λ _. R.failures reader.new ≡ R.failures reader.old) (ReadFaultCounts (R.failures reader.old) (R.failures reader.new)) }
+{
+    let Some(length) = read_length(reader)? else {
+        return Ok(None);
+    };
+    Ok(Some(read_octets(alloc, reader, length)?))
+}
+
+/// Reads the next record, and no octet behind it. Returns its octets, or None where the reader is at its end.
+///
+/// Octets: two of length, the most significant first, then as many as these say, at most 65,535.
+///
+/// # Errors
+/// - `Truncated` where the reader ends inside the record.
+/// - `ReadFault` where a read failed. Less than a record was read.
+/// - `OutOfMemory` where memory is refused. The length octets alone were read.
+pub fn read_record<R: Input>(alloc: Global, reader: &mut R) -> Result<Option<Vec<u8>>, StreamFault>
+    ensures found { IfOk result (λ found. GivesRecord (R.left reader.old) (R.left reader.new) (option_map (λ octets. octets.items) found)) }
+    ensures stops { IfErr result (StopsReading (R.left reader.old) (R.left reader.new)) }
+
+    // Where the octets of the reader are known, they are records and a rest in one way.
+    ensures files { (list : List (List ℕ)) (rest file : List ℕ) → R.left reader.old ≡ Some file → Records list rest file
+        → MatchResult result (λ found. IsFirst list rest (option_map (λ octets. octets.items) found)) (IsFirstFault list rest) }
+    ensures counted { MatchResult result (λ _. R.failures reader.new ≡ R.failures reader.old) (ReadFaultCounts (R.failures reader.old) (R.failures reader.new)) }
+{
+    next_record(alloc, reader)
+}
+
+/// Writes the octets, of which there must be at most 65,535, as a record: two octets of length, the most significant
+/// first, then the octets.
+///
+/// # Errors
+/// `WriteFault`, with the number of octets that were taken, the length octets among them.
+pub fn write_record<W: Output>(writer: &mut W, octets: &[u8]) -> Result<(), StreamFault>
+    requires { IsRecord octets.now }
+    ensures ok { OnOk result (Appends (W.taken writer.old) (W.taken writer.new) (record_of octets.now)) }
+    ensures fault { IfErr result (StopsWriting (W.taken writer.old) (W.taken writer.new) (record_of octets.now)) }
+    ensures counted { MatchResult result (λ _. W.failures writer.new ≡ W.failures writer.old) (λ _. HasRisen (W.failures writer.old) (W.failures writer.new)) }
+{
+    let head = (octets.len() as u16).to_be_bytes();
+    if let Err(count) = write_whole(writer, &head) {
+        return Err(StreamFault::WriteFault(count as u128));
+    }
+    match write_whole(writer, octets) {
+        Ok(()) => Ok(()),
+        Err(count) => Err(StreamFault::WriteFault(2 + count as u128)),
+    }
+}

@@ -1,0 +1,3 @@
+pub mod JudgingLemmas
+pub mod RecordLemmas
+pub mod KeptLemmas

@@ -1,0 +1,99 @@
+//! The run of `check`.
+
+ghost use Rattle.std.specs.Prelude.{◌≡◌, ◌↔◌, IfErr, IfOk, IsTrue, MatchResult, List, ℕ, None, Some};
+ghost use Rattle.bac_record.specs.Deals.{DealFails};
+ghost use Rattle.bac_stream.specs.Judging.{IsCanonical, IsRefused, Refuses};
+ghost use Rattle.bac_stream.specs.Lines.{IsChecked, ChecksAs, line_of};
+ghost use Rattle.bac_record.specs.Records.{Records};
+ghost use Rattle.bac_record.specs.Runs.{RanThrough, RunCounts, Stopped};
+ghost use Rattle.bac_record.specs.Files.{RunsOver};
+
+use crate::judging::judge;
+use crate::lines::Line;
+use crate::{Input, Mode, Output, RunFault, Summary};
+use bac_record::{DealFault, Dealt, Job, run};
+use std::alloc::Global;
+
+/// Tells of each record whether it is canonical.
+#[derive(Clone, Copy)]
+struct Check {
+    alloc: Global,
+    mode: Mode,
+}
+
+/// The first place where accepted octets differ from the canonical ones of their frame.
+///
+/// # Errors
+/// As [`judge`].
+fn mark_of(alloc: Global, mode: Mode, octets: &[u8]) -> Result<Option<usize>, DealFault>
+    ensures line { IfOk result (λ mark. IsChecked mode octets.now (line_of mark)) }
+    ensures canonical { IfOk result (λ mark. (mark ≡ None) ↔ IsCanonical octets.now) }
+    ensures accepted { IfOk result (λ mark. IsRefused mode octets.now → ⊥) }
+    ensures fault { IfErr result (DealFails (Refuses mode octets.now)) }
+    ensures refused { IfErr result (DealFails (λ _. IsRefused mode octets.now)) }
+{
+    let (_frame, mark) = judge(alloc, mode, octets)?;
+    Ok(mark)
+}
+
+/// What is said of the octets, and how the record counts.
+///
+/// # Errors
+/// `Memory` where memory is refused.
+fn checked(alloc: Global, mode: Mode, octets: &[u8]) -> Result<(Line, Dealt), DealFault>
+    ensures line { IfOk result (λ found. IsChecked mode octets.now found.0) }
+    ensures canonical { IfOk result (λ found. IsTrue found.1.is_canonical ↔ IsCanonical octets.now) }
+    ensures refused { IfOk result (λ found. IsTrue found.1.is_refused ↔ IsRefused mode octets.now) }
+    ensures memory { IfErr result (λ fault. fault ≡ DealFault.Memory) }
+{
+    match mark_of(alloc, mode, octets) {
+        Ok(mark) => Ok((Line::of_mark(mark), Dealt::accepted(mark))),
+        Err(DealFault::Stop(refusal)) => Ok((Line::Refused(refusal), Dealt::refused())),
+        Err(DealFault::Memory) => Err(DealFault::Memory),
+    }
+}
+
+impl Job for Check {
+    ghost line = { λ check. ChecksAs check.mode };
+
+    ghost stops = { λ _ _ _. ⊥ };
+
+    ghost is_canonical = { λ _. IsCanonical };
+
+    ghost is_refused = { λ check. IsRefused check.mode };
+
+    fn deal(&self, number: u32, octets: &[u8], out: &mut Vec<u8>) -> Result<Dealt, DealFault> {
+        let (line, dealt) = checked(self.alloc, self.mode, octets)?;
+        match line.push(number, out) {
+            Ok(()) => Ok(dealt),
+            Err(_) => Err(DealFault::Memory),
+        }
+    }
+}
+
+/// Writes a line for each record: its number, and whether the record is canonical, tolerated or refused. Returns what
+/// it counted.
+///
+/// # Errors
+/// As [`RunFault`] says, but never `Frame`: refused records do not stop the run.
+pub fn run_check<R: Input, W: Output>(
+    alloc: Global,
+    mode: Mode,
+    reader: &mut R,
+    writer: &mut W,
+) -> Result<Summary, RunFault>
+    ensures through { IfOk result (RanThrough (ChecksAs mode) IsCanonical (IsRefused mode)
+        (R.left reader.old) (R.left reader.new) (W.taken writer.old) (W.taken writer.new)) }
+    ensures stopped { IfErr result (Stopped (ChecksAs mode) (λ _ _. ⊥)
+        (R.left reader.old) (R.left reader.new) (W.taken writer.old) (W.taken writer.new)) }
+
+    // Where the octets of the reader are known, they are records and a rest in one way.
+    ensures files { (list : List (List ℕ)) (rest file : List ℕ) → R.left reader.old ≡ Some file → Records list rest file
+        → RunsOver (ChecksAs mode) (λ _ _. ⊥) IsCanonical (IsRefused mode) list rest
+        (W.taken writer.old) (W.taken writer.new) result }
+    ensures counted { MatchResult result
+        (λ _. (R.failures reader.new ≡ R.failures reader.old) × (W.failures writer.new ≡ W.failures writer.old))
+        (RunCounts (R.failures reader.old) (R.failures reader.new) (W.failures writer.old) (W.failures writer.new)) }
+{
+    run(alloc, &Check { alloc, mode }, reader, writer)
+}

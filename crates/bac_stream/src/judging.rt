@@ -1,0 +1,45 @@
+//! Which records are accepted, and as which frame.
+
+ghost use Rattle.std.specs.Prelude.{◌≡◌, ◌↔◌, IfErr, IfOk, None};
+ghost use Rattle.bac_tag.specs.Spelling.{HasMark};
+ghost use Rattle.bac_npdu.specs.Frames.{SpellsFrame, value_of};
+ghost use Rattle.bac_record.specs.Deals.{DealFails};
+ghost use Rattle.bac_stream.specs.Judging.{Accepts, IsCanonical, IsRefused, Refuses};
+
+use crate::Mode;
+use bac_npdu::laws::frames_have_one_value;
+use bac_npdu::{Frame, decode_marked};
+use bac_record::DealFault;
+use bac_tag::Why;
+use std::alloc::Global;
+
+/// The frame as which the octets are accepted, and the first place where they differ from its canonical octets.
+///
+/// # Errors
+/// `Stop` with what [`decode_marked`] refuses; in mode Strict also with `NotCanonical` at that first place. `Memory`
+/// where memory is refused.
+pub(crate) fn judge(
+    alloc: Global,
+    mode: Mode,
+    octets: &[u8],
+) -> Result<(Frame, Option<usize>), DealFault>
+    ensures accepted { IfOk result (λ found. Accepts mode (value_of found.0) octets.now) }
+    ensures mark { IfOk result (λ found. HasMark (SpellsFrame (value_of found.0)) octets.now found.1) }
+    ensures canonical { IfOk result (λ found. (found.1 ≡ None) ↔ IsCanonical octets.now) }
+    ensures fault { IfErr result (DealFails (Refuses mode octets.now)) }
+    ensures refused { IfErr result (DealFails (λ _. IsRefused mode octets.now)) }
+{
+    // By this law octets that differ from the canonical ones of their frame are canonical for no other.
+    frames_have_one_value();
+    let (frame, mark) = match decode_marked(alloc, octets) {
+        Ok(found) => found,
+        Err(refusal) if refusal.why == Why::OutOfMemory => return Err(DealFault::Memory),
+        Err(refusal) => return Err(DealFault::Stop(refusal)),
+    };
+    if mode == Mode::Strict {
+        if let Some(place) = mark {
+            return Err(DealFault::Stop(Why::NotCanonical.at(place)));
+        }
+    }
+    Ok((frame, mark))
+}

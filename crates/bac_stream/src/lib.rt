@@ -1,0 +1,22 @@
+//! Files of BACnet frames: each record is one NPDU, with an APDU or a network message in it.
+//!
+//! [`run_show`] writes what each frame says, [`run_check`] whether it is canonical, and [`run_normalise`] its canonical
+//! octets. Each reads from any [`Input`] and writes to any [`Output`], and returns a [`Summary`], or the [`RunFault`]
+//! that stopped it. [`read_record`] and [`write_record`] take and give one record.
+#![tactic(auto)]
+
+mod checking;
+mod judging;
+pub mod laws;
+mod lines;
+mod modes;
+mod normalising;
+mod showing;
+
+pub use bac_record::{
+    Counted, Device, Input, Output, RunFault, StreamFault, Summary, read_record, write_record,
+};
+pub use checking::run_check;
+pub use modes::Mode;
+pub use normalising::run_normalise;
+pub use showing::run_show;

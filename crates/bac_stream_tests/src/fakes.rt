@@ -1,0 +1,145 @@
+//! Devices and a job for tests.
+
+ghost use Rattle.std.specs.Prelude.{◌+◌, ◌-◌, ◌<◌, ◌^◌, ◌≡◌, ◌≤◌, None, length, ⊤, ℕ};
+
+use bac_record::{DealFault, Dealt, Device, Input, Job, Output};
+use bac_tag::{Refusal, Why};
+use std::io::{self, ErrorKind, Read, Write};
+
+/// Gives octets, at most so many a call, up to the call that fails.
+#[derive(Drop)]
+pub(crate) struct Feed<'a> {
+    pub(crate) octets: &'a [u8],
+    pub(crate) size: usize,
+    /// How many calls succeed.
+    pub(crate) calls: usize,
+    pub(crate) failures: u64,
+}
+
+impl<'a> Input for Feed<'a> {
+    ghost left = { λ _. None };
+
+    ghost failures = { λ feed. feed.failures };
+
+    fn read(&mut self, buffer: &mut [u8]) -> Result<usize, Device> {
+        if self.calls == 0 {
+            self.failures = self.failures.saturating_add(1);
+            return Err(Device::Failed);
+        }
+        self.calls -= 1;
+        let count = self.octets.len().min(self.size).min(buffer.len());
+        buffer[..count].copy_from_slice(&self.octets[..count]);
+        self.octets = &self.octets[count..];
+        Ok(count)
+    }
+}
+
+/// Gives these three octets again and again.
+#[derive(Drop)]
+pub(crate) struct Unending {
+    pub(crate) octets: [u8; 3],
+}
+
+impl Input for Unending {
+    ghost left = { λ _. None };
+
+    ghost failures = { λ _. 0 };
+
+    fn read(&mut self, buffer: &mut [u8]) -> Result<usize, Device> {
+        for octet in buffer.iter_mut() {
+            let [first, second, third] = self.octets;
+            *octet = first;
+            self.octets = [second, third, first];
+        }
+        Ok(buffer.len())
+    }
+}
+
+/// Takes so many octets, and then fails.
+#[derive(Drop)]
+pub(crate) struct Drain {
+    pub(crate) taken: Vec<u8>,
+    pub(crate) room: usize,
+    pub(crate) failures: u64,
+}
+
+impl Output for Drain {
+    ghost taken = { λ _. None };
+
+    ghost failures = { λ drain. drain.failures };
+
+    fn write(&mut self, octets: &[u8]) -> Result<usize, Device> {
+        let count = octets.len().min(self.room);
+        if count == 0 || self.taken.extend_from_slice(&octets[..count]).is_err() {
+            self.failures = self.failures.saturating_add(1);
+            return Err(Device::Failed);
+        }
+        self.room -= count;
+        Ok(count)
+    }
+}
+
+/// A standard reader that is at its end, and writer that takes so many octets a call, after so many errors.
+#[derive(Drop)]
+pub(crate) struct Troubled {
+    pub(crate) error: ErrorKind,
+    pub(crate) times: u32,
+    pub(crate) takes: usize,
+}
+
+impl Troubled {
+    fn fail(&mut self) -> io::Result<()> {
+        if self.times > 0 {
+            self.times -= 1;
+            return Err(io::Error::from(self.error));
+        }
+        Ok(())
+    }
+}
+
+impl Read for Troubled {
+    fn read(&mut self, _buffer: &mut [u8]) -> io::Result<usize> {
+        self.fail()?;
+        Ok(0)
+    }
+}
+
+impl Write for Troubled {
+    fn write(&mut self, octets: &[u8]) -> io::Result<usize> {
+        self.fail()?;
+        Ok(octets.len().min(self.takes))
+    }
+
+    fn flush(&mut self) -> io::Result<()> {
+        Ok(())
+    }
+}
+
+/// Writes each record's octets, and stops at a record that begins with 255. Empty records count as
+/// canonical, records of one octet as refused.
+#[derive(Clone, Copy)]
+pub(crate) struct CopyOctets;
+
+impl Job for CopyOctets {
+    ghost line = { λ _ _ octets output. length output ≡ length octets };
+
+    ghost stops = { λ _ _ _. ⊤ };
+
+    ghost is_canonical = { λ _ octets. length octets ≡ 0 };
+
+    ghost is_refused = { λ _ octets. length octets ≡ 1 };
+
+    fn deal(&self, _number: u32, octets: &[u8], out: &mut Vec<u8>) -> Result<Dealt, DealFault> {
+        if let [255, ..] = octets {
+            let (place, why) = (0, Why::Tag);
+            return Err(DealFault::Stop(Refusal { place, why }));
+        }
+        if out.extend_from_slice(octets).is_err() {
+            return Err(DealFault::Memory);
+        }
+        Ok(Dealt {
+            is_canonical: octets.is_empty(),
+            is_refused: octets.len() == 1,
+        })
+    }
+}

@@ -1,6 +1,0 @@
-use Rattle.bac_npdu.specs.Frames.{value_of}
-use Rattle.bac_tool.proofs.JudgingLemmas.{accepted_checked}
-use Rattle.bac_tool.proofs.checking.mark_of.Goals as goal
-
-pub returns-clause-line : goal.returns-clause-line
-returns-clause-line c = accepted_checked c.args.mode (value_of c.in_ok-_frame._frame) c.args.octets.now c.in_ok-_frame.mark c.in_ok-_frame.ensures.accepted c.in_ok-_frame.ensures.mark

@@ -1,5 +1,0 @@
-use Rattle.bac_tool.proofs.KeptLemmas.{kept}
-use Rattle.bac_tool.proofs.laws.normalised_files_are_kept.Goals as goal
-
-pub returns : goal.returns
-returns c = kept c.frames_have_one_value.ensures

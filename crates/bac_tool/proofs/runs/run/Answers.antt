@@ -1,6 +1,0 @@
-use Rattle.bac_tool.proofs.FileRuns.{result_over}
-use Rattle.bac_tool.proofs.runs.run.Goals as goal
-
-pub returns-clause-files : goal.returns-clause-files
-returns-clause-files g c = λ list rest file known records.
-    result_over _ _ _ _ _ _ _ list rest file records _ _ known c.run_pieces.ensures.through c.run_pieces.ensures.stopped
