@@ -5,7 +5,7 @@ ghost use Rattle.bac_tag.specs.declared.refusals.Refusal.{Refusal as RefusalValu
 ghost use Rattle.bac_record.specs.Deals.{DealFails, IsDealt};
 ghost use Rattle.bac_record.specs.Records.{IsRecord};
 
-use bac_tag::Refusal;
+use bac_tag::{OutOfMemory, Refusal};
 
 /// What a job found of a record that it dealt with: how the record counts in a summary.
 #[derive(Clone, Copy, Debug, PartialEq, Eq)]
@@ -48,6 +48,17 @@ pub enum DealFault {
     Stop(Refusal),
     /// Memory was wanted and refused.
     Memory,
+}
+
+impl From<OutOfMemory> for DealFault {
+    ghost use Rattle.bac_record.specs.declared.dealing.DealFault.TheVariants.{Memory};
+
+    ghost from_gives = { λ _ fault. fault ≡ Memory };
+
+    #[inline(always)]
+    fn from(_error: OutOfMemory) -> DealFault {
+        DealFault::Memory
+    }
 }
 
 /// What a run does with each record.

@@ -83,10 +83,8 @@ impl Job for Normalise {
 
     fn deal(&self, _number: u32, octets: &[u8], out: &mut Vec<u8>) -> Result<Dealt, DealFault> {
         let (frame, mark) = judge(self.alloc, self.mode, octets)?;
-        match push_canonical(self.alloc, &frame, mark, octets, out) {
-            Ok(()) => Ok(Dealt::accepted(mark)),
-            Err(_) => Err(DealFault::Memory),
-        }
+        push_canonical(self.alloc, &frame, mark, octets, out)?;
+        Ok(Dealt::accepted(mark))
     }
 }
 

@@ -48,10 +48,8 @@ impl Job for Show {
 
     fn deal(&self, number: u32, octets: &[u8], out: &mut Vec<u8>) -> Result<Dealt, DealFault> {
         let (line, dealt) = shown(self.alloc, self.mode, octets)?;
-        match line.push(number, out) {
-            Ok(()) => Ok(dealt),
-            Err(_) => Err(DealFault::Memory),
-        }
+        line.push(number, out)?;
+        Ok(dealt)
     }
 }
 
