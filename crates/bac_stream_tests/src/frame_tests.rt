@@ -287,7 +287,10 @@ fn refused_memory_leaves_whole_lines(rt: HostRuntime) -> Result<(), Fail> {
     match answer {
         Err(RunFault::Stream { at, fault }) => {
             assert_eq!(rt; fault, StreamFault::OutOfMemory);
-            let end = ends.get(at as usize - 1).copied().ok_or("a record")?;
+            let end = ends
+                .get((at as usize).saturating_sub(1))
+                .copied()
+                .ok_or("a record")?;
             assert_eq!(rt; written, lines.get(..end));
         }
         answer => {
