@@ -15,3 +15,4 @@ mod SegmentLemmas
 mod OnceLemmas
 mod LawLemmas
 mod AppendingLemmas
+pub mod FormerLemmas

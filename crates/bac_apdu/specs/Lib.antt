@@ -11,3 +11,4 @@ pub mod Abort
 pub mod Segment
 pub mod Apdus
 pub mod Decoded
+pub mod FormerApdus

@@ -7,6 +7,7 @@ ghost use Rattle.bac_apdu.specs.FirstOctet.{type_at, seg_at};
 ghost use Rattle.bac_apdu.specs.Segment.{segment_head_size};
 ghost use Rattle.bac_apdu.specs.Apdus.{ApduValue, segment, SpellsApdu, IsSegment};
 ghost use Rattle.bac_apdu.specs.Decoded.{is_small, begins_small};
+ghost use Rattle.bac_apdu.specs.FormerApdus.{SpellsFormerApdu, IsKept};
 
 /// No list spells two APDUs.
 pub fn apdus_have_one_value()
@@ -45,3 +46,12 @@ pub fn segmented_apdus_are_segments()
 pub fn octets_tell_small_apdus()
     ensures { (v : ApduValue) (b : List ℕ) → SpellsApdu v b → begins_small b ≡ is_small v }
 {}
+
+/// Formerly WritePropertyMultiple and its error were opaque, and at most 16 groups nested. Each other APDU that was
+/// spelled then is still spelled by the same lists, and has the same canonical octets.
+pub fn former_apdus_are_kept()
+    ensures spelled { (v : ApduValue) (b : List ℕ) → IsKept v → SpellsFormerApdu v b → SpellsApdu v b }
+    ensures least { (v : ApduValue) (b : List ℕ) → IsKept v → IsLeast (SpellsFormerApdu v) b → IsLeast (SpellsApdu v) b }
+{
+    bac_service::laws::former_services_are_kept();
+}

@@ -17,7 +17,7 @@ bit_small : (f : Bool) → bit_of f ≤ 1
 bit_small true = omega arith
 bit_small false = omega arith
 
-one_no_greater : (m n : ℕ) → m ≤ n → NoGreater (m ∷ []) (n ∷ [])
+pub one_no_greater : (m n : ℕ) → m ≤ n → NoGreater (m ∷ []) (n ∷ [])
 one_no_greater m n le = inr (refl, at)
   where
     at : (k : ℕ) → k < 1 → slice_index (m ∷ []) k ≤ slice_index (n ∷ []) k

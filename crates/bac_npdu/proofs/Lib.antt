@@ -16,3 +16,4 @@ mod HeadReadLemmas
 mod BodyLemmas
 mod FrameReadLemmas
 mod OnceLemmas
+mod FormerLemmas

@@ -9,3 +9,4 @@ pub mod Decoded
 pub mod HeadsRead
 pub mod Refused
 pub mod Meanings
+pub mod FormerFrames

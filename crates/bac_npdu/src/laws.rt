@@ -3,6 +3,7 @@
 ghost use Rattle.std.specs.Prelude.{◌≡◌, ◌↔◌, ℕ, ◌≤◌, List, length};
 ghost use Rattle.bac_tag.specs.Spelling.{IsLeast};
 ghost use Rattle.bac_npdu.specs.Frames.{FrameValue, SpellsFrame};
+ghost use Rattle.bac_npdu.specs.FormerFrames.{SpellsFormerFrame, IsKept};
 ghost use Rattle.bac_npdu.specs.Meanings.{IsNormalOf};
 
 /// No list spells two frames.
@@ -43,4 +44,13 @@ pub fn frames_have_canonical_octets()
     ensures { (f : FrameValue) (b : List ℕ) → SpellsFrame f b → (c : List ℕ) × IsLeast (SpellsFrame f) c }
 {
     bac_apdu::laws::apdus_have_canonical_octets();
+}
+
+/// Formerly WritePropertyMultiple and its error were opaque, and at most 16 groups nested. Each other frame that was
+/// spelled then is still spelled by the same lists, and has the same canonical octets.
+pub fn former_frames_are_kept()
+    ensures spelled { (f : FrameValue) (b : List ℕ) → IsKept f.body → SpellsFormerFrame f b → SpellsFrame f b }
+    ensures least { (f : FrameValue) (b : List ℕ) → IsKept f.body → IsLeast (SpellsFormerFrame f) b → IsLeast (SpellsFrame f) b }
+{
+    bac_apdu::laws::former_apdus_are_kept();
 }
