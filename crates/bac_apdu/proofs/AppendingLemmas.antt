@@ -3,7 +3,7 @@ use Rattle.std.specs.Prelude.{◌≡◌, ℕ, ◌<◌, true, List, [], ◌∷◌
 use Rattle.std.proofs.Common.{get_or, sym, ◌∙◌, subst, append_assoc}
 use Rattle.std.proofs.lemmas.List.{append-nil}
 use Rattle.bac_tag.specs.Octets.{IsOctets}
-use Rattle.bac_tag.specs.Laws.Octets.{NoGreater-same, octets_back}
+use Rattle.bac_tag.specs.Laws.Octets.{NoGreater-same, octets_front, octets_back}
 use Rattle.bac_tag.specs.Spelling.{AppendsLeast}
 use Rattle.bac_service.specs.declared.kind.Kind.{Kind}
 use Rattle.bac_service.specs.ServiceValues.{ServiceValue}
@@ -34,10 +34,6 @@ pub appends_carried : (k : Kind) (s : ServiceValue) {front new : List ℕ} → s
 appends_carried k s {front} {new} e L = subst (λ (j : Kind). AppendsLeast (SpellsService true 32 j s.choice s) front new) e L
 
 -- ---- what is in a vector of octets is octets
-
-octets_front : (a b : List ℕ) → IsOctets (a ++ b) → IsOctets a
-octets_front [] b h = tt
-octets_front (o ∷ a) b h = (h.0, octets_front a b h.1)
 
 module _ (old head : List ℕ) (new : List ℕ) (small : (k : ℕ) (d : ℕ) → k < length new → get_or new k d < 256) where
   pub head_at_end : new ≡ old ++ head → IsOctets head

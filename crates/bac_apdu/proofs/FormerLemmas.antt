@@ -3,7 +3,7 @@ use Rattle.std.specs.Prelude.{◌≡◌, ℕ, ◌+◌, ◌<◌, ◌≤◌, true,
 use Rattle.std.proofs.Common.{inl, inr, sym, ◌∙◌, ap, subst, arith}
 use Rattle.std.proofs.lemmas.List.{length-append, get_or-append-add}
 use Rattle.bac_tag.specs.Octets.{NoGreater}
-use Rattle.bac_tag.specs.Laws.Octets.{NoGreater-refl, NoGreater-antisym, NoGreater-append}
+use Rattle.bac_tag.specs.Laws.Octets.{NoGreater-refl, NoGreater-antisym, NoGreater-append, one_no_greater}
 use Rattle.bac_tag.specs.Spelling.{IsLeast}
 use Rattle.bac_tag.specs.HeadOctets.{Part, Headed, least_part, least_head}
 use Rattle.bac_tag.proofs.HeadOctetLemmas.{part_least, parts_are, headed_least}
@@ -16,12 +16,6 @@ use Rattle.bac_apdu.specs.Apdus.{ApduValue, confirmed_request, unconfirmed_reque
 use Rattle.bac_apdu.specs.FormerApdus.{SpellsFormerBody, SpellsFormerApdu, IsKept}
 
 -- ---- heads in front of bodies
-
-one_no_greater : (m n : ℕ) → m ≤ n → NoGreater (m ∷ []) (n ∷ [])
-one_no_greater m n le = inr (refl, at)
-  where
-    at : (k : ℕ) → k < 1 → slice_index (m ∷ []) k ≤ slice_index (n ∷ []) k
-    at k h = let e : k ≡ 0 = omega arith in rw e le
 
 -- the body behind a head, and the same body behind the least one
 body_behind : (ps : List Part) (B : List ℕ → Type 0) (b : List ℕ) → Headed ps B b → (rest : List ℕ) × B rest × NoGreater (least_head ps ++ rest) b

@@ -17,15 +17,10 @@ use Rattle.bac_apdu.specs.FirstOctet.{type_at, seg_at}
 use Rattle.bac_apdu.specs.Segment.{segment_head, segment_head_size}
 use Rattle.bac_apdu.specs.Apdus.{ApduValue, confirmed_request, unconfirmed_request, simple_ack, complex_ack, segment_ack, error, reject, abort, segment, head_of, SpellsBody, SpellsApdu, IsSegment}
 use Rattle.bac_apdu.specs.Decoded.{small_of, begins_small, is_small}
-use Rattle.bac_tag.proofs.HeadOctetLemmas.{parts_are, headed_least, length-least}
+use Rattle.bac_tag.proofs.HeadOctetLemmas.{parts_are, headed_rest, headed_least, length-least}
 use Rattle.bac_apdu.proofs.TypeLemmas.{named, nothing_spells}
 
 -- what stands behind a head
-headed_rest : (ps : List Part) (B : List ℕ → Type 0) (b : List ℕ) → Headed ps B b → (c : List ℕ) × B c
-headed_rest [] B b h = (b, h)
-headed_rest (p ∷ ps) B [] h = absurd h
-headed_rest (p ∷ ps) B (o ∷ b) h = headed_rest ps B b h.1
-
 -- the only list
 one_least : (B : List ℕ → Type 0) (piece : List ℕ) → B piece → ((c : List ℕ) → B c → c ≡ piece) → IsLeast B piece
 one_least B piece h only = record { member = h; least = λ c k. NoGreater-same piece c (sym (only c k)) }

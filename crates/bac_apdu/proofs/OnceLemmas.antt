@@ -7,7 +7,8 @@ use Rattle.bac_service.specs.ServiceValues.{ServiceValue}
 use Rattle.bac_service.specs.Services.{SpellsService}
 use Rattle.bac_apdu.specs.declared.confirmed_request.RequestHead.{RequestHead}
 use Rattle.bac_apdu.specs.declared.segment.SegHead.TheVariants.{Request, Ack}
-use Rattle.bac_tag.specs.HeadOctets.{Part, bit_of, SpellsPart, Headed}
+use Rattle.bac_tag.specs.HeadOctets.{Part, SpellsPart, Headed}
+use Rattle.bac_tag.proofs.HeadOctetLemmas.{bit_once}
 use Rattle.bac_apdu.specs.FirstOctet.{seg_at}
 use Rattle.bac_apdu.specs.Apdus.{ApduValue, confirmed_request, unconfirmed_request, simple_ack, complex_ack, segment_ack, error, reject, abort, segment, head_of, SpellsServiceOf, SpellsBody, SpellsApdu}
 use Rattle.bac_apdu.proofs.TypeLemmas.{named, nothing_spells}
@@ -32,12 +33,6 @@ agree [] (r ∷ qs) B C b e p q = absurd (omega (arith, e))
 agree (r ∷ ps) [] B C b e p q = absurd (omega (arith, e))
 agree (r ∷ ps) (s ∷ qs) B C [] e p q = absurd p
 agree (r ∷ ps) (s ∷ qs) B C (o ∷ b) e p q = let t = agree ps qs B C b (omega (arith, e)) p.1 q.1 in (((o, p.0, q.0), t.0), t.1)
-
-bit_once : (f g : Bool) (n : ℕ) → n ≡ bit_of f → n ≡ bit_of g → f ≡ g
-bit_once true true n p q = refl
-bit_once false false n p q = refl
-bit_once true false n p q = absurd (omega (arith, p, q))
-bit_once false true n p q = absurd (omega (arith, p, q))
 
 head_once : (h k : RequestHead) → h.invoke ≡ k.invoke → h.sa ≡ k.sa → h.segs ≡ k.segs → h.resp ≡ k.resp → h ≡ k
 head_once h k e f g r =

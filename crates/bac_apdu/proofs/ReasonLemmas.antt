@@ -13,6 +13,7 @@ use Rattle.bac_apdu.specs.FirstOctet.{type_at, seg_at, head_size, window_place, 
 use Rattle.bac_apdu.specs.Apdus.{reject, SpellsApdu}
 use Rattle.bac_apdu.specs.Decoded.{small_of, begins_small, IsReasoned, IsRefused}
 use Rattle.bac_tag.proofs.BehindLemmas.{whole_short, whole_hopeless}
+use Rattle.bac_tag.proofs.HeadOctetLemmas.{bit_is}
 use Rattle.bac_tag.proofs.FilledLemmas.{filled, filled_viable}
 use Rattle.bac_apdu.proofs.TypeLemmas.{told, too_short, nothing_spells}
 
@@ -20,11 +21,6 @@ use Rattle.bac_apdu.proofs.TypeLemmas.{told, too_short, nothing_spells}
 
 abbrev pub flag_at : ℕ → ℕ → Bool
 flag_at place o = nat_eq (o / 2 ^ place % 2) 1
-
-bit_is : (n : ℕ) → n < 2 → n ≡ bit_of (nat_eq n 1)
-bit_is zero lt = refl
-bit_is (suc zero) lt = refl
-bit_is (suc (suc n)) lt = absurd (omega arith)
 
 pub flag_is : (place o : ℕ) → o / 2 ^ place % 2 ≡ bit_of (flag_at place o)
 flag_is place o = bit_is (o / 2 ^ place % 2) (bit_at-lt o place)

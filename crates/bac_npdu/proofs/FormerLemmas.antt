@@ -2,7 +2,7 @@
 use Rattle.std.specs.Prelude.{◌≡◌, ℕ, ◌%◌, ◌<◌, ◌≤◌, List, [], ◌∷◌, ◌++◌, length, refl}
 use Rattle.std.proofs.Common.{inl, inr, sym, ◌∙◌, ap, subst, arith}
 use Rattle.bac_tag.specs.Octets.{NoGreater}
-use Rattle.bac_tag.specs.Laws.Octets.{NoGreater-refl, NoGreater-antisym, NoGreater-append}
+use Rattle.bac_tag.specs.Laws.Octets.{NoGreater-refl, NoGreater-antisym, NoGreater-append, one_no_greater}
 use Rattle.bac_tag.specs.Spelling.{IsLeast}
 use Rattle.bac_tag.specs.HeadOctets.{octet, Headed}
 use Rattle.bac_apdu.specs.Apdus.{ApduValue, SpellsApdu}
@@ -11,7 +11,7 @@ use Rattle.bac_apdu.proofs.FormerLemmas.{no_greater_behind, headed_alone, least_
 use Rattle.bac_npdu.specs.Control.{ControlValue, IsControl, Controlled, least_of}
 use Rattle.bac_npdu.specs.Frames.{BodyValue, apdu, message, FrameValue, control_of, addresses_of, SpellsBody, SpellsFrame}
 use Rattle.bac_npdu.specs.FormerFrames.{SpellsFormerBody, SpellsFormerFrame, IsKept}
-use Rattle.bac_npdu.proofs.FrameLemmas.{one_no_greater, control_spelled, control_lowest, controlled_least}
+use Rattle.bac_npdu.proofs.FrameLemmas.{control_spelled, control_lowest, controlled_least}
 
 controlled_alone : (c : ControlValue) (A B : List ℕ → Type 0) (b : List ℕ) → ((d : List ℕ) → A d → B d) → Controlled c A b → Controlled c B b
 controlled_alone c A B [] to h = absurd h
@@ -39,9 +39,11 @@ module _ (spelled : (v : ApduValue) (b : List ℕ) → IsKeptApdu v → SpellsFo
 
   pub frame_kept : (f : FrameValue) (b : List ℕ) → IsKept f.body → SpellsFormerFrame f b → SpellsFrame f b
   frame_kept f b k p =
-      let inner = λ (d : List ℕ). headed_alone (addresses_of f) (SpellsFormerBody f.body) (SpellsBody f.body) d (λ e h. body_kept f.body e k h) in
-      (p.0, headed_alone (octet 1 ∷ []) (Controlled (control_of f) (Headed (addresses_of f) (SpellsFormerBody f.body))) (Controlled (control_of f) (Headed (addresses_of f) (SpellsBody f.body))) b
-          (λ e h. controlled_alone (control_of f) (Headed (addresses_of f) (SpellsFormerBody f.body)) (Headed (addresses_of f) (SpellsBody f.body)) e inner h) p.1)
+      let inner = λ (d : List ℕ). headed_alone (addresses_of f) (SpellsFormerBody f.body) (SpellsBody f.body) d (λ e h. body_kept f.body e k h) in (
+        p.0,
+        headed_alone (octet 1 ∷ []) (Controlled (control_of f) (Headed (addresses_of f) (SpellsFormerBody f.body))) (Controlled (control_of f) (Headed (addresses_of f) (SpellsBody f.body))) b
+            (λ e h. controlled_alone (control_of f) (Headed (addresses_of f) (SpellsFormerBody f.body)) (Headed (addresses_of f) (SpellsBody f.body)) e inner h) p.1,
+      )
 
   pub frame_least_kept : (f : FrameValue) (b : List ℕ) → IsKept f.body → IsLeast (SpellsFormerFrame f) b → IsLeast (SpellsFrame f) b
   frame_least_kept f b k L =

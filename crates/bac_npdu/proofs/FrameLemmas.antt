@@ -2,7 +2,7 @@
 use Rattle.std.specs.Prelude.{◌≡◌, ℕ, ◌<◌, ◌≤◌, Bool, true, false, List, [], ◌∷◌, ◌++◌, length, slice_index, Result, Ok, Err, OnOk, refl}
 use Rattle.std.proofs.Common.{inr, sym, ◌∙◌, ap, subst, append_assoc, append-nil, get_or, arith}
 use Rattle.bac_tag.specs.Octets.{IsOctets, NoGreater}
-use Rattle.bac_tag.specs.Laws.Octets.{NoGreater-append, NoGreater-same, octets_back}
+use Rattle.bac_tag.specs.Laws.Octets.{NoGreater-append, NoGreater-same, one_no_greater, octets_front, octets_back}
 use Rattle.bac_tag.specs.Spelling.{IsLeast, AppendsLeast}
 use Rattle.bac_tag.specs.HeadOctets.{octet, bit_of, Headed, least_head, AreParts}
 use Rattle.bac_tag.proofs.HeadOctetLemmas.{headed_least}
@@ -16,12 +16,6 @@ use Rattle.bac_npdu.proofs.NumberLemmas.{numbers_parts, message_numbers, address
 bit_small : (f : Bool) → bit_of f ≤ 1
 bit_small true = omega arith
 bit_small false = omega arith
-
-pub one_no_greater : (m n : ℕ) → m ≤ n → NoGreater (m ∷ []) (n ∷ [])
-one_no_greater m n le = inr (refl, at)
-  where
-    at : (k : ℕ) → k < 1 → slice_index (m ∷ []) k ≤ slice_index (n ∷ []) k
-    at k h = let e : k ≡ 0 = omega arith in rw e le
 
 pub control_spelled : (c : ControlValue) → c.priority < 4 → IsControl c (least_of c)
 control_spelled c h =
@@ -50,10 +44,6 @@ frame_least f b a p parts L =
     record { member = (a, outer.member); least = λ d h. outer.least d h.1 }
 
 -- ---- what is in a vector of octets is octets
-
-octets_front : (a b : List ℕ) → IsOctets (a ++ b) → IsOctets a
-octets_front [] b h = tt
-octets_front (o ∷ a) b h = (h.0, octets_front a b h.1)
 
 pub behind_octets : (old more new : List ℕ) → ((k : ℕ) (d : ℕ) → k < length new → get_or new k d < 256) → new ≡ old ++ more → IsOctets more
 behind_octets old more new small e = octets_back old more (subst IsOctets e (octets_held new (λ k lt. small k 0 lt)))

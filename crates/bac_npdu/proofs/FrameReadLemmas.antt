@@ -8,7 +8,7 @@ use Rattle.bac_tag.specs.declared.refusals.Refusal.{Refusal}
 use Rattle.bac_tag.specs.declared.refusals.Why.{Why}
 use Rattle.bac_tag.specs.declared.refusals.Why.TheVariants.{Trailing, Version, Address, PduType, Window, OutOfMemory}
 use Rattle.bac_tag.specs.Octets.{IsOctets, IsMark, joined_mark}
-use Rattle.bac_tag.specs.Laws.Octets.{octets_at, mark-append, differs_at}
+use Rattle.bac_tag.specs.Laws.Octets.{octets_at, octets_front, mark-append, differs_at}
 use Rattle.bac_tag.specs.Refusals.{behind}
 use Rattle.bac_tag.specs.Spelling.{IsLeast, HasMark, IsWholeRefusal}
 use Rattle.bac_tag.specs.HeadOctets.{HasBit, least_head}
@@ -25,7 +25,7 @@ use Rattle.bac_npdu.specs.Heads.{says_message, says_destination, says_source, so
 use Rattle.bac_npdu.specs.Decoded.{few_octets, begins_small_message, begins_small, IsReasoned, IsRefused, IsFound}
 use Rattle.bac_npdu.specs.HeadsRead.{from_octets, hops_octets, address_of, behind_control, IsHead, IsLong, control_at, IsControlMark, SpellsBodyOf, IsBodyFound, IsBodyRefused}
 use Rattle.bac_npdu.proofs.WrittenLemmas.{least_octets_then}
-use Rattle.bac_npdu.proofs.HeadLemmas.{addresses_agree, flag_once, flag_told, octets_front}
+use Rattle.bac_npdu.proofs.HeadLemmas.{addresses_agree, flag_once, flag_told}
 use Rattle.bac_npdu.proofs.PlaceLemmas.{addresses, at_body, length_at, as_address}
 use Rattle.bac_npdu.proofs.FrameLemmas.{frame_least}
 use Rattle.bac_npdu.proofs.HeadRefusedLemmas.{frame_of, frame_every, parts_of, head_then}

@@ -3,6 +3,8 @@ use Rattle.std.specs.Prelude.{◌≡◌, ℕ, zero, suc, ◌/◌, ◌%◌, ◌^�
 use Rattle.std.proofs.Common.{sym, ◌∙◌, ap, arith}
 use Rattle.std.proofs.lemmas.Nat.Bits.{bit_at-lt}
 use Rattle.bac_tag.specs.Octets.{IsOctets}
+use Rattle.bac_tag.specs.Laws.Octets.{octets_front, octets_back}
+use Rattle.bac_tag.proofs.HeadOctetLemmas.{bit_once, bit_is}
 use Rattle.bac_tag.specs.HeadOctets.{Part, octet, bit_of, HasBit, Headed}
 use Rattle.bac_npdu.specs.Addresses.{SourceValue, DestinationValue, addressed, destination_of, source_of, hops_of}
 use Rattle.bac_npdu.specs.Frames.{is_there}
@@ -28,14 +30,6 @@ fronts_agree (x ∷ a) (y ∷ c) r s e h =
     let q = fronts_agree a c r s (omega (arith, e)) (cons_tail x y (a ++ r) (c ++ s) h) in
     (cons_same x y a c (cons_head x y (a ++ r) (c ++ s) h) q.0, q.1)
 
-pub octets_front : (a b : List ℕ) → IsOctets (a ++ b) → IsOctets a
-octets_front [] b h = tt
-octets_front (o ∷ a) b h = (h.0, octets_front a b h.1)
-
-pub octets_behind : (a b : List ℕ) → IsOctets (a ++ b) → IsOctets b
-octets_behind [] b h = h
-octets_behind (o ∷ a) b h = octets_behind a b h.1
-
 -- ---- from values to octets
 
 octets_every : (xs : List ℕ) (ps : List Part) (B : List ℕ → Type 0) (b : List ℕ) → IsOctets xs → Headed ps B b → Headed (map octet xs ++ ps) B (xs ++ b)
@@ -59,8 +53,8 @@ to_every (Some d) ps B b o h = address_every d.network d.address ps B b o h
 
 pub addresses_every : (d : Option DestinationValue) (s : Option SourceValue) (B : List ℕ → Type 0) (b : List ℕ) → IsOctets (behind_control d s []) → B b → Headed (destination_of d (source_of s (hops_of d))) B (behind_control d s b)
 addresses_every d s B b o h =
-    let p = octets_behind (from_octets (address_of d)) (from_octets s ++ (hops_octets d ++ [])) o in
-    let q = octets_front (hops_octets d) [] (octets_behind (from_octets s) (hops_octets d ++ []) p) in
+    let p = octets_back (from_octets (address_of d)) (from_octets s ++ (hops_octets d ++ [])) o in
+    let q = octets_front (hops_octets d) [] (octets_back (from_octets s) (hops_octets d ++ []) p) in
     let inner = from_every s (hops_of d) B (hops_octets d ++ b) (octets_front (from_octets s) (hops_octets d ++ []) p) (hops_every d B b q h) in
     to_every d (source_of s (hops_of d)) B (from_octets s ++ (hops_octets d ++ b)) (octets_front (from_octets (address_of d)) (from_octets s ++ (hops_octets d ++ [])) o) inner
 
@@ -141,24 +135,13 @@ addresses_agree (Some x) (Some y) u v r s t w e =
 
 -- ---- flags
 
-bit_once : (f g : Bool) → bit_of f ≡ bit_of g → f ≡ g
-bit_once true true e = refl
-bit_once false false e = refl
-bit_once true false e = absurd (omega (arith, e))
-bit_once false true e = absurd (omega (arith, e))
-
 pub flag_once : (n o : ℕ) (f g : Bool) → HasBit n (Some f) o → HasBit n (Some g) o → f ≡ g
-flag_once n o f g h k = bit_once f g (sym h ∙ k)
+flag_once n o f g h k = bit_once f g (o / 2 ^ n % 2) h k
 
 -- the flag as the octet tells it
 pub flag_told : (n o : ℕ) (f : Bool) → HasBit n (Some f) o → nat_eq (o / 2 ^ n % 2) 1 ≡ f
 flag_told n o true h = ap (λ (k : ℕ). nat_eq k 1) h
 flag_told n o false h = ap (λ (k : ℕ). nat_eq k 1) h
-
-bit_is : (n : ℕ) → n < 2 → n ≡ bit_of (nat_eq n 1)
-bit_is zero lt = refl
-bit_is (suc zero) lt = refl
-bit_is (suc (suc n)) lt = absurd (omega arith)
 
 pub flag_is : (n o : ℕ) → HasBit n (Some (nat_eq (o / 2 ^ n % 2) 1)) o
 flag_is n o = bit_is (o / 2 ^ n % 2) (bit_at-lt o n)

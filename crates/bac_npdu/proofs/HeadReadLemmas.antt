@@ -63,18 +63,6 @@ module _ (octets : List ℕ) (small : (k : ℕ) → slice_index octets k < 256) 
           let at : octets ≡ 1 ∷ c ∷ (from_octets g ++ from_octets s) = to_source ∙ ap (λ (l : List ℕ). 1 ∷ c ∷ (from_octets g ++ (from_octets s ++ l))) end ∙ ap (λ (l : List ℕ). 1 ∷ c ∷ (from_octets g ++ l)) (append-nil (from_octets s)) in
           subst (λ (l : List ℕ). IsRefused l (record { place = length l; why = Short })) (sym at) (hops_cut c g h s t k a (subst IsOctets at all_are))
 
-      pub read_found : (d : Option DestinationValue) (rest : List ℕ) → address_of d ≡ g → b ≡ hops_octets d ++ rest → IsHead octets c d s rest
-      read_found d rest same end = record {
-        octets_are = to_source ∙ ap (λ (x : Option SourceValue). 1 ∷ c ∷ (from_octets x ++ (from_octets s ++ b))) (sym same) ∙ ap (λ (l : List ℕ). 1 ∷ c ∷ (from_octets (address_of d) ++ (from_octets s ++ l))) end;
-        destination = there d same;
-        source = k;
-        address = a;
-      }
-        where
-          there : (d : Option DestinationValue) → address_of d ≡ g → HasBit 5 (Some (is_there d)) c
-          there None same = subst (λ (x : Option SourceValue). HasBit 5 (Some (is_there x)) c) (sym same) h
-          there (Some d) same = subst (λ (x : Option SourceValue). HasBit 5 (Some (is_there x)) c) (sym same) h
-
 -- a source whose length is not 0 has an address
 pub address_some : (a : Option Addressed) (r more : List ℕ) → r ≡ from_octets (address_read a) ++ more → ((3 ≤ length r) → slice_index r 2 ≡ 0 → is_there a ≡ true → ⊥) → HasAddress (address_read a)
 address_some None r more e some = tt

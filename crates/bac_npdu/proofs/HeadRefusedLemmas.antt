@@ -4,7 +4,7 @@ use Rattle.std.proofs.Common.{inl, inr, sym, ◌∙◌, ap, subst, append_assoc,
 use Rattle.std.proofs.lemmas.List.{length-append, append-nil}
 use Rattle.bac_tag.specs.declared.refusals.Why.TheVariants.{Short, Trailing, Version, Address, PduType, Window, OutOfMemory}
 use Rattle.bac_tag.specs.Octets.{IsOctets}
-use Rattle.bac_tag.specs.Laws.Octets.{octets_append, octets_back, zeros_to, octets_filled, length-filled}
+use Rattle.bac_tag.specs.Laws.Octets.{octets_append, octets_front, octets_back, zeros_to, octets_filled, length-filled}
 use Rattle.bac_tag.specs.Spelling.{IsViable, IsWholeRefusal}
 use Rattle.bac_tag.specs.HeadOctets.{HasBit}
 use Rattle.bac_tag.proofs.BehindLemmas.{viable_shorter, whole_short, whole_hopeless}
@@ -16,7 +16,7 @@ use Rattle.bac_npdu.specs.Frames.{BodyValue, apdu, message, FrameValue, is_there
 use Rattle.bac_npdu.specs.Heads.{says_destination, says_source, source_place, hops_place, body_place}
 use Rattle.bac_npdu.specs.Decoded.{IsReasoned, IsRefused}
 use Rattle.bac_npdu.specs.HeadsRead.{address_octets, from_octets, hops_octets, address_of, behind_control, IsCutAddress}
-use Rattle.bac_npdu.proofs.HeadLemmas.{addresses_every, addresses_only, from_agrees, flag_once, flag_told, flag_is, octets_front}
+use Rattle.bac_npdu.proofs.HeadLemmas.{addresses_every, addresses_only, from_agrees, flag_once, flag_told, flag_is}
 use Rattle.bac_npdu.proofs.PlaceLemmas.{at_source, at_hops, length_at, as_address, behind_at, source_near, source_far, hops_far}
 
 -- ---- a frame for every head

@@ -5,7 +5,7 @@ use Rattle.bac_tag.specs.Octets.{NoGreater}
 use Rattle.bac_tag.specs.Spelling.{IsLeast}
 use Rattle.bac_tag.specs.HeadOctets.{Part, Headed, least_head}
 use Rattle.bac_tag.specs.Laws.Octets.{NoGreater-same}
-use Rattle.bac_tag.proofs.HeadOctetLemmas.{parts_are, headed_least}
+use Rattle.bac_tag.proofs.HeadOctetLemmas.{parts_are, headed_rest, headed_least}
 use Rattle.bac_apdu.specs.Apdus.{ApduValue, SpellsApdu}
 use Rattle.bac_npdu.specs.Messages.{MessageValue, octets_of, SpellsMessage}
 use Rattle.bac_npdu.specs.Control.{least_of}
@@ -20,11 +20,6 @@ pub frame_no_longer : (f : FrameValue) (b c : List ℕ) → IsLeast (SpellsFrame
 frame_no_longer f b c L s = no_longer c b (L.least b s)
 
 -- what stands behind a head
-headed_rest : (ps : List Part) (B : List ℕ → Type 0) (b : List ℕ) → Headed ps B b → (c : List ℕ) × B c
-headed_rest [] B b h = (b, h)
-headed_rest (p ∷ ps) B [] h = absurd h
-headed_rest (p ∷ ps) B (o ∷ b) h = headed_rest ps B b h.1
-
 nothing_least : IsLeast (λ (rest : List ℕ). rest ≡ []) []
 nothing_least = record { member = refl; least = λ c e. NoGreater-same [] c (sym e) }
 

@@ -94,7 +94,7 @@ high_octet a b lt = omega (arith, lt)
 pub low_octet : (a b : ℕ) → b < 256 → b ≡ (256 * a + b) % 256
 low_octet a b lt = omega (arith, lt)
 
-nothing_spells : (m : MessageValue) → SpellsMessage m [] → ⊥
+pub nothing_spells : (m : MessageValue) → SpellsMessage m [] → ⊥
 nothing_spells (who_is_router x) p = p.1
 nothing_spells (i_am_router x) p = p.1
 nothing_spells (i_could_be_router x y) p = p.1

@@ -15,6 +15,7 @@ use Rattle.bac_npdu.specs.Addresses.{SourceValue, DestinationValue}
 use Rattle.bac_npdu.specs.Frames.{BodyValue, apdu, message, FrameValue, is_there, is_message, SpellsBody, SpellsFrame}
 use Rattle.bac_npdu.specs.Meanings.{MeanTheSame, IsNormalOf}
 use Rattle.bac_npdu.proofs.HeadLemmas.{octets_only, cons_same, addresses_agree, flag_once}
+use Rattle.bac_npdu.proofs.MessageLemmas.{nothing_spells}
 use Rattle.bac_npdu.proofs.HeadRefusedLemmas.{parts_of}
 
 -- ---- network messages, read from their octets
@@ -172,22 +173,7 @@ message_is (opaque m) o b h = untyped m.vendor refl
         layoutless ∙ ap (λ (f : Bool). cond f (opaque (record { kind = o; vendor = None; octets = b })) (opaque (record { kind = o; vendor = Some (number_at 0 b); octets = drop 2 b }))) (lt-leb (suc o) 128 (omega (arith, high))) ∙ ap opaque (opaque_is m (Some (number_at 0 b)) o (drop 2 b) h.1.0.0 some q.1)
 
 pub message_one : (m n : MessageValue) (b : List ℕ) → SpellsMessage m b → SpellsMessage n b → m ≡ n
-message_one m n [] p q = absurd (nothing m p)
-  where
-    nothing : (m : MessageValue) → SpellsMessage m [] → ⊥
-    nothing (who_is_router x) p = p.1
-    nothing (i_am_router x) p = p.1
-    nothing (i_could_be_router x y) p = p.1
-    nothing (reject_message x y) p = p.1
-    nothing (router_busy x) p = p.1
-    nothing (router_available x) p = p.1
-    nothing (init_table x) p = p.1
-    nothing (init_table_ack x) p = p.1
-    nothing (establish x y) p = p.1
-    nothing (disconnect x) p = p.1
-    nothing what_is_network_number p = p.1
-    nothing (network_number_is x y) p = p.1
-    nothing (opaque x) p = p.1
+message_one m n [] p q = absurd (nothing_spells m p)
 message_one m n (o ∷ b) p q = sym (message_is m o b p) ∙ message_is n o b q
 
 -- ---- frames

@@ -4,6 +4,7 @@ ghost use Rattle.std.specs.Prelude.{◌≡◌, ◌≢◌, ◌↔◌, true, IfOk,
 ghost use Rattle.bac_tag.specs.declared.refusals.Why.TheVariants.{OutOfMemory};
 ghost use Rattle.bac_tag.specs.Spelling.{HasMark, IsLeast, IsSpelling, IsWholeRefusal};
 ghost use Rattle.bac_npdu.specs.Frames.{SpellsFrame, value_of};
+ghost use Rattle.bac_npdu.specs.Decoded.{IsReasoned};
 ghost use Rattle.bac_npdu.specs.Meanings.{MeanTheSame};
 
 use crate::frame::Frame;
@@ -29,6 +30,7 @@ fn read(alloc: Global, side: Side, octets: &[u8]) -> Result<(Frame, Option<usize
     ensures side { IfErr result (λ told. told.0 ≡ side) }
     ensures refused { IfErr result (λ told. told.1.why ≢ OutOfMemory → IsWholeRefusal SpellsFrame octets.now told.1) }
     ensures memory { IfErr result (λ told. told.1.why ≡ OutOfMemory → told.1.place ≡ 0) }
+    ensures reasons { IfErr result (λ told. IsReasoned octets.now told.1) }
 {
     match decode_marked(alloc, octets) {
         Ok(found) => Ok(found),
@@ -53,7 +55,9 @@ pub fn same_meaning(alloc: Global, left: &[u8], right: &[u8]) -> Result<bool, (S
     ensures spelled { IfOk result (λ same. IsSpelling SpellsFrame left.now × IsSpelling SpellsFrame right.now) }
     ensures same { IfOk result (λ same. (same ≡ true) ↔ MeanTheSame left.now right.now) }
     ensures left { IfErr result (λ told. told.0 ≡ Side.Left → told.1.why ≢ OutOfMemory → IsWholeRefusal SpellsFrame left.now told.1) }
+    ensures left_reasons { IfErr result (λ told. told.0 ≡ Side.Left → told.1.why ≢ OutOfMemory → IsReasoned left.now told.1) }
     ensures right { IfErr result (λ told. told.0 ≡ Side.Right → told.1.why ≢ OutOfMemory → IsSpelling SpellsFrame left.now × IsWholeRefusal SpellsFrame right.now told.1) }
+    ensures right_reasons { IfErr result (λ told. told.0 ≡ Side.Right → told.1.why ≢ OutOfMemory → IsReasoned right.now told.1) }
     ensures memory { IfErr result (λ told. told.1.why ≡ OutOfMemory → told.1.place ≡ 0) }
 {
     // By this law equal canonical octets are those of one frame.

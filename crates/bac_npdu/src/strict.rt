@@ -1,9 +1,10 @@
 //! Canonical octets alone, and canonical octets of what was read.
 
-ghost use Rattle.std.specs.Prelude.{◌≡◌, ◌≢◌, false, IfOk, IfErr};
+ghost use Rattle.std.specs.Prelude.{◌≡◌, ◌≢◌, ◌↔◌, false, IfOk, IfErr};
 ghost use Rattle.bac_tag.specs.Spelling.{IsLeast, IsWholeRefusal};
 ghost use Rattle.bac_npdu.specs.Frames.{SpellsFrame, value_of};
-ghost use Rattle.bac_npdu.specs.Decoded.{begins_small};
+ghost use Rattle.bac_npdu.specs.Heads.{IsVersionPlace, IsAddressPlace};
+ghost use Rattle.bac_npdu.specs.Decoded.{begins_small, IsPduTypePlace, IsFrameWindowPlace, IsFrameReason};
 ghost use Rattle.bac_npdu.specs.Meanings.{IsNormalOf, IsFirstFlaw};
 
 use crate::frame::Frame;
@@ -22,6 +23,11 @@ pub fn decode_strict(alloc: Global, octets: &[u8]) -> Result<Frame, Refusal>
     ensures flaw { IfErr result (λ refusal. refusal.why ≡ Why.NotCanonical → IsFirstFlaw octets.now refusal.place) }
     ensures refused { IfErr result (λ refusal. refusal.why ≢ Why.OutOfMemory → refusal.why ≢ Why.NotCanonical → IsWholeRefusal SpellsFrame octets.now refusal) }
     ensures memory { IfErr result (λ refusal. refusal.why ≡ Why.OutOfMemory → (refusal.place ≡ 0) × (begins_small octets.now ≡ false)) }
+    ensures versions { IfErr result (λ refusal. refusal.why ≢ Why.NotCanonical → (refusal.why ≡ Why.Version) ↔ IsVersionPlace octets.now refusal.place) }
+    ensures addresses { IfErr result (λ refusal. refusal.why ≢ Why.NotCanonical → (refusal.why ≡ Why.Address) ↔ IsAddressPlace octets.now refusal.place) }
+    ensures types { IfErr result (λ refusal. refusal.why ≢ Why.NotCanonical → (refusal.why ≡ Why.PduType) ↔ IsPduTypePlace octets.now refusal.place) }
+    ensures windows { IfErr result (λ refusal. refusal.why ≢ Why.NotCanonical → (refusal.why ≡ Why.Window) ↔ IsFrameWindowPlace octets.now refusal.place) }
+    ensures reasons { IfErr result (λ refusal. refusal.why ≢ Why.NotCanonical → IsFrameReason refusal.why) }
 {
     let (frame, mark) = decode_marked(alloc, octets)?;
     match mark {
@@ -38,6 +44,11 @@ pub fn normalise_frame(alloc: Global, octets: &[u8]) -> Result<Vec<u8>, Refusal>
     ensures written { IfOk result (λ out. IsNormalOf octets.now out.items) }
     ensures refused { IfErr result (λ refusal. refusal.why ≢ Why.OutOfMemory → IsWholeRefusal SpellsFrame octets.now refusal) }
     ensures memory { IfErr result (λ refusal. refusal.why ≡ Why.OutOfMemory → refusal.place ≡ 0) }
+    ensures versions { IfErr result (λ refusal. refusal.why ≢ Why.OutOfMemory → (refusal.why ≡ Why.Version) ↔ IsVersionPlace octets.now refusal.place) }
+    ensures addresses { IfErr result (λ refusal. refusal.why ≢ Why.OutOfMemory → (refusal.why ≡ Why.Address) ↔ IsAddressPlace octets.now refusal.place) }
+    ensures types { IfErr result (λ refusal. refusal.why ≢ Why.OutOfMemory → (refusal.why ≡ Why.PduType) ↔ IsPduTypePlace octets.now refusal.place) }
+    ensures windows { IfErr result (λ refusal. refusal.why ≢ Why.OutOfMemory → (refusal.why ≡ Why.Window) ↔ IsFrameWindowPlace octets.now refusal.place) }
+    ensures reasons { IfErr result (λ refusal. IsFrameReason refusal.why) }
 {
     let frame = decode_frame(alloc, octets)?;
     encode_frame(alloc, &frame).map_err(|_refused| Refusal::out_of_memory())

@@ -1,10 +1,23 @@
 -- Heads: their least octets, and their marks.
-use Rattle.std.specs.Prelude.{slice_index, ◌^◌}
-use Rattle.std.proofs.Common.{◌≡◌, ℕ, suc, ◌/◌, ◌%◌, ◌<◌, ◌≤◌, inr, List, [], ◌∷◌, ◌++◌, length, Option, None, Some, Bool, true, false, refl, ap, arith}
+use Rattle.std.specs.Prelude.{◌^◌, nat_eq}
+use Rattle.std.proofs.Common.{◌≡◌, ℕ, zero, suc, ◌/◌, ◌%◌, ◌<◌, ◌≤◌, inr, List, [], ◌∷◌, ◌++◌, length, Option, None, Some, Bool, true, false, refl, ap, arith}
 use Rattle.bac_tag.specs.Octets.{NoGreater, IsMark, joined_mark}
-use Rattle.bac_tag.specs.Laws.Octets.{NoGreater-append, mark-append}
+use Rattle.bac_tag.specs.Laws.Octets.{NoGreater-append, one_no_greater, mark-append}
 use Rattle.bac_tag.specs.Spelling.{IsLeast, HasMark}
-use Rattle.bac_tag.specs.HeadOctets.{Part, typed, limits, octet, window, HasBit, SpellsPart, Headed, bit_or_zero, least_part, least_head, IsPart, AreParts}
+use Rattle.bac_tag.specs.HeadOctets.{Part, typed, limits, octet, window, bit_of, HasBit, SpellsPart, Headed, bit_or_zero, least_part, least_head, IsPart, AreParts}
+
+-- a number is the bit of one flag
+pub bit_once : (f g : Bool) (n : ℕ) → n ≡ bit_of f → n ≡ bit_of g → f ≡ g
+bit_once true true n p q = refl
+bit_once false false n p q = refl
+bit_once true false n p q = absurd (omega (arith, p, q))
+bit_once false true n p q = absurd (omega (arith, p, q))
+
+-- a bit as a flag
+pub bit_is : (n : ℕ) → n < 2 → n ≡ bit_of (nat_eq n 1)
+bit_is zero lt = refl
+bit_is (suc zero) lt = refl
+bit_is (suc (suc n)) lt = absurd (omega arith)
 
 bit_small : (f : Option Bool) → bit_or_zero f ≤ 1
 bit_small None = omega arith
@@ -53,12 +66,6 @@ parts_are [] B b h = tt
 parts_are (p ∷ ps) B [] h = absurd h
 parts_are (p ∷ ps) B (o ∷ b) h = (part_is p o h.0, parts_are ps B b h.1)
 
-one_no_greater : (m n : ℕ) → m ≤ n → NoGreater (m ∷ []) (n ∷ [])
-one_no_greater m n le = inr (refl, at)
-  where
-    at : (k : ℕ) → k < 1 → slice_index (m ∷ []) k ≤ slice_index (n ∷ []) k
-    at k h = let e : k ≡ 0 = omega arith in rw e le
-
 headed_spelled : (ps : List Part) (B : List ℕ → Type 0) (c : List ℕ) → AreParts ps → B c → Headed ps B (least_head ps ++ c)
 headed_spelled [] B c v s = s
 headed_spelled (p ∷ ps) B c v s = (part_spelled p v.0, headed_spelled ps B c v.1 s)
@@ -67,6 +74,12 @@ headed_lowest : (ps : List Part) (B : List ℕ → Type 0) (c b : List ℕ) → 
 headed_lowest [] B c b least h = least b h
 headed_lowest (p ∷ ps) B c [] least h = absurd h
 headed_lowest (p ∷ ps) B c (o ∷ b) least h = NoGreater-append (least_part p ∷ []) (o ∷ []) (least_head ps ++ c) b (one_no_greater (least_part p) o (part_least p o h.0)) (headed_lowest ps B c b least h.1)
+
+-- what stands behind a head is a body
+pub headed_rest : (ps : List Part) (B : List ℕ → Type 0) (b : List ℕ) → Headed ps B b → (c : List ℕ) × B c
+headed_rest [] B b h = (b, h)
+headed_rest (p ∷ ps) B [] h = absurd h
+headed_rest (p ∷ ps) B (o ∷ b) h = headed_rest ps B b h.1
 
 -- the least list: each part's least octet, and the least list of the body
 pub headed_least : (ps : List Part) (B : List ℕ → Type 0) (c : List ℕ) → AreParts ps → IsLeast B c → IsLeast (Headed ps B) (least_head ps ++ c)

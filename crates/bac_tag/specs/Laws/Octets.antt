@@ -53,6 +53,13 @@ NoGreater-append a b c d (inl p) (inr q) = inl (omega (arith, q.0, length-append
 NoGreater-append a b c d (inr p) (inl q) = inl (omega (arith, p.0, length-append a c, length-append b d))
 NoGreater-append a b c d (inr p) (inr q) = inr (omega (arith, p.0, q.0, length-append a c, length-append b d), joined_at a b c d p.0 p.1 q.1)
 
+-- lists of one number each
+pub one_no_greater : (m n : ℕ) → m ≤ n → NoGreater (m ∷ []) (n ∷ [])
+one_no_greater m n le = inr (refl, at)
+  where
+    at : (k : ℕ) → k < 1 → get_or (m ∷ []) k 0 ≤ get_or (n ∷ []) k 0
+    at k h = let e : k ≡ 0 = omega arith in rw e le
+
 -- ---- octets
 
 -- what the type of a slice says of its octets
@@ -74,6 +81,10 @@ octets_drop k octets h = recursion_from_All (λ x. x < 256) _ (All-drop (λ x. x
 pub octets_append : (a b : List ℕ) → IsOctets a → IsOctets b → IsOctets (a ++ b)
 octets_append [] b p q = q
 octets_append (x ∷ xs) b p q = (p.0, octets_append xs b p.1 q)
+
+pub octets_front : (a b : List ℕ) → IsOctets (a ++ b) → IsOctets a
+octets_front [] b h = tt
+octets_front (x ∷ xs) b h = (h.0, octets_front xs b h.1)
 
 pub octets_back : (a b : List ℕ) → IsOctets (a ++ b) → IsOctets b
 octets_back [] b h = h
