@@ -1,5 +1,5 @@
 -- What is accepted, refused and canonical.
-use Rattle.std.proofs.Common.{◌≡◌, ◌≢◌, ℕ, ◌≤◌, List, length, Option, None, Some, refl, sym, ap, subst, ◌∙◌, inl, inr, true, false, ◌↔◌, IsTrue, arith}
+use Rattle.std.proofs.Common.{◌≡◌, ℕ, List, Option, None, Some, refl, sym, ap, subst, ◌∙◌, inl, inr, true, false, ◌↔◌, IsTrue, arith}
 use Rattle.std.specs.Prelude.{slice_get, Bool, ◌++◌}
 use Rattle.bac_tag.specs.declared.refusals.Refusal.{Refusal}
 use Rattle.bac_tag.specs.declared.refusals.Why.TheVariants.{NotCanonical}
@@ -10,7 +10,7 @@ use Rattle.bac_tag.specs.Laws.Spelling.{IsLeast-one}
 use Rattle.bac_npdu.specs.Frames.{FrameValue, SpellsFrame}
 use Rattle.bac_stream.specs.Judging.{IsCanonicalFor, IsCanonical, Accepts, IsRefused, IsHopeless, Refuses}
 use Rattle.bac_stream.specs.Lines.{IsChecked, line_of, AppendsRecord}
-use Rattle.bac_record.specs.Records.{IsRecord, record_of, LONGEST}
+use Rattle.bac_record.specs.Records.{IsRecord, record_of}
 use Rattle.bac_stream.specs.declared.modes.Mode.{Mode}
 use Rattle.bac_stream.specs.declared.modes.Mode.TheVariants.{Tolerant, Strict}
 

@@ -6,7 +6,6 @@ use Rattle.bac_tag.specs.Refusals.{name_of}
 use Rattle.std.specs.List.{AllByRecursion}
 use Rattle.bac_record.specs.Outputs.{Outputs}
 use Rattle.bac_record.specs.Records.{record_of, joined, IsRecord}
-use Rattle.bac_npdu.specs.declared.frame.Frame.{Frame}
 use Rattle.bac_npdu.specs.Frames.{FrameValue, SpellsFrame, value_of}
 use Rattle.bac_text.specs.FrameText.{text}
 use Rattle.bac_stream.specs.Judging.{Accepts, Refuses, IsCanonicalFor, IsCanonical}
