@@ -9,7 +9,7 @@ use Rattle.bac_tag.specs.Spelling.{IsLeast, HasMark}
 use Rattle.bac_tag.specs.Laws.Spelling.{IsLeast-one}
 use Rattle.bac_npdu.specs.Frames.{FrameValue, SpellsFrame}
 use Rattle.bac_stream.specs.Judging.{IsCanonicalFor, IsCanonical, Accepts, IsRefused, IsHopeless, Refuses}
-use Rattle.bac_stream.specs.Lines.{IsChecked, line_of, AppendsRecord}
+use Rattle.bac_stream.specs.Lines.{IsChecked, said_of, AppendsRecord}
 use Rattle.bac_record.specs.Records.{IsRecord, record_of}
 use Rattle.bac_stream.specs.declared.modes.Mode.{Mode}
 use Rattle.bac_stream.specs.declared.modes.Mode.TheVariants.{Tolerant, Strict}
@@ -66,7 +66,7 @@ pub counted_as : (octets : List ℕ) (mark : Option ℕ) (b : Bool) → IsTrue b
 counted_as octets mark b p q = (λ t. q.0 (p.0 t), λ c. p.1 (q.1 c))
 
 -- what check says of what is accepted
-pub accepted_checked : (mode : Mode) (frame : FrameValue) (octets : List ℕ) (mark : Option ℕ) → Accepts mode frame octets → HasMark (SpellsFrame frame) octets mark → IsChecked mode octets (line_of mark)
+pub accepted_checked : (mode : Mode) (frame : FrameValue) (octets : List ℕ) (mark : Option ℕ) → Accepts mode frame octets → HasMark (SpellsFrame frame) octets mark → IsChecked mode octets (said_of mark)
 accepted_checked mode frame octets None a m = (frame, unmarked_canonical frame octets None m refl)
 accepted_checked mode frame octets (Some place) a m = (tolerant mode a, frame, m.least, accepted_spelled mode frame octets a, m.is_least, m.is_mark)
   where

@@ -1,3 +1,4 @@
 pub mod JudgingLemmas
 pub mod RecordLemmas
 pub mod KeptLemmas
+mod ShowingLemmas

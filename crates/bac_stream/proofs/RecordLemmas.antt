@@ -1,11 +1,15 @@
 -- Records and canonical octets that are appended.
-use Rattle.std.proofs.Common.{◌≡◌, ℕ, ◌/◌, ◌%◌, ◌<◌, ◌≤◌, List, [], ◌∷◌, ◌++◌, length, take, refl, sym, ap, subst, ◌∙◌, append_assoc, Result, arith}
+use Rattle.std.proofs.Common.{◌≡◌, ℕ, ◌+◌, ◌-◌, slice_index_or, slice_set, ◌/◌, ◌%◌, ◌<◌, ◌≤◌, List, [], ◌∷◌, ◌++◌, length, take, refl, sym, ap, subst, ◌∙◌, append_assoc, Result, arith}
 use Rattle.std.specs.Prelude.{OnErr}
 use Rattle.std.specs.Int.{w16, to_be_bytes}
-use Rattle.std.proofs.lemmas.List.{take_at}
+use Rattle.std.proofs.Math.Seq.{set-append_seam}
+use Rattle.std.proofs.lemmas.List.{take_at, set-append_right}
 use Rattle.std.proofs.lemmas.Result.{on_err_weaker}
 use Rattle.bac_tag.specs.Octets.{Extends}
 use Rattle.bac_record.specs.Records.{record_of, LONGEST}
+
+two_cells : (n : ℕ) → n < 65536 → to_be_bytes w16 n ≡ n / 256 ∷ n % 256 ∷ []
+two_cells n lt = let high : n / 256 % 256 ≡ n / 256 = omega arith in ap (λ (x : ℕ). x ∷ n % 256 ∷ []) high
 
 -- length octets, and then the octets
 pub record_appended : (old mid new head octets : List ℕ) (size : ℕ) → length octets ≤ LONGEST → size ≡ length octets → head ≡ to_be_bytes w16 size → mid ≡ old ++ head → new ≡ mid ++ octets → new ≡ old ++ record_of octets
@@ -13,9 +17,6 @@ record_appended old mid new head octets size le size_is head_is mid_is new_is =
     let pair : to_be_bytes w16 (length octets) ≡ length octets / 256 ∷ length octets % 256 ∷ [] = two_cells (length octets) (omega arith) in
     let cells : head ≡ length octets / 256 ∷ length octets % 256 ∷ [] = head_is ∙ ap (to_be_bytes w16) size_is ∙ pair in
     new_is ∙ ap (λ (l : List ℕ). l ++ octets) (mid_is ∙ ap (λ (l : List ℕ). old ++ l) cells) ∙ append_assoc old (length octets / 256 ∷ length octets % 256 ∷ []) octets
-  where
-    two_cells : (n : ℕ) → n < 65536 → to_be_bytes w16 n ≡ n / 256 ∷ n % 256 ∷ []
-    two_cells n lt = let high : n / 256 % 256 ≡ n / 256 = omega arith in ap (λ (x : ℕ). x ∷ n % 256 ∷ []) high
 
 pub extended_more : (old mid new head : List ℕ) → mid ≡ old ++ head → new ≡ mid → Extends old new
 extended_more old mid new head mid_is same = (head, same ∙ mid_is)
@@ -30,3 +31,17 @@ pub taken_off : {T E : Type 0} (answer found : Result T E) (old mid found_mid ne
 taken_off {T = T} {E = E} answer found old mid found_mid new n same same_mid size cut e =
     subst (λ (r : Result T E). OnErr r (new ≡ old)) (sym same)
     (on_err_weaker found (λ x. cut ∙ ap (λ (k : ℕ). take k mid) size ∙ ap (take (length old)) same_mid ∙ truncated old found_mid x) e)
+
+-- two octets that were left free are filled with the length of what stands behind them
+pub record_filled : (old mid full more cells : List ℕ) (start : ℕ) → start ≡ length old → mid ≡ old ++ 0 ∷ 0 ∷ [] → full ≡ mid ++ more → length more ≤ LONGEST → cells ≡ to_be_bytes w16 (length more)
+    → slice_set (slice_set full start (slice_index_or cells 0 0)) (start + 1) (slice_index_or cells 1 0) ≡ old ++ record_of more
+record_filled old mid full more cells start at mid_is full_is small cells_is =
+    let high = length more / 256 in
+    let low = length more % 256 in
+    let pair : cells ≡ high ∷ low ∷ [] = cells_is ∙ two_cells (length more) (omega arith) in
+    let whole : full ≡ old ++ 0 ∷ 0 ∷ more = full_is ∙ ap (λ (l : List ℕ). l ++ more) mid_is ∙ append_assoc old (0 ∷ 0 ∷ []) more in
+    let first : slice_set (old ++ 0 ∷ 0 ∷ more) (length old) high ≡ old ++ high ∷ 0 ∷ more = set-append_seam old 0 (0 ∷ more) high in
+    let one : (length old + 1) - length old ≡ 1 = omega arith in
+    let second : slice_set (old ++ high ∷ 0 ∷ more) (length old + 1) low ≡ old ++ high ∷ low ∷ more =
+    set-append_right old (high ∷ 0 ∷ more) (length old) (length old + 1) low refl (omega arith) ∙ ap (λ (k : ℕ). old ++ slice_set (high ∷ 0 ∷ more) k low) one in
+    rw (pair, at, whole) (ap (λ (l : List ℕ). slice_set l (length old + 1) low) first ∙ second)

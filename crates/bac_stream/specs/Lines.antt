@@ -2,6 +2,7 @@
 use Rattle.std.specs.Prelude.{◌≡◌, ℕ, ◌++◌, List, Option, Some, None, codes}
 use Rattle.std.specs.Fmt.{decimal}
 use Rattle.bac_tag.specs.Octets.{IsMark}
+use Rattle.bac_tag.specs.declared.refusals.Refusal.{Refusal}
 use Rattle.bac_tag.specs.Refusals.{name_of}
 use Rattle.std.specs.List.{AllByRecursion}
 use Rattle.bac_record.specs.Outputs.{Outputs}
@@ -12,51 +13,63 @@ use Rattle.bac_stream.specs.Judging.{Accepts, Refuses, IsCanonicalFor, IsCanonic
 use Rattle.bac_stream.specs.declared.modes.Mode.{Mode}
 use Rattle.bac_stream.specs.declared.modes.Mode.TheVariants.{Tolerant}
 use Rattle.bac_stream.specs.declared.lines.Line.{Line}
-use Rattle.bac_stream.specs.declared.lines.Line.TheVariants.{Canonical, Tolerated, Refused, Shown}
+use Rattle.bac_stream.specs.declared.lines.Line.TheVariants as line
+
+-- what is said of a record
+pub data Said : Type 0 where
+  ok : Said
+  tolerated : ℕ → Said
+  refused : Refusal → Said
+  shown : FrameValue → Said
 
 -- what a line says
-abbrev pub line_text : Line → List ℕ
-line_text Canonical = codes "ok"
-line_text (Tolerated place) = codes "tolerated at " ++ decimal place
-line_text (Refused refusal) = codes "refused " ++ name_of refusal.why ++ codes " at " ++ decimal refusal.place
-line_text (Shown frame) = text (value_of frame)
+abbrev pub said_by : Line → Said
+said_by line.Canonical = ok
+said_by (line.Tolerated place) = tolerated place
+said_by (line.Refused refusal) = refused refusal
+said_by (line.Shown frame) = shown (value_of frame.now)
+
+abbrev pub said_text : Said → List ℕ
+said_text ok = codes "ok"
+said_text (tolerated place) = codes "tolerated at " ++ decimal place
+said_text (refused refusal) = codes "refused " ++ name_of refusal.why ++ codes " at " ++ decimal refusal.place
+said_text (shown frame) = text frame
 
 -- what check says of accepted octets, by their mark
-abbrev pub line_of : Option ℕ → Line
-line_of None = Canonical
-line_of (Some place) = Tolerated place
+abbrev pub said_of : Option ℕ → Said
+said_of None = ok
+said_of (Some place) = tolerated place
 
 -- a text behind the number of its record, as a line
 abbrev pub numbered : ℕ → List ℕ → List ℕ
 numbered number text = decimal number ++ codes " " ++ text ++ codes "\n"
 
 -- what show says of octets: the frame as which they are accepted, or a refusal
-abbrev pub IsShown : Mode → List ℕ → Line → Type 0
-IsShown mode octets (Shown frame) = Accepts mode (value_of frame) octets
-IsShown mode octets (Refused refusal) = Refuses mode octets refusal
-IsShown mode octets Canonical = ⊥
-IsShown mode octets (Tolerated place) = ⊥
+abbrev pub IsShown : Mode → List ℕ → Said → Type 0
+IsShown mode octets (shown frame) = Accepts mode frame octets
+IsShown mode octets (refused refusal) = Refuses mode octets refusal
+IsShown mode octets _ = ⊥
 
 -- what check says of octets: that they are canonical, tolerated (in mode Tolerant alone), or refused
-abbrev pub IsChecked : Mode → List ℕ → Line → Type 0
-IsChecked mode octets Canonical = IsCanonical octets
-IsChecked mode octets (Tolerated place) = (mode ≡ Tolerant) × (frame : FrameValue) × (canonical : List ℕ)
-    × SpellsFrame frame octets × IsCanonicalFor frame canonical × IsMark octets canonical (Some place)
-IsChecked mode octets (Refused refusal) = Refuses mode octets refusal
-IsChecked mode octets (Shown frame) = ⊥
+abbrev pub IsChecked : Mode → List ℕ → Said → Type 0
+IsChecked mode octets ok = IsCanonical octets
+IsChecked mode octets (tolerated place) = (mode ≡ Tolerant) × (frame : FrameValue) × (least : List ℕ)
+    × SpellsFrame frame octets × IsCanonicalFor frame least × IsMark octets least (Some place)
+IsChecked mode octets (refused refusal) = Refuses mode octets refusal
+IsChecked mode octets (shown frame) = ⊥
 
 -- the output of show
 abbrev pub ShowsAs : Mode → ℕ → List ℕ → List ℕ → Type 0
-ShowsAs mode number octets output = (line : Line) × IsShown mode octets line × (output ≡ numbered number (line_text line))
+ShowsAs mode number octets output = (said : Said) × IsShown mode octets said × (output ≡ numbered number (said_text said))
 
 -- the output of check
 abbrev pub ChecksAs : Mode → ℕ → List ℕ → List ℕ → Type 0
-ChecksAs mode number octets output = (line : Line) × IsChecked mode octets line × (output ≡ numbered number (line_text line))
+ChecksAs mode number octets output = (said : Said) × IsChecked mode octets said × (output ≡ numbered number (said_text said))
 
 -- the output of normalise: the canonical octets of the frame, as a record
 abbrev pub NormalisesTo : Mode → ℕ → List ℕ → List ℕ → Type 0
 NormalisesTo mode number octets output =
-    (frame : FrameValue) × (canonical : List ℕ) × Accepts mode frame octets × IsCanonicalFor frame canonical × (output ≡ record_of canonical)
+    (frame : FrameValue) × (least : List ℕ) × Accepts mode frame octets × IsCanonicalFor frame least × (output ≡ record_of least)
 
 -- behind the old octets stand the canonical ones of the frame, as a record
 pub record AppendsRecord (frame : FrameValue) (old new : List ℕ) : Type 0 where

@@ -3,7 +3,7 @@
 ghost use Rattle.std.specs.Prelude.{◌≡◌, ◌↔◌, IfErr, IfOk, IsTrue, MatchResult, List, ℕ, None, Some};
 ghost use Rattle.bac_record.specs.Deals.{DealFails};
 ghost use Rattle.bac_stream.specs.Judging.{IsCanonical, IsRefused, Refuses};
-ghost use Rattle.bac_stream.specs.Lines.{IsChecked, ChecksAs, line_of};
+ghost use Rattle.bac_stream.specs.Lines.{IsChecked, ChecksAs, said_by, said_of};
 ghost use Rattle.bac_record.specs.Records.{Records};
 ghost use Rattle.bac_record.specs.Runs.{RanThrough, RunCounts, Stopped};
 ghost use Rattle.bac_record.specs.Files.{RunsOver};
@@ -26,22 +26,22 @@ struct Check {
 /// # Errors
 /// As [`judge`].
 fn mark_of(alloc: Global, mode: Mode, octets: &[u8]) -> Result<Option<usize>, DealFault>
-    ensures line { IfOk result (λ mark. IsChecked mode octets.now (line_of mark)) }
+    ensures line { IfOk result (λ mark. IsChecked mode octets.now (said_of mark)) }
     ensures canonical { IfOk result (λ mark. (mark ≡ None) ↔ IsCanonical octets.now) }
     ensures accepted { IfOk result (λ mark. IsRefused mode octets.now → ⊥) }
     ensures fault { IfErr result (DealFails (Refuses mode octets.now)) }
     ensures refused { IfErr result (DealFails (λ _. IsRefused mode octets.now)) }
 {
-    let (_frame, mark) = judge(alloc, mode, octets)?;
-    Ok(mark)
+    let judged = judge(alloc, mode, octets)?;
+    Ok(judged.mark)
 }
 
 /// What is said of the octets, and how the record counts.
 ///
 /// # Errors
 /// `Memory` where memory is refused.
-fn checked(alloc: Global, mode: Mode, octets: &[u8]) -> Result<(Line, Dealt), DealFault>
-    ensures line { IfOk result (λ found. IsChecked mode octets.now found.0) }
+fn checked(alloc: Global, mode: Mode, octets: &[u8]) -> Result<(Line<'static>, Dealt), DealFault>
+    ensures line { IfOk result (λ found. IsChecked mode octets.now (said_by found.0)) }
     ensures canonical { IfOk result (λ found. IsTrue found.1.is_canonical ↔ IsCanonical octets.now) }
     ensures refused { IfOk result (λ found. IsTrue found.1.is_refused ↔ IsRefused mode octets.now) }
     ensures memory { IfErr result (λ fault. fault ≡ DealFault.Memory) }

@@ -13,19 +13,29 @@ use bac_record::DealFault;
 use bac_tag::Why;
 use std::alloc::Global;
 
+/// A frame that is accepted, and the first place where its octets differ from its canonical ones.
+pub(crate) struct Judged {
+    pub(crate) frame: Frame,
+    pub(crate) mark: Option<usize>,
+}
+
+impl Drop for Judged {
+    // A function of its own, so that the code that frees frames of every kind stands once and not in each run.
+    #[inline(never)]
+    fn drop(self) {
+        let Judged { frame: _, mark: _ } = self;
+    }
+}
+
 /// The frame as which the octets are accepted, and the first place where they differ from its canonical octets.
 ///
 /// # Errors
 /// `Stop` with what [`decode_marked`] refuses; in mode Strict also with `NotCanonical` at that first place. `Memory`
 /// where memory is refused.
-pub(crate) fn judge(
-    alloc: Global,
-    mode: Mode,
-    octets: &[u8],
-) -> Result<(Frame, Option<usize>), DealFault>
-    ensures accepted { IfOk result (λ found. Accepts mode (value_of found.0) octets.now) }
-    ensures mark { IfOk result (λ found. HasMark (SpellsFrame (value_of found.0)) octets.now found.1) }
-    ensures canonical { IfOk result (λ found. (found.1 ≡ None) ↔ IsCanonical octets.now) }
+pub(crate) fn judge(alloc: Global, mode: Mode, octets: &[u8]) -> Result<Judged, DealFault>
+    ensures accepted { IfOk result (λ judged. Accepts mode (value_of judged.frame) octets.now) }
+    ensures mark { IfOk result (λ judged. HasMark (SpellsFrame (value_of judged.frame)) octets.now judged.mark) }
+    ensures canonical { IfOk result (λ judged. (judged.mark ≡ None) ↔ IsCanonical octets.now) }
     ensures fault { IfErr result (DealFails (Refuses mode octets.now)) }
     ensures refused { IfErr result (DealFails (λ _. IsRefused mode octets.now)) }
 {
@@ -36,10 +46,11 @@ pub(crate) fn judge(
         Err(refusal) if refusal.why == Why::OutOfMemory => return Err(DealFault::Memory),
         Err(refusal) => return Err(DealFault::Stop(refusal)),
     };
+    let judged = Judged { frame, mark };
     if mode == Mode::Strict {
         if let Some(place) = mark {
             return Err(DealFault::Stop(Why::NotCanonical.at(place)));
         }
     }
-    Ok((frame, mark))
+    Ok(judged)
 }

@@ -2,7 +2,7 @@
 
 ghost use Rattle.std.specs.Prelude.{◌≡◌, ◌++◌, OnOk, OnErr};
 ghost use Rattle.bac_tag.specs.Octets.{Extends};
-ghost use Rattle.bac_stream.specs.Lines.{line_of, line_text, numbered};
+ghost use Rattle.bac_stream.specs.Lines.{said_by, said_of, said_text, numbered};
 
 use bac_npdu::Frame;
 use bac_record::push_decimal;
@@ -10,8 +10,8 @@ use bac_tag::{OutOfMemory, Refusal};
 use bac_text::append_text;
 
 /// What a line says of a record, behind its number.
-#[derive(Debug, Drop)]
-pub(crate) enum Line {
+#[derive(Clone, Copy, Debug)]
+pub(crate) enum Line<'a> {
     /// `ok`: the record is canonical.
     Canonical,
     /// `tolerated at P`: the record differs from the canonical one first at this place.
@@ -19,14 +19,14 @@ pub(crate) enum Line {
     /// `refused WHY at P`.
     Refused(Refusal),
     /// The frame as it is shown.
-    Shown(Frame),
+    Shown(&'a Frame),
 }
 
-impl Line {
+impl Line<'_> {
     /// What `check` says of a record that is accepted, by its mark.
     #[inline(always)]
-    pub(crate) fn of_mark(mark: Option<usize>) -> Line
-        ensures { result ≡ line_of mark }
+    pub(crate) fn of_mark(mark: Option<usize>) -> Line<'static>
+        ensures { said_by result ≡ said_of mark }
     {
         match mark {
             None => Line::Canonical,
@@ -36,7 +36,7 @@ impl Line {
 
     /// Appends the text. Where memory is refused some of it may be there.
     fn append_text(&self, out: &mut Vec<u8>) -> Result<(), OutOfMemory>
-        ensures ok { OnOk result (out.new.items ≡ out.old.items ++ line_text self.now) }
+        ensures ok { OnOk result (out.new.items ≡ out.old.items ++ said_text (said_by self.now)) }
         ensures err { OnErr result (Extends out.old.items out.new.items) }
     {
         match self {
@@ -60,7 +60,7 @@ impl Line {
 
     /// Appends the line of the record with this number. Where memory is refused some of it may be there.
     fn append(&self, number: u32, out: &mut Vec<u8>) -> Result<(), OutOfMemory>
-        ensures ok { OnOk result (out.new.items ≡ out.old.items ++ numbered number (line_text self.now)) }
+        ensures ok { OnOk result (out.new.items ≡ out.old.items ++ numbered number (said_text (said_by self.now))) }
         ensures err { OnErr result (Extends out.old.items out.new.items) }
     {
         push_decimal(out, u64::from(number))?;
@@ -72,7 +72,7 @@ impl Line {
 
     /// Appends the line of the record with this number. Where memory is refused `out` stays as it was.
     pub(crate) fn push(&self, number: u32, out: &mut Vec<u8>) -> Result<(), OutOfMemory>
-        ensures ok { OnOk result (out.new.items ≡ out.old.items ++ numbered number (line_text self.now)) }
+        ensures ok { OnOk result (out.new.items ≡ out.old.items ++ numbered number (said_text (said_by self.now))) }
         ensures err { OnErr result (out.new.items ≡ out.old.items) }
     {
         let start = out.len();

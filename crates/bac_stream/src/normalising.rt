@@ -12,7 +12,7 @@ ghost use Rattle.bac_record.specs.Files.{RunsOver};
 
 use crate::judging::judge;
 use crate::{Input, Mode, Output, RunFault, Summary};
-use bac_npdu::{Frame, encode_frame};
+use bac_npdu::{Frame, append_frame};
 use bac_record::{DealFault, Dealt, Job, run};
 use bac_tag::OutOfMemory;
 use std::alloc::Global;
@@ -37,19 +37,26 @@ fn append_octets(octets: &[u8], out: &mut Vec<u8>) -> Result<(), OutOfMemory>
 }
 
 /// Appends the canonical octets of the frame as a record. Where memory is refused some of it may be there.
-fn append_record(alloc: Global, frame: &Frame, out: &mut Vec<u8>) -> Result<(), OutOfMemory>
+///
+/// They are written where they are to stand, and their length in front of them when it is known.
+fn append_record(frame: &Frame, out: &mut Vec<u8>) -> Result<(), OutOfMemory>
     requires { (canonical : List ℕ) → IsCanonicalFor (value_of frame.now) canonical → IsRecord canonical }
     ensures ok { OnOk result (AppendsRecord (value_of frame.now) out.old.items out.new.items) }
     ensures err { OnErr result (Extends out.old.items out.new.items) }
 {
-    let canonical = encode_frame(alloc, frame)?;
-    append_octets(canonical.as_slice(), out)
+    let start = out.len();
+    out.extend_from_slice(&[0, 0])?;
+    append_frame(frame, out)?;
+    let length = (out.len() - start - 2) as u16;
+    let [high, low] = length.to_be_bytes();
+    out[start] = high;
+    out[start + 1] = low;
+    Ok(())
 }
 
 /// Appends the canonical octets of the frame that these octets spell as a record: they themselves, where nothing
 /// marks them. Where memory is refused `out` stays as it was.
 fn push_canonical(
-    alloc: Global,
     frame: &Frame,
     mark: Option<usize>,
     octets: &[u8],
@@ -64,7 +71,7 @@ fn push_canonical(
     let start = out.len();
     let appended = match mark {
         None => append_octets(octets, out),
-        Some(_) => append_record(alloc, frame, out),
+        Some(_) => append_record(frame, out),
     };
     if appended.is_err() {
         out.truncate(start);
@@ -82,9 +89,9 @@ impl Job for Normalise {
     ghost is_refused = { λ normalise. IsRefused normalise.mode };
 
     fn deal(&self, _number: u32, octets: &[u8], out: &mut Vec<u8>) -> Result<Dealt, DealFault> {
-        let (frame, mark) = judge(self.alloc, self.mode, octets)?;
-        push_canonical(self.alloc, &frame, mark, octets, out)?;
-        Ok(Dealt::accepted(mark))
+        let judged = judge(self.alloc, self.mode, octets)?;
+        push_canonical(&judged.frame, judged.mark, octets, out)?;
+        Ok(Dealt::accepted(judged.mark))
     }
 }
 

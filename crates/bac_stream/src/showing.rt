@@ -20,23 +20,6 @@ struct Show {
     mode: Mode,
 }
 
-/// What is said of the octets, and how the record counts.
-///
-/// # Errors
-/// `Memory` where memory is refused.
-fn shown(alloc: Global, mode: Mode, octets: &[u8]) -> Result<(Line, Dealt), DealFault>
-    ensures line { IfOk result (λ found. IsShown mode octets.now found.0) }
-    ensures canonical { IfOk result (λ found. IsTrue found.1.is_canonical ↔ IsCanonical octets.now) }
-    ensures refused { IfOk result (λ found. IsTrue found.1.is_refused ↔ IsRefused mode octets.now) }
-    ensures memory { IfErr result (λ fault. fault ≡ DealFault.Memory) }
-{
-    match judge(alloc, mode, octets) {
-        Ok((frame, mark)) => Ok((Line::Shown(frame), Dealt::accepted(mark))),
-        Err(DealFault::Stop(refusal)) => Ok((Line::Refused(refusal), Dealt::refused())),
-        Err(DealFault::Memory) => Err(DealFault::Memory),
-    }
-}
-
 impl Job for Show {
     ghost line = { λ show. ShowsAs show.mode };
 
@@ -47,9 +30,16 @@ impl Job for Show {
     ghost is_refused = { λ show. IsRefused show.mode };
 
     fn deal(&self, number: u32, octets: &[u8], out: &mut Vec<u8>) -> Result<Dealt, DealFault> {
-        let (line, dealt) = shown(self.alloc, self.mode, octets)?;
-        line.push(number, out)?;
-        Ok(dealt)
+        let judged = match judge(self.alloc, self.mode, octets) {
+            Ok(judged) => judged,
+            Err(DealFault::Stop(refusal)) => {
+                Line::Refused(refusal).push(number, out)?;
+                return Ok(Dealt::refused());
+            }
+            Err(DealFault::Memory) => return Err(DealFault::Memory),
+        };
+        Line::Shown(&judged.frame).push(number, out)?;
+        Ok(Dealt::accepted(judged.mark))
     }
 }
 
