@@ -1,0 +1,3 @@
+pub mod HoldingLemmas
+pub mod JudgeLemmas
+pub mod TakeLemmas

@@ -1,0 +1,5 @@
+pub mod Deliveries
+pub mod Tables
+pub mod Taking
+pub mod Holding
+pub mod Reassembled

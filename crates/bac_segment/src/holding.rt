@@ -1,0 +1,214 @@
+//! How pieces are held: joined in order of number, and a span for each number that is held.
+
+ghost use Rattle.std.specs.Prelude.{◌≡◌, ◌≤◌, ◌<◌, ◌+◌, ◌==◌, ◌&&◌, ◌||◌, nat_lt, nat_le, not, if◌then◌else◌, ◌++◌, [], None, Some, IsTrue, Ok, slice_set, max, take, drop, length, replicate, IfOk, OnOk, OnErr, sum_by};
+ghost use Rattle.bac_segment.specs.Deliveries.{delivery};
+ghost use Rattle.bac_segment.specs.Tables.{empty_table};
+ghost use Rattle.bac_segment.specs.Taking.{Keeps, Judges, same_entry};
+ghost use Rattle.bac_segment.specs.Holding.{span_len, IsHeld, table_in};
+
+use crate::faults::{TakeFault, Taken};
+use bac_apdu::Segment;
+use bac_tag::OutOfMemory;
+use std::alloc::Global;
+
+/// How many octets are joined at most.
+pub(crate) const MOST_OCTETS: usize = 65_535;
+
+/// How many numbers there are.
+const NUMBERS: usize = 256;
+
+/// A piece that is held.
+#[derive(Clone, Copy, Debug, PartialEq, Eq)]
+pub(crate) struct Span {
+    /// How many octets it has.
+    len: usize,
+    /// Whether others follow.
+    more: bool,
+}
+
+/// The pieces that are held. A segment in order is appended, so that no other span is looked at.
+#[derive(Debug, Drop)]
+pub(crate) struct Held {
+    /// The pieces, joined in order of number.
+    octets: Vec<u8>,
+    /// A span for each number that is held.
+    spans: Vec<Option<Span>>,
+    /// How many numbers are held.
+    count: usize,
+    /// One more than the greatest number that is held.
+    end: usize,
+    /// Whether a last piece is held.
+    ended: bool,
+}
+
+/// How many octets are held.
+fn octets_in(spans: &[Option<Span>]) -> usize
+    requires { sum_by span_len spans.now ≤ 65535 }
+    ensures { result ≡ sum_by span_len spans.now }
+{
+    spans.iter().map(|span| span.map_or(0, |s| s.len)).sum()
+}
+
+/// Whether a segment says what is held under its number.
+fn is_repeat(piece: &[u8], more: bool, segment: &Segment) -> bool
+    ensures { result ≡ same_entry (record { piece = piece.now; more = more }) (delivery segment.now) }
+{
+    piece == segment.piece.as_slice() && more == segment.more
+}
+
+/// Puts a piece among the octets. Where memory is refused they stay as they are.
+fn put(octets: &mut Vec<u8>, start: usize, piece: &[u8]) -> Result<(), OutOfMemory>
+    requires { start ≤ length octets.old.items }
+    ensures ok { OnOk result (octets.new.items ≡ take start octets.old.items ++ piece.now ++ drop start octets.old.items) }
+    ensures err { OnErr result (octets.new.items ≡ octets.old.items) }
+{
+    octets.extend_from_slice(piece)?;
+    octets.slice_mut(start..).rotate_right(piece.len());
+    Ok(())
+}
+
+impl Held {
+    /// Nothing is held.
+    pub(crate) fn new(alloc: Global) -> Result<Held, OutOfMemory>
+        ensures held { IfOk result (λ h. IsHeld h) }
+        ensures empty { IfOk result (λ h. table_in h ≡ empty_table) }
+    {
+        let mut spans = Vec::new(alloc);
+        spans.resize(NUMBERS, None)?;
+        Ok(Held {
+            octets: Vec::new(alloc),
+            spans,
+            count: 0,
+            end: 0,
+            ended: false,
+        })
+    }
+
+    /// Whether all numbers up to a last piece are held.
+    #[inline]
+    pub(crate) fn is_whole(&self) -> bool
+        ensures { result ≡ (self.now.ended && self.now.count == self.now.end) }
+    {
+        self.ended && self.count == self.end
+    }
+
+    /// The answer to a segment that was just kept.
+    fn kept(&self) -> Taken
+        ensures { result ≡ (if self.now.ended && self.now.count == self.now.end then Taken.Complete else Taken.Kept) }
+    {
+        if self.is_whole() {
+            return Taken::Complete;
+        }
+        Taken::Kept
+    }
+
+    /// The pieces, joined in order of number.
+    #[inline]
+    pub(crate) fn octets(&self) -> &[u8]
+        ensures { result.now ≡ self.now.octets.items }
+    {
+        self.octets.as_slice()
+    }
+
+    /// Whether a segment would be the last one below a number that is held.
+    #[inline]
+    fn ends_too_early(&self, number: usize, more: bool) -> bool
+        requires { number < 256 }
+        ensures { result ≡ (not more && nat_lt (number + 1) self.now.end) }
+    {
+        !more && number + 1 < self.end
+    }
+
+    /// Whether a segment stands behind the last one, or others could not follow it.
+    #[inline]
+    fn is_past_end(&self, number: usize, more: bool) -> bool
+        ensures { result ≡ ((self.now.ended && nat_le self.now.end number) || (more && number == 255)) }
+    {
+        (self.ended && self.end <= number) || (more && number == 255)
+    }
+
+    /// How many octets stand before a number.
+    fn start(&self, number: usize) -> usize
+        requires held { IsHeld self.now }
+        requires number { number < 256 }
+        ensures { result ≡ sum_by span_len (take number self.now.spans.items) }
+    {
+        if self.end <= number {
+            return self.octets().len();
+        }
+        octets_in(&self.spans[..number])
+    }
+
+    /// Whether a segment is new, or else repeated.
+    ///
+    /// # Errors
+    /// `Conflict`, `PastEnd` and `TooLarge`.
+    fn judge(&self, segment: &Segment) -> Result<bool, TakeFault>
+        requires { IsHeld self.now }
+        ensures { Judges (table_in self.now) (delivery segment.now) result }
+    {
+        let number = usize::from(segment.seq);
+        if let Some(span) = self.spans[number] {
+            let start = self.start(number);
+            if is_repeat(&self.octets[start..start + span.len], span.more, segment) {
+                return Ok(false);
+            }
+            return Err(TakeFault::Conflict);
+        }
+        if self.ends_too_early(number, segment.more) {
+            return Err(TakeFault::Conflict);
+        }
+        if self.is_past_end(number, segment.more) {
+            return Err(TakeFault::PastEnd);
+        }
+        if segment.piece.as_slice().len() > MOST_OCTETS - self.octets().len() {
+            return Err(TakeFault::TooLarge);
+        }
+        Ok(true)
+    }
+
+    /// Notes that a number is held.
+    fn note(&mut self, number: usize, span: Span)
+        requires number { number < length self.old.spans.items }
+        requires count { self.old.count < 256 }
+        requires small { number < 256 }
+        ensures octets { self.new.octets.items ≡ self.old.octets.items }
+        ensures spans { self.new.spans.items ≡ slice_set self.old.spans.items number (Some span) }
+        ensures count { self.new.count ≡ self.old.count + 1 }
+        ensures end { self.new.end ≡ max self.old.end (number + 1) }
+        ensures ended { self.new.ended ≡ (self.old.ended || not span.more) }
+    {
+        self.spans[number] = Some(span);
+        self.count += 1;
+        self.end = self.end.max(number + 1);
+        self.ended |= !span.more;
+    }
+
+    /// Keeps a segment where it is new and fits. After each fault all is as it was.
+    pub(crate) fn keep(&mut self, segment: &Segment) -> Result<Taken, TakeFault>
+        requires { IsHeld self.old }
+        ensures held { IsHeld self.new }
+        ensures step { Keeps (table_in self.old) (delivery segment.now) result (table_in self.new) }
+        ensures err { OnErr result (table_in self.new ≡ table_in self.old) }
+    {
+        match self.judge(segment) {
+            Err(fault) => return Err(fault),
+            Ok(false) => return Ok(Taken::Repeat),
+            Ok(true) => {}
+        }
+        let number = usize::from(segment.seq);
+        let piece = segment.piece.as_slice();
+        let start = self.start(number);
+        if put(&mut self.octets, start, piece).is_err() {
+            return Err(TakeFault::OutOfMemory);
+        }
+        self.note(
+            number,
+            Span {
+                len: piece.len(),
+                more: segment.more,
+            },
+        );
+        Ok(self.kept())
+    }
+}

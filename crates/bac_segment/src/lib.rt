@@ -1,0 +1,11 @@
+//! Segmented messages (clause 5.2): cutting, reassembly, and a desk of several messages at once.
+#![tactic(auto)]
+
+mod faults;
+mod holding;
+mod keys;
+mod reassembly;
+
+pub use faults::{TakeFault, Taken};
+pub use keys::Key;
+pub use reassembly::Reassembly;
