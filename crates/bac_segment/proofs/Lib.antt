@@ -1,3 +1,4 @@
 pub mod HoldingLemmas
 pub mod JudgeLemmas
 pub mod TakeLemmas
+pub mod PieceLemmas

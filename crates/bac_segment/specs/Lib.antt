@@ -3,3 +3,4 @@ pub mod Tables
 pub mod Taking
 pub mod Holding
 pub mod Reassembled
+pub mod Pieces

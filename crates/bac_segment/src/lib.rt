@@ -1,11 +1,13 @@
 //! Segmented messages (clause 5.2): cutting, reassembly, and a desk of several messages at once.
 #![tactic(auto)]
 
+mod cutting;
 mod faults;
 mod holding;
 mod keys;
 mod reassembly;
 
+pub use cutting::{CutFault, CutPlan, cut};
 pub use faults::{TakeFault, Taken};
 pub use keys::Key;
 pub use reassembly::Reassembly;

@@ -1,0 +1,152 @@
+//! Cutting a message into segments.
+
+ghost use Rattle.std.specs.Prelude.{◌≡◌, ◌≤◌, ◌*◌, map, length, IfOk, IfErr, IsErrOf, MatchOption};
+ghost use Rattle.bac_segment.specs.Deliveries.{delivery};
+ghost use Rattle.bac_segment.specs.Pieces.{IsCutOf, cut_fault};
+
+use bac_apdu::{SegHead, Segment, Window};
+use std::alloc::{AllocError, AllocFailed, Global};
+use std::error::Error;
+use std::fmt;
+use std::fmt::Display;
+
+/// How a message is cut.
+#[derive(Clone, Copy, Debug, PartialEq, Eq)]
+pub struct CutPlan {
+    /// The head of each segment.
+    pub head: SegHead,
+    /// The service choice.
+    pub choice: u8,
+    /// How many octets each piece has but the last, which has 1 to that many.
+    pub size: usize,
+    /// How many segments are sent before a SegmentACK is awaited, 1 to 127.
+    pub window: u8,
+}
+
+/// Why a message is not cut. Where several hold, the first is told.
+#[derive(Clone, Copy, Debug, PartialEq, Eq)]
+pub enum CutFault {
+    /// A piece would have no octets.
+    Size = 1,
+    /// The window is not 1 to 127.
+    Window,
+    /// The message has more than 65,535 octets.
+    TooLong,
+    /// There would be more than 256 pieces.
+    TooMany,
+    /// Memory was refused.
+    OutOfMemory,
+}
+
+impl Display for CutFault {
+    fn fmt<W: fmt::Write>(&self, formatter: &mut fmt::Formatter<W>) -> fmt::Result {
+        formatter.write_str(match self {
+            CutFault::Size => "a piece has no octets",
+            CutFault::Window => "a window is 1 to 127",
+            CutFault::TooLong => "the message has more than 65535 octets",
+            CutFault::TooMany => "the message has more than 256 pieces",
+            CutFault::OutOfMemory => "out of memory",
+        })
+    }
+}
+
+impl Error for CutFault {}
+
+impl From<AllocError> for CutFault {
+    ghost use Rattle.bac_segment.specs.declared.cutting.CutFault.TheVariants.{OutOfMemory};
+
+    ghost from_gives = { λ _ e. e ≡ OutOfMemory };
+
+    fn from(_error: AllocError) -> CutFault {
+        CutFault::OutOfMemory
+    }
+}
+
+impl<T: Drop> From<AllocFailed<T>> for CutFault {
+    ghost use Rattle.bac_segment.specs.declared.cutting.CutFault.TheVariants.{OutOfMemory};
+
+    ghost from_gives = { λ _ e. e ≡ OutOfMemory };
+
+    fn from(_error: AllocFailed<T>) -> CutFault {
+        CutFault::OutOfMemory
+    }
+}
+
+/// How many octets are cut at most.
+const MOST_OCTETS: usize = 65_535;
+
+/// How many pieces there are at most.
+const MOST_PIECES: usize = 256;
+
+/// A segment with a copy of the piece.
+fn segment(
+    alloc: Global,
+    plan: &CutPlan,
+    window: Window,
+    seq: u8,
+    more: bool,
+    piece: &[u8],
+) -> Result<Segment, AllocError>
+    ensures { IfOk result (λ s. delivery s ≡ record { head = plan.now.head; window = window; choice = plan.now.choice; seq = seq; more = more; piece = piece.now }) }
+{
+    Ok(Segment {
+        head: plan.head,
+        seq,
+        window,
+        more,
+        choice: plan.choice,
+        piece: Vec::from_slice(alloc, piece)?,
+    })
+}
+
+/// One segment for each piece of the octets.
+fn segments(
+    alloc: Global,
+    plan: &CutPlan,
+    window: Window,
+    octets: &[u8],
+) -> Result<Vec<Segment>, CutFault>
+    requires window { window ≡ plan.now.window }
+    requires size { 1 ≤ plan.now.size }
+    requires few { length octets.now ≤ 256 * plan.now.size }
+    ensures ok { IfOk result (λ segments. IsCutOf plan.now octets.now (map delivery segments.items)) }
+    ensures err { IfErr result (λ fault. fault ≡ CutFault.OutOfMemory) }
+{
+    let mut segments = Vec::new(alloc);
+    let mut rest = octets;
+    let mut number = 0;
+    while rest.len() > plan.size {
+        let (piece, others) = rest.split_at(plan.size);
+        segments.push(segment(alloc, plan, window, number, true, piece)?)?;
+        number += 1;
+        rest = others;
+    }
+    segments.push(segment(alloc, plan, window, number, false, rest)?)?;
+    Ok(segments)
+}
+
+/// Cuts a message into segments (clause 5.2): one for each of its pieces, numbered from 0, each but the last saying
+/// that more follow. A message of no octets has one empty piece.
+///
+/// # Errors
+/// The first that holds, in this order: `Size`, where the size is 0; `Window`, where the window is not 1 to 127;
+/// `TooLong`, where there are more than 65,535 octets; `TooMany`, where there are more than 256 pieces;
+/// `OutOfMemory`, where memory is refused.
+pub fn cut(alloc: Global, plan: &CutPlan, octets: &[u8]) -> Result<Vec<Segment>, CutFault>
+    ensures ok { IfOk result (λ segments. IsCutOf plan.now octets.now (map delivery segments.items)) }
+    ensures fault { MatchOption (cut_fault plan.now octets.now) (IfErr result (λ fault. fault ≡ CutFault.OutOfMemory)) (λ fault. IsErrOf result fault) }
+{
+    if plan.size == 0 {
+        return Err(CutFault::Size);
+    }
+    let Some(window) = Window::new(plan.window) else {
+        return Err(CutFault::Window);
+    };
+    if octets.len() > MOST_OCTETS {
+        return Err(CutFault::TooLong);
+    }
+    if octets.len() > MOST_PIECES * plan.size.min(MOST_OCTETS) {
+        return Err(CutFault::TooMany);
+    }
+    segments(alloc, plan, window, octets)
+}
