@@ -140,10 +140,27 @@ judged_entry : (m : Table) (s : Delivery) (o : Option Entry) → entry_at m s.se
 judged_entry m s (Some e) h = judged_held m s e h (same_entry e s) refl
 judged_entry m s None h = judged_free m s h (early m s) (is_ended_below m s.seq || last_number m s) (has_room m s) refl refl refl
 
+pub judged_somehow : (m : Table) (s : Delivery) → (r : Result Bool TakeFault) × Judges m s r
+judged_somehow m s = judged_entry m s (entry_at m s.seq) refl
+
+-- where a number is free nothing is repeated
+pub no_repeat : (m : Table) (s : Delivery) → entry_at m s.seq ≡ None → answer m s ≡ Ok Repeat → ⊥
+no_repeat m s f h = none (early m s) (is_ended_below m s.seq || last_number m s) (has_room m s) (is_some (whole (with_segment m s))) (sym (ap (λ o. answer_where o m s) f) ∙ h)
+  where
+    other : (t : Taken) → (t ≡ Repeat → ⊥) → (let a : Answer = Ok t in a) ≡ Ok Repeat → ⊥
+    other t n i = n (let a : Answer = Ok t in let b : Answer = Ok Repeat in let j : a ≡ b = i in cc)
+
+    none : (e p r k : Bool) → decided e p r (cond k (Ok Complete) (Ok Kept)) ≡ Ok Repeat → ⊥
+    none true p r k i = no_ok Repeat Conflict (sym i)
+    none false true r k i = no_ok Repeat PastEnd (sym i)
+    none false false false k i = no_ok Repeat TooLarge (sym i)
+    none false false true true i = other Complete (λ j. let e : Complete ≡ Repeat = j in cc) i
+    none false false true false i = other Kept (λ j. let e : Kept ≡ Repeat = j in cc) i
+
 adds_by : (m : Table) (s : Delivery) (r : Result Bool TakeFault) → Judges m s r → answer m s ≡ Ok Complete → may_add m s ≡ true
 adds_by m s (Ok true) j h = j.0
 adds_by m s (Ok false) j h = let a : Answer = Ok Repeat in let b : Answer = Ok Complete in let i : a ≡ b = sym j.1 ∙ h in absurd (let k : Repeat ≡ Complete = cc in cc)
 adds_by m s (Err f) j h = no_ok Complete f (sym h ∙ j.1)
 
 pub complete_adds : (m : Table) (s : Delivery) → answer m s ≡ Ok Complete → may_add m s ≡ true
-complete_adds m s h = let j = judged_entry m s (entry_at m s.seq) refl in adds_by m s j.0 j.1 h
+complete_adds m s h = let j = judged_somehow m s in adds_by m s j.0 j.1 h

@@ -4,3 +4,4 @@ pub mod Taking
 pub mod Holding
 pub mod Reassembled
 pub mod Pieces
+pub mod Desks

@@ -2,12 +2,14 @@
 #![tactic(auto)]
 
 mod cutting;
+mod desk;
 mod faults;
 mod holding;
 mod keys;
 mod reassembly;
 
 pub use cutting::{CutFault, CutPlan, cut};
+pub use desk::Desk;
 pub use faults::{TakeFault, Taken};
 pub use keys::Key;
 pub use reassembly::Reassembly;
