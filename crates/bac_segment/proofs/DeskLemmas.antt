@@ -33,7 +33,7 @@ same_self a =
     ∙ ap (λ (x : Bool). x && eqb a.choice a.choice) (eq-eqb a.invoke a.invoke refl)
     ∙ eq-eqb a.choice a.choice refl
 
-put_same : (rs : List Reassembled) (k : Key) (m : Table) → table_of_key (put rs k m) k ≡ Some m
+pub put_same : (rs : List Reassembled) (k : Key) (m : Table) → table_of_key (put rs k m) k ≡ Some m
 put_same [] k m = ap (λ (b : Bool). cond b (Some m) None) (same_self k)
 put_same (r ∷ rs) k m = by_same (same_key r.key k) refl (put_same rs k m)
   where
@@ -41,7 +41,7 @@ put_same (r ∷ rs) k m = by_same (same_key r.key k) refl (put_same rs k m)
     by_same true e h = ap (λ (b : Bool). cond b (Some m) (table_of_key rs k)) (same_self k)
     by_same false e h = ap (λ (b : Bool). cond b (Some r.table) (table_of_key (put rs k m) k)) e ∙ h
 
-put_other : (rs : List Reassembled) (k q : Key) (m : Table) → same_key k q ≡ false → table_of_key (put rs k m) q ≡ table_of_key rs q
+pub put_other : (rs : List Reassembled) (k q : Key) (m : Table) → same_key k q ≡ false → table_of_key (put rs k m) q ≡ table_of_key rs q
 put_other [] k q m n = ap (λ (b : Bool). cond b (Some m) None) n
 put_other (r ∷ rs) k q m n = by_same (same_key r.key k) refl (put_other rs k q m n)
   where
@@ -49,7 +49,7 @@ put_other (r ∷ rs) k q m n = by_same (same_key r.key k) refl (put_other rs k q
     by_same true e h = ap (λ (b : Bool). cond b (Some m) (table_of_key rs q)) n ∙ ap (λ (b : Bool). cond b (Some r.table) (table_of_key rs q)) (sym (ap (λ (x : Key). same_key x q) (key_same r.key k e) ∙ n))
     by_same false e h = ap (λ (t : Option Table). cond (same_key r.key q) (Some r.table) t) h
 
-closed_same : (rs : List Reassembled) (k : Key) → table_of_key (closed rs k) k ≡ None
+pub closed_same : (rs : List Reassembled) (k : Key) → table_of_key (closed rs k) k ≡ None
 closed_same [] k = refl
 closed_same (r ∷ rs) k = by_same (same_key r.key k) refl (closed_same rs k)
   where
@@ -57,7 +57,7 @@ closed_same (r ∷ rs) k = by_same (same_key r.key k) refl (closed_same rs k)
     by_same true e h = h
     by_same false e h = ap (λ (b : Bool). cond b (Some r.table) (table_of_key (closed rs k) k)) e ∙ h
 
-closed_other : (rs : List Reassembled) (k q : Key) → same_key k q ≡ false → table_of_key (closed rs k) q ≡ table_of_key rs q
+pub closed_other : (rs : List Reassembled) (k q : Key) → same_key k q ≡ false → table_of_key (closed rs k) q ≡ table_of_key rs q
 closed_other [] k q n = refl
 closed_other (r ∷ rs) k q n = by_same (same_key r.key k) refl (closed_other rs k q n)
   where

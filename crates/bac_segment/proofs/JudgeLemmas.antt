@@ -1,5 +1,5 @@
 -- The answer to a segment, where its tests went so.
-use Rattle.std.proofs.Common.{Result, ◌≡◌, ℕ, Bool, true, false, not, cond, Option, Some, None, Ok, Err, refl, sym, ap, subst, ◌∙◌, ◌&&◌, ◌||◌, eqb}
+use Rattle.std.proofs.Common.{Result, ◌≡◌, inl, inr, ℕ, Bool, true, false, not, cond, Option, Some, None, Ok, Err, refl, sym, ap, subst, ◌∙◌, ◌&&◌, ◌||◌, eqb}
 use Rattle.std.specs.Prelude.{is_none, is_some}
 use Rattle.bac_segment.specs.declared.faults.Taken.{Taken}
 use Rattle.bac_segment.specs.declared.faults.Taken.TheVariants.{Repeat, Kept, Complete}
@@ -7,7 +7,7 @@ use Rattle.bac_segment.specs.declared.faults.TakeFault.{TakeFault}
 use Rattle.bac_segment.specs.declared.faults.TakeFault.TheVariants.{OtherKey, Conflict, PastEnd, TooLarge, OutOfMemory, DeskFull}
 use Rattle.bac_segment.specs.Deliveries.{Delivery}
 use Rattle.bac_segment.specs.Tables.{Entry, Table, whole, with_segment}
-use Rattle.bac_segment.specs.Taking.{Answer, answer, answer_where, kept_answer, entry_at, is_held_above, is_ended_below, has_room, same_entry, may_add, with_next, Judges, Keeps}
+use Rattle.bac_segment.specs.Taking.{Answer, IsKept, answer, answer_where, kept_answer, entry_at, is_held_above, is_ended_below, has_room, same_entry, may_add, with_next, Judges, Keeps}
 
 -- the tests, as truth values
 abbrev decided : Bool → Bool → Bool → Answer → Answer
@@ -164,3 +164,29 @@ adds_by m s (Err f) j h = no_ok Complete f (sym h ∙ j.1)
 
 pub complete_adds : (m : Table) (s : Delivery) → answer m s ≡ Ok Complete → may_add m s ≡ true
 complete_adds m s h = let j = judged_somehow m s in adds_by m s j.0 j.1 h
+
+-- ---- where it is kept
+
+pub kept_where : (m : Table) (s : Delivery) → may_add m s ≡ true → IsKept (answer m s)
+kept_where m s h = let j = judged_somehow m s in by_judged j.0 j.1
+  where
+    not_both : {P : Type 0} (b : Bool) → b ≡ true → b ≡ false → P
+    not_both b i j = absurd (let k : true ≡ false = sym i ∙ j in cc)
+
+    by_whole : (b : Bool) → IsKept (cond b (Ok Complete) (Ok Kept))
+    by_whole true = inr refl
+    by_whole false = inl refl
+
+    by_judged : (r : Result Bool TakeFault) → Judges m s r → IsKept (answer m s)
+    by_judged (Ok true) j = subst IsKept (sym j.1) (by_whole (is_some (whole (with_segment m s))))
+    by_judged (Ok false) j = not_both (may_add m s) h j.0
+    by_judged (Err f) j = not_both (may_add m s) h j.0
+
+pub adds_where : (m : Table) (s : Delivery) → IsKept (answer m s) → may_add m s ≡ true
+adds_where m s (inr h) = complete_adds m s h
+adds_where m s (inl h) = let j = judged_somehow m s in by_judged j.0 j.1
+  where
+    by_judged : (r : Result Bool TakeFault) → Judges m s r → may_add m s ≡ true
+    by_judged (Ok true) j = j.0
+    by_judged (Ok false) j = let a : Answer = Ok Repeat in let b : Answer = Ok Kept in let i : a ≡ b = sym j.1 ∙ h in absurd (let k : Repeat ≡ Kept = cc in cc)
+    by_judged (Err f) j = no_ok Kept f (sym h ∙ j.1)

@@ -3,3 +3,7 @@ pub mod JudgeLemmas
 pub mod TakeLemmas
 pub mod PieceLemmas
 pub mod DeskLemmas
+pub mod HistoryLemmas
+pub mod CutLemmas
+pub mod JoinLemmas
+pub mod DeskHistoryLemmas

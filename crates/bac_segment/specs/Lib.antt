@@ -5,3 +5,6 @@ pub mod Holding
 pub mod Reassembled
 pub mod Pieces
 pub mod Desks
+pub mod Histories
+pub mod Cuts
+pub mod DeskHistories

@@ -6,6 +6,7 @@ mod desk;
 mod faults;
 mod holding;
 mod keys;
+pub mod laws;
 mod reassembly;
 
 pub use cutting::{CutFault, CutPlan, cut};
