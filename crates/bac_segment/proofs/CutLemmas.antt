@@ -1,18 +1,16 @@
 -- What is held of one cut.
-use Rattle.std.proofs.Common.{◌≡◌, ◌≢◌, ◌↔◌, ◌⊎◌, inl, inr, ◌+◌, ◌≤◌, ◌<◌, ℕ, zero, suc, Bool, true, false, not, cond, eqb, Option, Some, None, Ok, Err, List, [], ◌∷◌, ◌++◌, length, take, drop, get_or, set, replicate, refl, sym, ap, ◌∙◌, subst, ◌&&◌, ◌||◌, arith, add-one}
-use Rattle.std.specs.Prelude.{is_some, is_none}
+use Rattle.std.proofs.Common.{◌≡◌, ◌↔◌, ◌⊎◌, inl, inr, ◌+◌, ◌≤◌, ◌<◌, ℕ, zero, suc, Bool, true, false, not, cond, eqb, Option, Some, None, Ok, List, [], ◌∷◌, ◌++◌, length, take, drop, get_or, set, replicate, refl, sym, ap, ◌∙◌, subst, ◌&&◌, ◌||◌, arith, add-one}
+use Rattle.std.specs.Prelude.{is_some}
 use Rattle.std.specs.Option.{option_map}
 use Rattle.std.specs.Str.{bytes_eq}
 use Rattle.std.specs.List.{fold, list_any, AllByRecursion}
-use Rattle.std.proofs.lemmas.Bool.{le-leb, eqb-true, eq-eqb, ne_eqb, cases_eq}
+use Rattle.std.proofs.lemmas.Bool.{le-leb, eq-eqb, ne_eqb, cases_eq}
 use Rattle.std.proofs.lemmas.List.{length-append, get_or-set_same, get_or-set_other, append-nil}
 use Rattle.std.proofs.lemmas.Slice.Eq.{bytes_eq-Decides}
-use Rattle.bac_segment.specs.declared.keys.Key.{Key}
-use Rattle.bac_segment.specs.declared.faults.Taken.TheVariants.{Kept, Repeat, Complete}
-use Rattle.bac_segment.specs.declared.faults.TakeFault.TheVariants.{OtherKey, Conflict, PastEnd, TooLarge, OutOfMemory, DeskFull}
-use Rattle.bac_segment.specs.Deliveries.{Delivery, key_of}
+use Rattle.bac_segment.specs.declared.faults.Taken.TheVariants.{Kept, Complete}
+use Rattle.bac_segment.specs.Deliveries.{Delivery}
 use Rattle.bac_segment.specs.Tables.{Entry, Table, empty_table, is_last, joined, whole, with_segment}
-use Rattle.bac_segment.specs.Taking.{Answer, answer, may_add, with_next, held, is_ended_below, is_held_above, entry_at, same_entry, same_more, has_room, Judges, kept_answer}
+use Rattle.bac_segment.specs.Taking.{Answer, answer, with_next, held, is_ended_below, is_held_above, same_entry, same_more}
 use Rattle.bac_segment.specs.Pieces.{all_of, are_more}
 use Rattle.bac_segment.specs.Cuts.{IsGood}
 use Rattle.bac_segment.proofs.JudgeLemmas.{repeated, is_new}

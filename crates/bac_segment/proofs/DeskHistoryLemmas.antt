@@ -1,6 +1,6 @@
 -- Laws over the calls of a desk.
 use Rattle.std.specs.Prelude.{Some, None, is_some, is_none}
-use Rattle.std.proofs.Common.{◌≡◌, ◌≢◌, ◌↔◌, ◌⊎◌, inl, inr, ◌≤◌, ◌<◌, ◌+◌, ℕ, zero, suc, Bool, true, false, not, cond, leb, ◌&&◌, Option, Ok, Err, List, [], ◌∷◌, ◌++◌, length, map, refl, sym, ap, ◌∙◌, subst, arith}
+use Rattle.std.proofs.Common.{◌≡◌, ◌≢◌, ◌↔◌, ◌⊎◌, ◌≤◌, ◌<◌, ℕ, suc, Bool, true, false, cond, leb, ◌&&◌, Option, Ok, Err, List, [], ◌∷◌, ◌++◌, length, refl, sym, ap, ◌∙◌, subst, arith}
 use Rattle.std.specs.List.{AllByRecursion}
 use Rattle.std.specs.Option.{unwrap_or}
 use Rattle.std.proofs.lemmas.Bool.{le-leb, leb-true}
@@ -11,7 +11,7 @@ use Rattle.bac_segment.specs.declared.faults.TakeFault.{TakeFault}
 use Rattle.bac_segment.specs.declared.faults.TakeFault.TheVariants.{OtherKey, Conflict, PastEnd, TooLarge, OutOfMemory, DeskFull}
 use Rattle.bac_segment.specs.Deliveries.{Delivery, key_of}
 use Rattle.bac_segment.specs.Tables.{Table, empty_table, whole, holds_any}
-use Rattle.bac_segment.specs.Taking.{Answer, IsKept, counts, answer, may_add, with_next, held, Keeps}
+use Rattle.bac_segment.specs.Taking.{Answer, IsKept, counts, answer, with_next, held}
 use Rattle.bac_segment.specs.Pieces.{IsCutOf, cut_fault}
 use Rattle.bac_segment.specs.Cuts.{IsOneOf, AreAmong, IsGood}
 use Rattle.bac_segment.specs.Reassembled.{Reassembled}
@@ -178,13 +178,15 @@ full_where : (calls : List DeskCall) (desk : List Reassembled) (k : Key) → Des
 full_where calls desk k h =
     let d = desk_used calls desk h in (
       λ full. let e = is_eight desk k full in
-          let opens = keys_open desk desk (λ q i. i) in
-          (sym (open_held calls desk k h) ∙ e.0, record {
-            keys = keys_of desk;
-            eight = omega (arith, keys_length desk, e.1, d.0.few);
-            distinct = keys_distinct desk d.0.apart;
-            others = both_of calls desk k (keys_of desk) h (others_than desk k (keys_of desk) e.0 opens) opens;
-          }),
+          let opens = keys_open desk desk (λ q i. i) in (
+            sym (open_held calls desk k h) ∙ e.0,
+            record {
+              keys = keys_of desk;
+              eight = omega (arith, keys_length desk, e.1, d.0.few);
+              distinct = keys_distinct desk d.0.apart;
+              others = both_of calls desk k (keys_of desk) h (others_than desk k (keys_of desk) e.0 opens) opens;
+            },
+          ),
       λ p. eight_full desk k (open_held calls desk k h ∙ p.0) (omega (arith, p.1.eight, few_open desk p.1.keys p.1.distinct (opens_of calls desk k p.1.keys h p.1.others))),
     )
 

@@ -8,7 +8,7 @@ use Rattle.std.proofs.lemmas.List.{set-get_or, drop_more, drop_all, length-set, 
 use mathlib.Core.Bool.{beq}
 use Rattle.bac_segment.specs.declared.keys.Key.{Key}
 use Rattle.bac_segment.specs.declared.faults.Taken.{Taken}
-use Rattle.bac_segment.specs.declared.faults.Taken.TheVariants.{Kept, Repeat, Complete}
+use Rattle.bac_segment.specs.declared.faults.Taken.TheVariants.{Repeat}
 use Rattle.bac_segment.specs.declared.faults.TakeFault.{TakeFault}
 use Rattle.bac_segment.specs.declared.faults.TakeFault.TheVariants.{OtherKey, Conflict, PastEnd, TooLarge, OutOfMemory, DeskFull}
 use Rattle.bac_segment.specs.Deliveries.{Delivery, key_of}
@@ -16,7 +16,7 @@ use Rattle.bac_segment.specs.Tables.{Entry, Table, empty_table, whole, joined, i
 use Rattle.bac_segment.specs.Taking.{Answer, answer, may_add, with_next, Judges, Keeps, entry_at, is_held_above, is_ended_below}
 use Rattle.bac_segment.specs.Reassembled.{Reassembled, Takes, opened}
 use Rattle.bac_segment.specs.Desks.{same_key, place_of, table_of_key, is_open, held_of, is_full_for, put, closed, AreApart, IsDesk, AreUsed, DeskTakes}
-use Rattle.bac_segment.proofs.JudgeLemmas.{no_fault_of, keeps_fault, past_end, too_large, is_new, judged_somehow, no_repeat}
+use Rattle.bac_segment.proofs.JudgeLemmas.{keeps_fault, past_end, too_large, is_new, judged_somehow, no_repeat}
 use Rattle.bac_segment.proofs.TakeLemmas.{same_key as key_from}
 
 pub key_same : (a b : Key) → same_key a b ≡ true → a ≡ b

@@ -1,19 +1,19 @@
 -- Laws over lists of deliveries.
-use Rattle.std.proofs.Common.{◌≡◌, ◌≢◌, ◌↔◌, ℕ, zero, suc, Bool, true, false, not, cond, Option, Some, None, Ok, Err, List, [], ◌∷◌, ◌++◌, take, drop, get_or, set, refl, sym, ap, ◌∙◌, subst, ◌&&◌, ◌||◌}
-use Rattle.std.specs.Prelude.{is_some, is_none}
+use Rattle.std.proofs.Common.{◌≡◌, ℕ, zero, suc, Bool, true, false, not, cond, Option, Some, None, Ok, Err, List, [], ◌∷◌, ◌++◌, take, get_or, refl, sym, ap, ◌∙◌, subst, ◌||◌}
+use Rattle.std.specs.Prelude.{is_some}
 use Rattle.std.specs.Option.{option_map}
 use Rattle.std.specs.List.{fold, list_any, AllByRecursion}
 use Rattle.bac_segment.specs.declared.keys.Key.{Key}
 use Rattle.bac_segment.specs.declared.faults.Taken.{Taken}
-use Rattle.bac_segment.specs.declared.faults.Taken.TheVariants.{Kept, Repeat, Complete}
+use Rattle.bac_segment.specs.declared.faults.Taken.TheVariants.{Complete}
 use Rattle.bac_segment.specs.declared.faults.TakeFault.{TakeFault}
 use Rattle.bac_segment.specs.declared.faults.TakeFault.TheVariants.{OtherKey, Conflict, PastEnd, TooLarge, OutOfMemory, DeskFull}
 use Rattle.bac_segment.specs.Deliveries.{Delivery, key_of}
-use Rattle.bac_segment.specs.Tables.{Entry, Table, is_last, whole, with_segment}
-use Rattle.bac_segment.specs.Taking.{Answer, IsKept, counts, answer, may_add, with_next, held, is_ended_below, entry_at}
+use Rattle.bac_segment.specs.Tables.{Table, is_last, whole, with_segment}
+use Rattle.bac_segment.specs.Taking.{Answer, counts, answer, may_add, with_next, held}
 use Rattle.bac_segment.specs.Reassembled.{Reassembled, Takes, opened}
 use Rattle.bac_segment.specs.Histories.{Delivers, counted, IsAnswer}
-use Rattle.bac_segment.proofs.HoldingLemmas.{CanAdd, can_add}
+use Rattle.bac_segment.proofs.HoldingLemmas.{can_add}
 use Rattle.bac_segment.proofs.JudgeLemmas.{kept_where, complete_adds}
 
 -- what a step leaves, and what its answer is

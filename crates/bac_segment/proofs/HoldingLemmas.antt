@@ -1,11 +1,11 @@
 -- Octets and spans, and the table that they stand for.
-use Rattle.std.proofs.Common.{◌≡◌, ◌⊎◌, inl, inr, ltb, leb, max, ℕ, ◌+◌, ◌-◌, ◌≤◌, ◌<◌, zero, suc, Bool, true, false, cond, Option, Some, None, List, [], ◌∷◌, ◌++◌, length, take, drop, map, set, get_or, refl, sym, ap, ◌∙◌, subst, arith, ◌||◌, ◌&&◌, not, zero-add, add-one, eqb, replicate}
+use Rattle.std.proofs.Common.{◌≡◌, ◌⊎◌, inl, inr, ltb, leb, max, ℕ, ◌+◌, ◌-◌, ◌≤◌, ◌<◌, zero, suc, Bool, true, false, cond, Option, Some, None, List, [], ◌∷◌, ◌++◌, length, take, drop, set, get_or, refl, sym, ap, ◌∙◌, subst, arith, ◌||◌, ◌&&◌, not, zero-add, add-one, eqb, replicate}
 use Rattle.std.specs.Prelude.{MatchBool, is_some, is_none, sum_by, slice_range}
 use Rattle.std.specs.Option.{option_map}
-use Rattle.std.specs.List.{flat_map, list_any}
+use Rattle.std.specs.List.{list_any}
 use Rattle.std.proofs.lemmas.List.{append_assoc, length-append, length-set, take_at, drop_at, append-nil, length-map, take-append-drop, length-replicate, get_or_default}
-use Rattle.std.proofs.lemmas.Bool.{leb-true, ltb-true, ltb-false, lt-ltb, le-ltb, le-leb, lt-leb, eq-eqb, eqb-true, ne_eqb, cases_eq}
-use Rattle.std.proofs.lemmas.List.Sums.{sum_by-cons, sum_by-take-le}
+use Rattle.std.proofs.lemmas.Bool.{leb-true, ltb-true, ltb-false, lt-ltb, le-ltb, le-leb, eq-eqb, ne_eqb, cases_eq}
+use Rattle.std.proofs.lemmas.List.Sums.{sum_by-cons}
 use Rattle.bac_segment.specs.declared.holding.Span.{Span}
 use Rattle.bac_segment.specs.declared.holding.Held.{Held}
 use Rattle.std.proofs.Common.{Result, Ok, Err}
@@ -15,7 +15,7 @@ use Rattle.std.specs.Str.{bytes_eq}
 use Rattle.bac_segment.specs.declared.faults.TakeFault.{TakeFault}
 use Rattle.bac_segment.specs.Deliveries.{Delivery}
 use Rattle.bac_segment.specs.Taking.{Judges, same_entry, same_more, entry_at, is_held_above, is_ended_below, has_room, may_add}
-use Rattle.bac_segment.specs.Tables.{Entry, Table, octets_at, joined, is_last, whole, with_segment, empty_table}
+use Rattle.bac_segment.specs.Tables.{Entry, Table, joined, is_last, whole, with_segment, empty_table}
 use Rattle.bac_segment.specs.Holding.{span_of, spans_of, span_len, table_of, count_of, end_of, Holds, EndsAtLast, IsHeld, table_in}
 
 -- a table is what its octets and spans stand for
@@ -465,8 +465,8 @@ kept_in old new h s n start e l at j octets spans count end ended =
     let same = ap (λ (m : Table). with_segment m s) (sym (table_is h)) in
     let is : (x : IsHeld new) × (x.table ≡ with_segment h.table s) =
     subst (λ (b : Bool). (x : Holds new.octets.items new.spans.items new.count new.end b) × (x.table ≡ with_segment h.table s)) (sym ended)
-        (subst (λ (k : ℕ). (x : Holds new.octets.items new.spans.items new.count k (old.ended || not s.more)) × (x.table ≡ with_segment h.table s)) (sym end)
-            (subst (λ (k : ℕ). (x : Holds new.octets.items new.spans.items k (max old.end (n + 1)) (old.ended || not s.more)) × (x.table ≡ with_segment h.table s)) (sym count) made))
+    (subst (λ (k : ℕ). (x : Holds new.octets.items new.spans.items new.count k (old.ended || not s.more)) × (x.table ≡ with_segment h.table s)) (sym end)
+    (subst (λ (k : ℕ). (x : Holds new.octets.items new.spans.items k (max old.end (n + 1)) (old.ended || not s.more)) × (x.table ≡ with_segment h.table s)) (sym count) made))
     in
     record {
       held = is.0;

@@ -1,6 +1,6 @@
 -- The segments of a cut are joined to what was cut.
 use Rattle.std.specs.Prelude.{Some, None}
-use Rattle.std.proofs.Common.{◌≡◌, ◌↔◌, ◌⊎◌, inl, inr, ◌+◌, ◌*◌, ◌-◌, ◌≤◌, ◌<◌, ℕ, zero, suc, Bool, true, false, cond, eqb, ltb, ◌||◌, Option, Ok, Err, List, [], ◌∷◌, ◌++◌, length, refl, sym, ap, ◌∙◌, subst, arith, add-zero, zero-add}
+use Rattle.std.proofs.Common.{◌≡◌, ◌↔◌, ◌⊎◌, inl, inr, ◌+◌, ◌*◌, ◌≤◌, ◌<◌, ℕ, zero, suc, Bool, true, false, cond, eqb, ltb, ◌||◌, Option, Ok, Err, List, [], ◌∷◌, ◌++◌, length, refl, sym, ap, ◌∙◌, subst, arith, add-zero, zero-add}
 use Rattle.std.specs.List.{AllByRecursion}
 use Rattle.std.proofs.lemmas.Bool.{eqb-true, eq-eqb, ltb-false}
 use Rattle.std.proofs.lemmas.Grind.{fold-append}
@@ -11,7 +11,7 @@ use Rattle.bac_segment.specs.declared.cutting.CutFault.TheVariants.{Size, Window
 use Rattle.bac_segment.specs.Deliveries.{Delivery, key_of}
 use Rattle.bac_segment.specs.Tables.{Table, empty_table, whole}
 use Rattle.bac_segment.specs.Taking.{Answer, counts, answer, with_next, held}
-use Rattle.bac_segment.specs.Pieces.{all_of, AreEven, ArePieces, segments_from, IsCutOf, cut_fault}
+use Rattle.bac_segment.specs.Pieces.{ArePieces, segments_from, IsCutOf, cut_fault}
 use Rattle.bac_segment.specs.Cuts.{IsOneOf, AreAmong, AreOf, IsGood}
 use Rattle.bac_segment.specs.Reassembled.{Reassembled, opened}
 use Rattle.bac_segment.specs.Histories.{Delivers, counted}

@@ -1,5 +1,5 @@
 -- The answer to a segment, where its tests went so.
-use Rattle.std.proofs.Common.{Result, ◌≡◌, inl, inr, ℕ, Bool, true, false, not, cond, Option, Some, None, Ok, Err, refl, sym, ap, subst, ◌∙◌, ◌&&◌, ◌||◌, eqb}
+use Rattle.std.proofs.Common.{Result, ◌≡◌, inl, inr, Bool, true, false, not, cond, Option, Some, None, Ok, Err, refl, sym, ap, subst, ◌∙◌, ◌&&◌, ◌||◌, eqb}
 use Rattle.std.specs.Prelude.{is_none, is_some}
 use Rattle.bac_segment.specs.declared.faults.Taken.{Taken}
 use Rattle.bac_segment.specs.declared.faults.Taken.TheVariants.{Repeat, Kept, Complete}

@@ -1,14 +1,11 @@
 -- A step of a reassembly.
-use Rattle.std.proofs.Common.{◌≡◌, ◌≢◌, ℕ, Bool, true, false, not, Ok, Err, refl, sym, ap, ◌∙◌, ◌&&◌, cond, eqb, Option, Some, None}
-use Rattle.std.specs.Prelude.{is_some}
+use Rattle.std.proofs.Common.{◌≡◌, ℕ, Bool, true, false, not, Ok, Err, refl, sym, ap, ◌∙◌, ◌&&◌, eqb}
 use mathlib.Core.Bool.{beq}
 use Rattle.std.proofs.lemmas.Bool.{eqb-true, and_parts, not-false}
 use Rattle.bac_segment.specs.declared.keys.Key.{Key}
-use Rattle.bac_segment.specs.declared.faults.Taken.TheVariants.{Repeat, Kept, Complete}
-use Rattle.bac_segment.specs.declared.faults.TakeFault.{TakeFault}
 use Rattle.bac_segment.specs.declared.faults.TakeFault.TheVariants.{OtherKey, Conflict, PastEnd, TooLarge, OutOfMemory, DeskFull}
 use Rattle.bac_segment.specs.Deliveries.{Delivery, key_of}
-use Rattle.bac_segment.specs.Tables.{Entry, Table}
+use Rattle.bac_segment.specs.Tables.{Table}
 use Rattle.bac_segment.specs.Taking.{Answer, Keeps}
 use Rattle.bac_segment.specs.Reassembled.{Reassembled, Takes}
 use Rattle.bac_segment.proofs.JudgeLemmas.{no_fault_of}

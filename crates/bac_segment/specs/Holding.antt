@@ -1,6 +1,6 @@
 -- How a table is held: its pieces joined in order of number, for each number how many octets are its own, and what
 -- would be counted anew at each call.
-use Rattle.std.specs.Prelude.{◌≡◌, ◌≤◌, ◌+◌, ◌==◌, ◌&&◌, ℕ, Bool, true, false, not, is_some, MatchBool, if◌then◌else◌, Option, Some, None, List, [], ◌∷◌, length, take, drop, map}
+use Rattle.std.specs.Prelude.{◌≡◌, ◌≤◌, ◌+◌, ◌==◌, ℕ, Bool, false, is_some, MatchBool, if◌then◌else◌, Option, Some, None, List, [], ◌∷◌, length, take, drop, map}
 use Rattle.std.specs.List.{list_any}
 use Rattle.std.specs.Option.{option_map}
 use Rattle.bac_segment.specs.declared.holding.Span.{Span}

@@ -1,5 +1,5 @@
 -- A reassembly as its callers see it, and what one segment does to it.
-use Rattle.std.specs.Prelude.{◌≡◌, ◌≢◌, ℕ, Bool, Option, Result, Ok, Err, List, refl}
+use Rattle.std.specs.Prelude.{◌≡◌, ◌≢◌, ℕ, Bool, Err, List, refl}
 use Rattle.std.specs.Coded.{Coded, code_by, coded×, coded_ℕ, coded_bool, coded_list, coded_option}
 use Rattle.bac_segment.specs.declared.keys.Key.{Key}
 use Rattle.bac_segment.specs.declared.faults.TakeFault.TheVariants.{OtherKey, DeskFull}

@@ -112,7 +112,7 @@ fn segments(
     ensures ok { IfOk result (λ segments. IsCutOf plan.now octets.now (map delivery segments.items)) }
     ensures err { IfErr result (λ fault. fault ≡ CutFault.OutOfMemory) }
 {
-    let mut segments = Vec::new(alloc);
+    let mut segments = Vec::with_capacity(alloc, octets.len() / plan.size + 1)?;
     let mut rest = octets;
     let mut number = 0;
     while rest.len() > plan.size {

@@ -1,4 +1,4 @@
-use Rattle.std.proofs.Common.{◌≡◌, ◌≤◌, arith, sym, ap, ◌∙◌, subst, ℕ, Option, Some, None, Result}
+use Rattle.std.proofs.Common.{◌≡◌, arith, sym, ap, subst, ℕ, Option}
 use Rattle.std.specs.Prelude.{MatchOption, IfErr, IsErrOf, is_some}
 use Rattle.bac_segment.specs.declared.cutting.CutFault.{CutFault}
 use Rattle.bac_segment.specs.declared.cutting.CutFault.TheVariants.{OutOfMemory}

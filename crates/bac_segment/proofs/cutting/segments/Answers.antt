@@ -1,8 +1,7 @@
-use Rattle.std.proofs.Common.{◌≡◌, ◌≤◌, ◌+◌, ◌*◌, ◌++◌, ◌∷◌, [], map, length, ℕ, true, false, List, take, drop, sym, ap, ◌∙◌, subst, refl, arith, rules}
+use Rattle.std.proofs.Common.{◌++◌, ◌∷◌, [], map, ℕ, true, false, List, drop, sym, ap, ◌∙◌, arith}
 use Rattle.std.proofs.lemmas.List.{map-append, take-append-drop}
 use Rattle.std.proofs.lemmas.Grind.{rows}
 use Rattle.bac_segment.specs.Deliveries.{Delivery, delivery}
-use Rattle.bac_segment.specs.Pieces.{IsCutOf, cut_fault}
 use Rattle.bac_segment.proofs.PieceLemmas.{cut_more, cut_last}
 use Rattle.bac_segment.proofs.cutting.segments.Goals as goal
 

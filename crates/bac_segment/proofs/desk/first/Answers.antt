@@ -1,4 +1,4 @@
-use Rattle.std.proofs.Common.{◌≡◌, ◌≤◌, ◌<◌, sym, ap, ◌∙◌, List, ℕ, length, arith}
+use Rattle.std.proofs.Common.{◌≡◌, sym, ap, List, ℕ, length, arith}
 use Rattle.bac_segment.specs.declared.faults.TakeFault.TheVariants.{OtherKey, OutOfMemory, PastEnd, TooLarge, DeskFull}
 use Rattle.std.proofs.Common.{refl}
 use Rattle.bac_segment.specs.Deliveries.{delivery}

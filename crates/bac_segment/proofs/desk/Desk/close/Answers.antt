@@ -1,6 +1,6 @@
-use Rattle.std.proofs.Common.{◌≡◌, ◌≤◌, ◌<◌, List, sym, ap, ◌∙◌, subst, refl, arith}
+use Rattle.std.proofs.Common.{List, sym, ap, ◌∙◌, subst, refl, arith}
 use Rattle.bac_segment.specs.Reassembled.{Reassembled}
-use Rattle.bac_segment.specs.Desks.{closed, is_open, IsDesk}
+use Rattle.bac_segment.specs.Desks.{closed, IsDesk}
 use Rattle.bac_segment.proofs.DeskLemmas.{found, open_found, open_lost, closed_lost, closed_remove, desk_closes, at_view}
 use Rattle.bac_segment.proofs.desk.Desk.close.Goals as goal
 

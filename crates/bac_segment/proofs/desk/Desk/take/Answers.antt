@@ -1,10 +1,9 @@
-use Rattle.std.proofs.Common.{rules, ◌≡◌, ◌≤◌, ◌<◌, sym, ap, ◌∙◌, subst, refl, get_or, set, List, length, Ok, Err, arith}
+use Rattle.std.proofs.Common.{◌<◌, sym, ap, ◌∙◌, subst, refl, set, List, length, Ok, Err, arith}
 use Rattle.bac_segment.specs.declared.keys.Key.{Key}
 use Rattle.bac_segment.specs.declared.faults.TakeFault.TheVariants.{OutOfMemory}
 use Rattle.bac_segment.specs.Deliveries.{delivery, key_of}
-use Rattle.bac_segment.specs.Tables.{empty_table}
 use Rattle.bac_segment.specs.Reassembled.{Reassembled, Takes, opened}
-use Rattle.bac_segment.specs.Desks.{place_of, DeskTakes, IsDesk}
+use Rattle.bac_segment.specs.Desks.{DeskTakes, IsDesk}
 use Rattle.bac_segment.proofs.DeskLemmas.{found, is_full, takes_open, takes_new, fault_new, memory_new, desk_takes, at_view, pushed, not_pushed}
 use Rattle.bac_segment.proofs.desk.Desk.take.Goals as goal
 

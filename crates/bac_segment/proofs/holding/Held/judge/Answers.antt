@@ -1,4 +1,4 @@
-use Rattle.std.proofs.Common.{◌≡◌, ◌≤◌, ◌<◌, ◌+◌, ◌||◌, ◌&&◌, not, eqb, ℕ, Bool, List, Ok, Err, Some, None, true, false, get_or, take, drop, length, sym, ap, ◌∙◌, subst, arith, refl, rules}
+use Rattle.std.proofs.Common.{◌+◌, ℕ, List, Ok, Err, None, true, false, get_or, length, sym, ap, ◌∙◌, arith}
 use Rattle.std.proofs.lemmas.Bool.{lt-leb, le-leb}
 use Rattle.bac_segment.specs.declared.faults.TakeFault.TheVariants.{Conflict, PastEnd, TooLarge}
 use Rattle.std.specs.Prelude.{slice_range}

@@ -1,4 +1,4 @@
-use Rattle.std.proofs.Common.{◌≡◌, ◌≤◌, ◌<◌, ◌++◌, ℕ, Bool, List, length, refl, sym, ap, ◌∙◌, subst, arith}
+use Rattle.std.proofs.Common.{ℕ, List, length, ap, ◌∙◌, arith}
 use Rattle.bac_segment.specs.Deliveries.{delivery}
 use Rattle.bac_segment.specs.Holding.{table_in}
 use Rattle.bac_segment.proofs.HoldingLemmas.{start_within, count_fits, KeptIn, kept_by}

@@ -1,4 +1,4 @@
-use Rattle.std.proofs.Common.{◌≡◌, ◌∙◌}
+use Rattle.std.proofs.Common.{◌∙◌}
 use Rattle.bac_segment.proofs.HoldingLemmas.{table_is, held_nothing, resized}
 use Rattle.bac_segment.proofs.holding.Held.new.Goals as goal
 

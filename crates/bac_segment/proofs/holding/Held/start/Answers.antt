@@ -1,7 +1,4 @@
-use Rattle.std.proofs.Common.{◌≡◌, ◌≤◌, ◌∙◌, ap, ℕ, List, Option, take, length, sym, arith, subst}
-use Rattle.std.specs.Prelude.{sum_by}
-use Rattle.bac_segment.specs.declared.holding.Span.{Span}
-use Rattle.bac_segment.specs.Holding.{span_len}
+use Rattle.std.proofs.Common.{◌∙◌, ap, ℕ, List, length, arith}
 use Rattle.bac_segment.proofs.HoldingLemmas.{start_within, start_end}
 use Rattle.bac_segment.proofs.holding.Held.start.Goals as goal
 

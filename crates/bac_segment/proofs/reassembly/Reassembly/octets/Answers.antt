@@ -1,4 +1,4 @@
-use Rattle.std.proofs.Common.{◌≡◌, ℕ, List, Some, sym, ap, ◌∙◌}
+use Rattle.std.proofs.Common.{ℕ, List, Some, sym, ap, ◌∙◌}
 use Rattle.bac_segment.specs.Tables.{whole}
 use Rattle.bac_segment.specs.Reassembled.{Reassembled}
 use Rattle.bac_segment.proofs.HoldingLemmas.{table_is, whole_is, whole_joined, not_whole}

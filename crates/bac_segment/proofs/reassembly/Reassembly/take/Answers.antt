@@ -1,4 +1,4 @@
-use Rattle.std.proofs.Common.{◌≡◌, sym, ◌∙◌, subst}
+use Rattle.std.proofs.Common.{sym, ◌∙◌, subst}
 use Rattle.bac_segment.specs.Deliveries.{delivery}
 use Rattle.bac_segment.specs.Holding.{table_in}
 use Rattle.bac_segment.specs.Reassembled.{Reassembled, Takes}
