@@ -57,6 +57,7 @@ fn is_repeat(piece: &[u8], more: bool, segment: &Segment) -> bool
 }
 
 /// Puts a piece among the octets. Where memory is refused they stay as they are.
+#[inline(always)]
 fn put(octets: &mut Vec<u8>, start: usize, piece: &[u8]) -> Result<(), OutOfMemory>
     requires { start ≤ length octets.old.items }
     ensures ok { OnOk result (octets.new.items ≡ take start octets.old.items ++ piece.now ++ drop start octets.old.items) }
@@ -85,7 +86,7 @@ impl Held {
     }
 
     /// Whether all numbers up to a last piece are held.
-    #[inline]
+    #[inline(always)]
     pub(crate) fn is_whole(&self) -> bool
         ensures { result ≡ (self.now.ended && self.now.count == self.now.end) }
     {
@@ -93,6 +94,7 @@ impl Held {
     }
 
     /// The answer to a segment that was just kept.
+    #[inline(always)]
     fn kept(&self) -> Taken
         ensures { result ≡ (if self.now.ended && self.now.count == self.now.end then Taken.Complete else Taken.Kept) }
     {
@@ -103,7 +105,7 @@ impl Held {
     }
 
     /// The pieces, joined in order of number.
-    #[inline]
+    #[inline(always)]
     pub(crate) fn octets(&self) -> &[u8]
         ensures { result.now ≡ self.now.octets.items }
     {
@@ -111,7 +113,7 @@ impl Held {
     }
 
     /// Whether a segment would be the last one below a number that is held.
-    #[inline]
+    #[inline(always)]
     fn ends_too_early(&self, number: usize, more: bool) -> bool
         requires { number < 256 }
         ensures { result ≡ (not more && nat_lt (number + 1) self.now.end) }
@@ -120,7 +122,7 @@ impl Held {
     }
 
     /// Whether a segment stands behind the last one, or others could not follow it.
-    #[inline]
+    #[inline(always)]
     fn is_past_end(&self, number: usize, more: bool) -> bool
         ensures { result ≡ ((self.now.ended && nat_le self.now.end number) || (more && number == 255)) }
     {
@@ -128,6 +130,7 @@ impl Held {
     }
 
     /// How many octets stand before a number.
+    #[inline(always)]
     fn start(&self, number: usize) -> usize
         requires held { IsHeld self.now }
         requires number { number < 256 }
@@ -143,6 +146,7 @@ impl Held {
     ///
     /// # Errors
     /// `Conflict`, `PastEnd` and `TooLarge`.
+    #[inline(always)]
     fn judge(&self, segment: &Segment) -> Result<bool, TakeFault>
         requires { IsHeld self.now }
         ensures { Judges (table_in self.now) (delivery segment.now) result }
@@ -168,6 +172,7 @@ impl Held {
     }
 
     /// Notes that a number is held.
+    #[inline(always)]
     fn note(&mut self, number: usize, span: Span)
         requires number { number < length self.old.spans.items }
         requires count { self.old.count < 256 }
@@ -185,6 +190,7 @@ impl Held {
     }
 
     /// Keeps a segment where it is new and fits. After each fault all is as it was.
+    #[inline(always)]
     pub(crate) fn keep(&mut self, segment: &Segment) -> Result<Taken, TakeFault>
         requires { IsHeld self.old }
         ensures held { IsHeld self.new }

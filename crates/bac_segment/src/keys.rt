@@ -19,6 +19,7 @@ pub struct Key {
 }
 
 /// Whether a segment is of a Confirmed-Request.
+#[inline(always)]
 fn is_of_request(head: SegHead) -> bool
     ensures { result ≡ is_request head }
 {
@@ -29,6 +30,7 @@ fn is_of_request(head: SegHead) -> bool
 }
 
 /// The invoke id of a segment.
+#[inline(always)]
 fn invoke_id(head: SegHead) -> u8
     ensures { result ≡ invoke_of head }
 {
@@ -40,6 +42,7 @@ fn invoke_id(head: SegHead) -> u8
 
 impl Key {
     /// The key of a segment that this sender sent.
+    #[inline(always)]
     pub(crate) fn of(peer: u32, segment: &Segment) -> Key
         ensures { result ≡ key_of peer (delivery segment.now) }
     {

@@ -1,0 +1,118 @@
+//! Of segments. Where memory is refused a call is made again, so that the tests can be run with each allocation refused
+//! in turn (`rt try --test --fail-alloc N`).
+
+mod desks;
+mod examples;
+mod orders;
+mod sizes;
+mod texts;
+
+use bac_apdu::{Apdu, SegHead, Segment, decode_apdu};
+use bac_segment::{CutFault, CutPlan, Desk, Key, Reassembly, TakeFault, Taken, cut};
+use bac_tables::octets_of;
+use bac_tag::{OutOfMemory, Why};
+use std::alloc::Global;
+use std::process::Abort;
+use std::test::Fail;
+
+/// The service octets of F4 of docs/EXAMPLES.md.
+const SERVICE: &str = "0C 00 00 00 05 19 55 3E 44 42 90 99 9A 3F";
+
+/// The key of the segments of example 24, where sender 1 sent them.
+const KEY: Key = Key {
+    peer: 1,
+    request: false,
+    invoke: 1,
+    choice: 12,
+};
+
+/// A plan for an answer with invoke id 1 and choice 12.
+fn plan(size: usize, window: u8) -> CutPlan {
+    CutPlan {
+        head: SegHead::Ack { invoke: 1 },
+        choice: 12,
+        size,
+        window,
+    }
+}
+
+/// What is cut, at the latest when memory is asked for again.
+fn segments_of(alloc: Global, plan: &CutPlan, octets: &[u8]) -> Result<Vec<Segment>, CutFault> {
+    match cut(alloc, plan, octets) {
+        Err(CutFault::OutOfMemory) => cut(alloc, plan, octets),
+        found => found,
+    }
+}
+
+/// The segment with these octets.
+fn segment_of(alloc: Global, text: &str) -> Result<Segment, Fail> {
+    let octets = octets_of(text)?;
+    let apdu = match decode_apdu(alloc, &octets) {
+        Err(refusal) if refusal.why == Why::OutOfMemory => decode_apdu(alloc, &octets)?,
+        found => found?,
+    };
+    match apdu {
+        Apdu::Segment(segment) => Ok(segment),
+        _ => Err("no segment")?,
+    }
+}
+
+/// A reassembly of the key of example 24.
+fn opened(alloc: Global) -> Result<Reassembly, OutOfMemory> {
+    match Reassembly::new(alloc, KEY) {
+        Ok(reassembly) => Ok(reassembly),
+        Err(OutOfMemory) => Reassembly::new(alloc, KEY),
+    }
+}
+
+/// A desk.
+fn desk(alloc: Global) -> Result<Desk, OutOfMemory> {
+    match Desk::new(alloc) {
+        Ok(desk) => Ok(desk),
+        Err(OutOfMemory) => Desk::new(alloc),
+    }
+}
+
+/// The name of the answer to a segment, at the latest when memory is asked for again. Where it is refused the message
+/// is as whole as it was.
+fn take(rt: &impl Abort, reassembly: &mut Reassembly, segment: &Segment) -> &'static str {
+    let was_whole = reassembly.octets().is_some();
+    match reassembly.take(segment) {
+        Err(TakeFault::OutOfMemory) => {
+            assert_eq!(rt; reassembly.octets().is_some(), was_whole);
+            name_of(reassembly.take(segment))
+        }
+        found => name_of(found),
+    }
+}
+
+/// The same, of a desk.
+fn take_at(desk: &mut Desk, peer: u32, segment: &Segment) -> &'static str {
+    match desk.take(peer, segment) {
+        Err(TakeFault::OutOfMemory) => name_of(desk.take(peer, segment)),
+        found => name_of(found),
+    }
+}
+
+/// The name of an answer.
+fn name_of(answer: Result<Taken, TakeFault>) -> &'static str {
+    match answer {
+        Ok(Taken::Kept) => "Kept",
+        Ok(Taken::Repeat) => "Repeat",
+        Ok(Taken::Complete) => "Complete",
+        Err(TakeFault::OtherKey) => "OtherKey",
+        Err(TakeFault::Conflict) => "Conflict",
+        Err(TakeFault::PastEnd) => "PastEnd",
+        Err(TakeFault::TooLarge) => "TooLarge",
+        Err(TakeFault::OutOfMemory) => "OutOfMemory",
+        Err(TakeFault::DeskFull) => "DeskFull",
+    }
+}
+
+/// Whether the octets are there, and are these.
+fn are(octets: Option<&[u8]>, wanted: &[u8]) -> bool {
+    match octets {
+        Some(found) => found == wanted,
+        None => false,
+    }
+}
