@@ -1,5 +1,6 @@
 //! Why a measurement ends early.
 
+use bac_segment::{CutFault, TakeFault};
 use bac_tag::{OutOfMemory, Refusal};
 use std::alloc::AllocError;
 use std::io;
@@ -18,6 +19,10 @@ pub enum BenchFault {
     Differs,
     #[error("out of memory")]
     OutOfMemory,
+    #[error(transparent)]
+    Cut(#[from] CutFault),
+    #[error(transparent)]
+    Taken(#[from] TakeFault),
     #[error(transparent)]
     Io(#[from] io::Error),
 }

@@ -1,5 +1,6 @@
 //! The program `bac_bench`: how long reading, marking and writing values takes, beside a plain copy of the same
-//! octets in the same run, how many services are decoded, marked and encoded in a second, and how many APDUs.
+//! octets in the same run, how many services are decoded, marked and encoded in a second, how many APDUs, and how long
+//! a message of many segments takes to be cut and joined.
 //!
 //! Without a word it does each piece of work once and prints what is the same in every run; with the word
 //! `time` it measures, and prints a table.
@@ -12,6 +13,7 @@ mod cases;
 mod faults;
 mod modes;
 mod rounds;
+mod segments;
 mod services;
 mod tables;
 
@@ -29,6 +31,9 @@ use std::rt::{Clock, Env};
 
 /// The contents of the largest value.
 const LARGEST: usize = 1_048_576;
+
+/// The octets of the longest message that is cut.
+const MESSAGE: usize = 65_535;
 
 fn main(rt: HostRuntime) -> ExitCode {
     match run(&rt) {
@@ -56,7 +61,8 @@ fn run(rt: &(impl Print + AllocGlobal + Env + Clock)) -> Result<(), BenchFault> 
         tables::add::<Any>(rt, mode, "open, short values", &short)?;
     }
     run_services(rt, mode)?;
-    run_apdus(rt, mode)
+    run_apdus(rt, mode)?;
+    segments::run(rt, mode, &contents(rt.alloc(), MESSAGE)?)
 }
 
 /// ReadProperty and ReadProperty-ACK, WriteProperty with a group in its value, and three services that hold numbers

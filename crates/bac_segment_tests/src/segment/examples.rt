@@ -90,7 +90,12 @@ fn some_are_not_cut(rt: HostRuntime) -> Result<(), Fail> {
         (65_535, 127, 65_536, CutFault::TooLong),
         (1, 127, 257, CutFault::TooMany),
     ] {
-        let fault = segments_of(rt.alloc(), &plan(size, window), octets.get(..length).ok_or("octets")?).err();
+        let fault = segments_of(
+            rt.alloc(),
+            &plan(size, window),
+            octets.get(..length).ok_or("octets")?,
+        )
+        .err();
         assert_eq!(rt; fault, Some(wanted), "of {length} octets");
     }
     for (size, length, wanted) in [
@@ -100,7 +105,11 @@ fn some_are_not_cut(rt: HostRuntime) -> Result<(), Fail> {
         (6, 12, 2),
         (6, 0, 1),
     ] {
-        let segments = segments_of(rt.alloc(), &plan(size, 127), octets.get(..length).ok_or("octets")?)?;
+        let segments = segments_of(
+            rt.alloc(),
+            &plan(size, 127),
+            octets.get(..length).ok_or("octets")?,
+        )?;
         assert_eq!(rt; segments.len(), wanted, "of {length} octets");
     }
     Ok(())

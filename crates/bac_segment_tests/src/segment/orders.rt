@@ -134,7 +134,10 @@ fn the_last_piece_may_be_empty(rt: HostRuntime) -> Result<(), Fail> {
         }
         segment.more = false;
         assert_eq!(rt; take(&rt, &mut found, &segment), "Complete");
-        assert!(rt; are(found.octets(), octets.get(..length).ok_or("octets")?), "of {length}");
+        assert!(rt;
+            are(found.octets(), octets.get(..length).ok_or("octets")?),
+            "of {length}"
+        );
     }
     Ok(())
 }

@@ -1,0 +1,93 @@
+//! How long a message of many segments takes to be cut and to be joined, beside a plain copy of its octets in the same
+//! run.
+
+use crate::faults::BenchFault;
+use crate::modes::Mode;
+use crate::rounds::{expect_same, timed};
+use bac_apdu::{SegHead, Segment};
+use bac_segment::{CutPlan, Key, Reassembly, cut};
+use std::alloc::Global;
+use std::io;
+use std::rt::Clock;
+use std::time::Duration;
+
+/// Of 65,535 octets it makes 256 segments.
+const PLAN: CutPlan = CutPlan {
+    head: SegHead::Ack { invoke: 1 },
+    choice: 14,
+    size: 256,
+    window: 127,
+};
+
+/// The key of those segments.
+const KEY: Key = Key {
+    peer: 0,
+    request: false,
+    invoke: 1,
+    choice: 14,
+};
+
+/// The segments joined as they stand.
+fn in_order(alloc: Global, segments: &[Segment]) -> Result<Reassembly, BenchFault> {
+    let mut reassembly = Reassembly::new(alloc, KEY)?;
+    for segment in segments {
+        reassembly.take(segment)?;
+    }
+    Ok(reassembly)
+}
+
+/// The segments joined from the last to the first.
+fn backwards(alloc: Global, segments: &[Segment]) -> Result<Reassembly, BenchFault> {
+    let mut reassembly = Reassembly::new(alloc, KEY)?;
+    for segment in segments.iter().rev() {
+        reassembly.take(segment)?;
+    }
+    Ok(reassembly)
+}
+
+/// The message is whole, and has these octets.
+fn expect_joined(reassembly: &Reassembly, octets: &[u8]) -> Result<(), BenchFault> {
+    match reassembly.octets() {
+        Some(found) if found == octets => Ok(()),
+        _ => Err(BenchFault::Differs),
+    }
+}
+
+/// Cuts and joins a message of these octets, and prints the table.
+pub fn run(
+    rt: &(impl Print + AllocGlobal + Clock),
+    mode: Mode,
+    octets: &[u8],
+) -> Result<(), BenchFault> {
+    let (alloc, repetitions) = (rt.alloc(), mode.repetitions());
+    let (copied, copy) = timed(rt, repetitions, || Ok(Vec::from_slice(alloc, octets)?))?;
+    expect_same(copied, octets)?;
+    let (segments, cutting) = timed(rt, repetitions, || Ok(cut(alloc, &PLAN, octets)?))?;
+    let (joined, joining) = timed(rt, repetitions, || in_order(alloc, &segments))?;
+    expect_joined(&joined, octets)?;
+    let (joined, joining_backwards) = timed(rt, repetitions, || backwards(alloc, &segments))?;
+    expect_joined(&joined, octets)?;
+    let (size, count) = (octets.len(), segments.len());
+    match mode {
+        Mode::Once => {
+            println!(rt; "message: {size} octets cut into {count} segments, joined in order and backwards")?;
+        }
+        Mode::Time => {
+            println!(rt;
+                "a message of {size} octets in {count} segments; the best of {repetitions} repetitions each"
+            )?;
+            println!(rt; "{:<18} {:>10} {:>7}", "work", "us", "x copy")?;
+            add(rt, "copy", copy, copy)?;
+            add(rt, "cut", cutting, copy)?;
+            add(rt, "in order", joining, copy)?;
+            add(rt, "backwards", joining_backwards, copy)?;
+        }
+    }
+    Ok(())
+}
+
+/// The line of a piece of work.
+fn add(rt: &impl Print, name: &str, took: Duration, copy: Duration) -> io::Result<()> {
+    let microseconds = took.as_secs_f64() * 1e6;
+    println!(rt; "{name:<18} {microseconds:>10.1} {:>7.2}", took.div_duration_f64(copy))
+}
