@@ -70,7 +70,9 @@ pub fn run(
     let (size, count) = (octets.len(), segments.len());
     match mode {
         Mode::Once => {
-            println!(rt; "message: {size} octets cut into {count} segments, joined in order and backwards")?;
+            println!(rt;
+                "message: {size} octets cut into {count} segments, joined in order and backwards"
+            )?;
         }
         Mode::Time => {
             println!(rt;
@@ -89,5 +91,8 @@ pub fn run(
 /// The line of a piece of work.
 fn add(rt: &impl Print, name: &str, took: Duration, copy: Duration) -> io::Result<()> {
     let microseconds = took.as_secs_f64() * 1e6;
-    println!(rt; "{name:<18} {microseconds:>10.1} {:>7.2}", took.div_duration_f64(copy))
+    println!(rt;
+        "{name:<18} {microseconds:>10.1} {:>7.2}",
+        took.div_duration_f64(copy)
+    )
 }
