@@ -29,20 +29,21 @@ no_err t f i = absurd (let a : Answer = Ok t in let b : Answer = Err f in let j 
 not_fault : {P : Type 0} (e f : TakeFault) → (e ≡ f → P) → (let a : Answer = Err e in a) ≡ Err f → P
 not_fault e f k i = k (let a : Answer = Err e in let b : Answer = Err f in let j : a ≡ b = i in cc)
 
-by_table : (old : Reassembled) (s : Delivery) (a : Answer) (new : Reassembled) → key_of old.key.peer s ≡ old.key → a ≡ answer old.table s → new.table ≡ with_next old.table s → new.key ≡ old.key → counts a ≡ true → (a ≡ Err OtherKey → ⊥) → (a ≡ Err OutOfMemory → ⊥) → Stepped old s a new
-by_table old s a new k is t kept c o m = record {
+by_table : (old : Reassembled) (s : Delivery) (a : Answer) (new : Reassembled) → key_of old.key.peer s ≡ old.key → a ≡ answer old.table s → new.table ≡ with_next old.table s → new.key ≡ old.key → counts a ≡ true → (a ≡ Err OtherKey → ⊥) → (a ≡ Err OutOfMemory → ⊥) → (a ≡ Err DeskFull → ⊥) → Stepped old s a new
+by_table old s a new k is t kept c o m f = record {
   key = kept;
   table = t ∙ ap (λ (b : Bool). cond b (with_next old.table s) old.table) (sym c);
   is_answer = record {
     other_key = (λ i. absurd (o i), λ h. absurd (h k));
     by_table = λ i. is;
     memory = λ i. absurd (m i);
+    not_full = f;
   };
   of_key = λ i. k;
 }
 
 pub stepped : (old : Reassembled) (s : Delivery) (a : Answer) (new : Reassembled) → Takes old s a new → Stepped old s a new
-stepped old s (Ok t) new h = by_table old s (Ok t) new h.0 h.1.0 h.1.1 h.2 refl (no_err t OtherKey) (no_err t OutOfMemory)
+stepped old s (Ok t) new h = by_table old s (Ok t) new h.0 h.1.0 h.1.1 h.2 refl (no_err t OtherKey) (no_err t OutOfMemory) (no_err t DeskFull)
 stepped old s (Err OtherKey) new h = record {
   key = ap (λ (r : Reassembled). r.key) h.1;
   table = ap (λ (r : Reassembled). r.table) h.1;
@@ -50,6 +51,7 @@ stepped old s (Err OtherKey) new h = record {
     other_key = (λ i. h.0, λ i. refl);
     by_table = λ i. absurd (let j : false ≡ true = i in cc);
     memory = not_fault OtherKey OutOfMemory (λ i. absurd (let j : OtherKey ≡ OutOfMemory = i in cc));
+    not_full = not_fault OtherKey DeskFull (λ i. let j : OtherKey ≡ DeskFull = i in cc);
   };
   of_key = λ i. absurd (let j : false ≡ true = i in cc);
 }
@@ -60,12 +62,13 @@ stepped old s (Err OutOfMemory) new h = record {
     other_key = (not_fault OutOfMemory OtherKey (λ i. absurd (let j : OutOfMemory ≡ OtherKey = i in cc)), λ i. absurd (i h.0));
     by_table = λ i. absurd (let j : false ≡ true = i in cc);
     memory = λ i. kept_where old.table s h.1.0;
+    not_full = not_fault OutOfMemory DeskFull (λ i. let j : OutOfMemory ≡ DeskFull = i in cc);
   };
   of_key = λ i. h.0;
 }
-stepped old s (Err Conflict) new h = by_table old s (Err Conflict) new h.0 h.1.0 h.1.1 h.2 refl (not_fault Conflict OtherKey (λ i. let j : Conflict ≡ OtherKey = i in cc)) (not_fault Conflict OutOfMemory (λ i. let j : Conflict ≡ OutOfMemory = i in cc))
-stepped old s (Err PastEnd) new h = by_table old s (Err PastEnd) new h.0 h.1.0 h.1.1 h.2 refl (not_fault PastEnd OtherKey (λ i. let j : PastEnd ≡ OtherKey = i in cc)) (not_fault PastEnd OutOfMemory (λ i. let j : PastEnd ≡ OutOfMemory = i in cc))
-stepped old s (Err TooLarge) new h = by_table old s (Err TooLarge) new h.0 h.1.0 h.1.1 h.2 refl (not_fault TooLarge OtherKey (λ i. let j : TooLarge ≡ OtherKey = i in cc)) (not_fault TooLarge OutOfMemory (λ i. let j : TooLarge ≡ OutOfMemory = i in cc))
+stepped old s (Err Conflict) new h = by_table old s (Err Conflict) new h.0 h.1.0 h.1.1 h.2 refl (not_fault Conflict OtherKey (λ i. let j : Conflict ≡ OtherKey = i in cc)) (not_fault Conflict OutOfMemory (λ i. let j : Conflict ≡ OutOfMemory = i in cc)) (not_fault Conflict DeskFull (λ i. let j : Conflict ≡ DeskFull = i in cc))
+stepped old s (Err PastEnd) new h = by_table old s (Err PastEnd) new h.0 h.1.0 h.1.1 h.2 refl (not_fault PastEnd OtherKey (λ i. let j : PastEnd ≡ OtherKey = i in cc)) (not_fault PastEnd OutOfMemory (λ i. let j : PastEnd ≡ OutOfMemory = i in cc)) (not_fault PastEnd DeskFull (λ i. let j : PastEnd ≡ DeskFull = i in cc))
+stepped old s (Err TooLarge) new h = by_table old s (Err TooLarge) new h.0 h.1.0 h.1.1 h.2 refl (not_fault TooLarge OtherKey (λ i. let j : TooLarge ≡ OtherKey = i in cc)) (not_fault TooLarge OutOfMemory (λ i. let j : TooLarge ≡ OutOfMemory = i in cc)) (not_fault TooLarge DeskFull (λ i. let j : TooLarge ≡ DeskFull = i in cc))
 stepped old s (Err DeskFull) new h = absurd h
 
 pub counted_held : (old new : Reassembled) (calls : List (Delivery × Answer)) → Delivers old calls new → (new.key ≡ old.key) × (new.table ≡ fold with_next old.table (counted calls))

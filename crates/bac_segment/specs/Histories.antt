@@ -1,7 +1,7 @@
 -- What a reassembly goes through, call by call.
 use Rattle.std.specs.Prelude.{◌≡◌, ◌≢◌, ◌↔◌, true, if◌then◌else◌, Err, List, [], ◌∷◌}
 use Rattle.bac_segment.specs.declared.keys.Key.{Key}
-use Rattle.bac_segment.specs.declared.faults.TakeFault.TheVariants.{OtherKey, OutOfMemory}
+use Rattle.bac_segment.specs.declared.faults.TakeFault.TheVariants.{OtherKey, OutOfMemory, DeskFull}
 use Rattle.bac_segment.specs.Deliveries.{Delivery, key_of}
 use Rattle.bac_segment.specs.Tables.{Table}
 use Rattle.bac_segment.specs.Taking.{Answer, counts, answer, IsKept}
@@ -22,3 +22,4 @@ pub record IsAnswer (key : Key) (m : Table) (s : Delivery) (a : Answer) : Type 0
   pub other_key : (a ≡ Err OtherKey) ↔ (key_of key.peer s ≢ key)
   pub by_table : counts a ≡ true → a ≡ answer m s
   pub memory : a ≡ Err OutOfMemory → IsKept (answer m s)
+  pub not_full : a ≢ Err DeskFull
