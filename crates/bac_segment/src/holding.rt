@@ -56,6 +56,18 @@ fn is_repeat(piece: &[u8], more: bool, segment: &Segment) -> bool
     piece == segment.piece.as_slice() && more == segment.more
 }
 
+/// Makes room for a piece, and for three times the octets that are held, so that few of them are moved when it grows.
+fn make_room(octets: &mut Vec<u8>, piece: usize) -> Result<(), OutOfMemory>
+    ensures { octets.new.items ≡ octets.old.items }
+{
+    let held = octets.as_slice().len();
+    if octets.capacity() < held.saturating_add(piece) {
+        let most = MOST_OCTETS.saturating_sub(held);
+        octets.reserve_exact(held.saturating_mul(3).min(most).max(piece))?;
+    }
+    Ok(())
+}
+
 /// Puts a piece among the octets. Where memory is refused they stay as they are.
 #[inline(always)]
 fn put(octets: &mut Vec<u8>, start: usize, piece: &[u8]) -> Result<(), OutOfMemory>
@@ -63,6 +75,7 @@ fn put(octets: &mut Vec<u8>, start: usize, piece: &[u8]) -> Result<(), OutOfMemo
     ensures ok { OnOk result (octets.new.items ≡ take start octets.old.items ++ piece.now ++ drop start octets.old.items) }
     ensures err { OnErr result (octets.new.items ≡ octets.old.items) }
 {
+    make_room(octets, piece.len())?;
     octets.extend_from_slice(piece)?;
     octets.slice_mut(start..).rotate_right(piece.len());
     Ok(())
