@@ -11,8 +11,8 @@ use crate::transfers::{read_full, write_whole};
 use crate::{Input, Output, StreamFault};
 use std::alloc::Global;
 
-/// The longest record, without its length octets: as many octets as these can tell.
-pub(crate) const LONGEST: usize = 65_535;
+/// How many octets the longest record has, without its length octets: as many as these can tell.
+pub const LONGEST: usize = 65_535;
 
 /// The length octets of the next record, as a number, or `None` where the reader is at its end.
 fn read_length<R: Input>(reader: &mut R) -> Result<Option<usize>, StreamFault>

@@ -11,8 +11,8 @@ use crate::windows::Window;
 use crate::{Input, Output, RunFault, StreamFault, Summary};
 use std::alloc::Global;
 
-/// The most records of a run.
-pub(crate) const MOST: u32 = 1_000_000;
+/// The most records of a file.
+pub const MOST: u32 = 1_000_000;
 
 /// Deals with each record to the end of the file, or to a fault.
 ///
