@@ -43,7 +43,7 @@ fn invoke_id(head: SegHead) -> u8
 impl Key {
     /// The key of a segment that this sender sent.
     #[inline(always)]
-    pub(crate) fn of(peer: u32, segment: &Segment) -> Key
+    pub fn of(peer: u32, segment: &Segment) -> Key
         ensures { result ≡ key_of peer (delivery segment.now) }
     {
         Key {

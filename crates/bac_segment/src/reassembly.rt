@@ -56,6 +56,7 @@ impl Reassembly {
     /// greater number is held; `PastEnd`, where a smaller number is held as the last one, or where it is number 255
     /// and others follow; `TooLarge`, where the octets held and its own are more than 65,535 together; `OutOfMemory`,
     /// where memory is refused.
+    #[inline(always)]
     pub fn take(&mut self, segment: &Segment) -> Result<Taken, TakeFault>
         ensures step { Takes self.old (delivery segment.now) result self.new }
         ensures err { OnErr result (self.new ≡ self.old) }
