@@ -2,3 +2,7 @@ pub mod JudgingLemmas
 pub mod RecordLemmas
 pub mod KeptLemmas
 mod ShowingLemmas
+pub mod IntakeLemmas
+pub mod FilledLemmas
+pub mod FeedLemmas
+pub mod JoiningLemmas

@@ -1,2 +1,5 @@
 pub mod Judging
 pub mod Lines
+pub mod Intakes
+pub mod Feeds
+pub mod Joining

@@ -1,13 +1,32 @@
 //! Laws of the definitions alone. The bodies do nothing: the contracts are the laws.
 
-ghost use Rattle.std.specs.Prelude.{List, ℕ};
-ghost use Rattle.std.specs.List.{AllByRecursion};
+ghost use Rattle.std.specs.Prelude.{◌≡◌, ◌≢◌, ◌++◌, ◌∷◌, [], Err, List, None, Result, length, true, ℕ};
+ghost use Rattle.std.specs.List.{AllByRecursion, AllZip};
+ghost use Rattle.bac_tag.specs.declared.refusals.Refusal.{Refusal};
+ghost use Rattle.bac_tag.specs.declared.refusals.Why.TheVariants.{OutOfMemory};
+ghost use Rattle.bac_service.specs.ServiceValues.{ServiceValue};
+ghost use Rattle.bac_service.specs.Services.{SpellsService};
+ghost use Rattle.bac_segment.specs.declared.cutting.CutPlan.{CutPlan};
+ghost use Rattle.bac_segment.specs.Cuts.{AreAmong, IsOneOf};
+ghost use Rattle.bac_segment.specs.Deliveries.{Delivery, key_of};
+ghost use Rattle.bac_segment.specs.DeskHistories.{DeskCall, DeskRuns, part, taken};
+ghost use Rattle.bac_segment.specs.Desks.{held_of};
+ghost use Rattle.bac_segment.specs.Pieces.{IsCutOf, cut_fault};
+ghost use Rattle.bac_segment.specs.Reassembled.{Reassembled};
+ghost use Rattle.bac_segment.specs.Tables.{whole};
+ghost use Rattle.bac_segment.specs.Taking.{Answer};
 ghost use Rattle.bac_record.specs.Outputs.{Outputs};
-ghost use Rattle.bac_record.specs.Records.{IsRecord};
+ghost use Rattle.bac_record.specs.Records.{IsRecord, Records, TooMany, end_of};
 ghost use Rattle.bac_stream.specs.declared.modes.Mode.{Mode};
+ghost use Rattle.bac_stream.specs.Feeds.{Fed, Feed, Feeds, IsAnswer, items_of, taken_in};
+ghost use Rattle.bac_stream.specs.Intakes.{IntakeValue, IsItem, fresh};
+ghost use Rattle.bac_stream.specs.Joining.{IsGoodJoin, IsJoined, kind_of};
 ghost use Rattle.bac_stream.specs.Lines.{NormalisesTo, IsKept};
+ghost use Rattle.bac_stream.specs.declared.joined.JoinFault.{JoinFault};
+ghost use Rattle.bac_stream.specs.declared.joined.Joined.{Joined};
 
 use bac_npdu::laws::frames_have_one_value;
+use bac_service::laws::services_have_one_value;
 
 /// What `normalise` writes of records in full is a file of records again, and of these it writes the same, in either
 /// mode.
@@ -15,4 +34,37 @@ pub fn normalised_files_are_kept()
     ensures { (mode : Mode) (list : List (List ℕ)) (output : List ℕ) → AllByRecursion IsRecord list → Outputs (NormalisesTo mode) 1 list output → IsKept output }
 {
     frames_have_one_value();
+}
+
+/// In whatever pieces a stream comes: the items given in all are one for each record of the pieces that were answered
+/// Ok, joined, in order, and the intake holds the number of these records and their rest.
+pub fn feeds_give_records()
+    ensures { (mode : Mode) (feeds : List Feed) (intake : IntakeValue) → Feeds (fresh mode) feeds intake
+        → (list : List (List ℕ)) × Records list intake.rest (taken_in feeds) × AllZip (IsItem mode) list (items_of feeds)
+        × (intake.mode ≡ mode) × (intake.records ≡ length list) × (end_of intake.records intake.rest ≢ TooMany) }
+{}
+
+/// A piece is answered with `TooManyFrames` exactly where the pieces that were answered Ok and this one, joined, have
+/// too many records, want of memory aside.
+pub fn feeds_end_as_files()
+    ensures { (mode : Mode) (feeds : List Feed) (old new : IntakeValue) (feed : Feed) → Feeds (fresh mode) feeds old → Fed old feed new
+        → (list : List (List ℕ)) (rest : List ℕ) → Records list rest (taken_in feeds ++ feed.piece) → IsAnswer feed.answer (end_of (length list) rest) }
+{}
+
+/// No item is want of memory.
+pub fn items_want_no_memory()
+    ensures { (mode : Mode) (octets : List ℕ) (refusal : Refusal) → IsItem mode octets (Err refusal) → refusal.why ≢ OutOfMemory }
+{}
+
+/// Where all segments of a message since its key was closed come from one cut of a service's octets, with its kind and
+/// its choice, each one of them that is joined is kept, there already, or completes this service; unless memory is refused
+/// or eight other keys are open.
+pub fn joined_segments_give_the_service()
+    ensures { (plan : CutPlan) (octets : List ℕ) (segments : List Delivery) (service : ServiceValue) (before : List DeskCall) (desk : List Reassembled)
+        (peer : ℕ) (s : Delivery) (a : Answer) (result : Result Joined JoinFault)
+        → cut_fault plan octets ≡ None → IsCutOf plan octets segments → SpellsService true 32 (kind_of plan.head) plan.choice service octets
+        → AreAmong segments (part (key_of peer s) before) → IsOneOf segments s → DeskRuns [] (before ++ taken peer s a ∷ []) desk
+        → IsJoined s a (whole (held_of desk (key_of peer s))) result → IsGoodJoin service result }
+{
+    services_have_one_value();
 }

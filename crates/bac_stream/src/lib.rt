@@ -3,9 +3,17 @@
 //! [`run_show`] writes what each frame says, [`run_check`] whether it is canonical, and [`run_normalise`] its canonical
 //! octets. Each reads from any [`Input`] and writes to any [`Output`], and returns a [`Summary`], or the [`RunFault`]
 //! that stopped it. [`read_record`] and [`write_record`] take and give one record.
+//!
+//! An [`Intake`] takes the same records as a stream that comes in pieces, cut anywhere, and gives the frame of each, or
+//! why it is refused.
 #![tactic(auto)]
 
 mod checking;
+mod feed_faults;
+mod intakes;
+mod items;
+mod joined;
+mod joining;
 mod judging;
 pub mod laws;
 mod lines;
@@ -17,6 +25,10 @@ pub use bac_record::{
     Counted, Device, Input, Output, RunFault, StreamFault, Summary, read_record, write_record,
 };
 pub use checking::run_check;
+pub use feed_faults::FeedFault;
+pub use intakes::Intake;
+pub use joined::{JoinFault, Joined};
+pub use joining::join;
 pub use modes::Mode;
 pub use normalising::run_normalise;
 pub use showing::run_show;

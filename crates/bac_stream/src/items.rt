@@ -1,0 +1,126 @@
+//! Items: what an intake gives for each record.
+
+ghost use Rattle.std.specs.Prelude.{◌≡◌, ◌≢◌, ◌++◌, ◌<◌, ◌≤◌, ◌∷◌, IfErr, IfOk, List, MatchOption, OnErr, OnOk, [], ℕ};
+ghost use Rattle.bac_record.specs.Batches.{IsPartial};
+ghost use Rattle.bac_record.specs.Records.{IsRecord, record_of};
+ghost use Rattle.bac_npdu.specs.Frames.{value_of};
+ghost use Rattle.bac_stream.specs.Intakes.{FeedFails, IsItem, Item, TakesIn};
+ghost use Rattle.bac_stream.specs.Judging.{Accepts, IsRefused, Refuses};
+
+use crate::{FeedFault, Mode};
+use bac_npdu::laws::frames_have_one_value;
+use bac_npdu::{Frame, decode_frame, decode_strict};
+use bac_record::{MOST, front_record};
+use bac_tag::{Refusal, Why};
+use std::alloc::Global;
+
+/// Decodes the frame that the octets spell, in mode Strict canonically.
+///
+/// # Errors
+/// As [`decode_frame`], or in mode Strict [`decode_strict`].
+fn decode(alloc: Global, mode: Mode, octets: &[u8]) -> Result<Frame, Refusal>
+    ensures accepted { IfOk result (λ frame. Accepts mode (value_of frame) octets.now) }
+    ensures fault { IfErr result (λ refusal. refusal.why ≢ Why.OutOfMemory → Refuses mode octets.now refusal) }
+    ensures refused { IfErr result (λ refusal. refusal.why ≢ Why.OutOfMemory → IsRefused mode octets.now) }
+{
+    // By this law octets that differ from the canonical ones of their frame are canonical for no other.
+    frames_have_one_value();
+    match mode {
+        Mode::Tolerant => decode_frame(alloc, octets),
+        Mode::Strict => decode_strict(alloc, octets),
+    }
+}
+
+/// The item of a record.
+///
+/// # Errors
+/// `OutOfMemory`.
+fn item_of(alloc: Global, mode: Mode, octets: &[u8]) -> Result<Result<Frame, Refusal>, FeedFault>
+    ensures item { IfOk result (IsItem mode octets.now) }
+    ensures memory { IfErr result (λ fault. fault ≡ FeedFault.OutOfMemory) }
+{
+    match decode(alloc, mode, octets) {
+        Err(refusal) if refusal.why == Why::OutOfMemory => Err(FeedFault::OutOfMemory),
+        item => Ok(item),
+    }
+}
+
+/// Appends the item of a record.
+///
+/// # Errors
+/// `OutOfMemory`. `out` then stays as it was.
+pub(crate) fn push_item(
+    alloc: Global,
+    mode: Mode,
+    octets: &[u8],
+    out: &mut Vec<Result<Frame, Refusal>>,
+) -> Result<(), FeedFault>
+    ensures ok { OnOk result ((item : Item) × IsItem mode octets.now item × (out.new.items ≡ out.old.items ++ item ∷ [])) }
+    ensures memory { IfErr result (λ fault. fault ≡ FeedFault.OutOfMemory) }
+    ensures err { OnErr result (out.new.items ≡ out.old.items) }
+{
+    let item = item_of(alloc, mode, octets)?;
+    out.push(item)?;
+    Ok(())
+}
+
+/// Appends the item of the record at the front, where so many records stand before it, and gives the octets behind it:
+/// `None` where no record lies there whole.
+///
+/// # Errors
+/// `TooManyFrames` and `OutOfMemory`. `out` then stays as it was.
+fn next_item<'a>(
+    alloc: Global,
+    mode: Mode,
+    before: u32,
+    octets: &'a [u8],
+    out: &mut Vec<Result<Frame, Refusal>>,
+) -> Result<Option<&'a [u8]>, FeedFault>
+    requires { before ≤ MOST }
+    ensures ok { IfOk result (λ found. MatchOption found
+        ((out.new.items ≡ out.old.items) × IsPartial octets.now
+        × TakesIn (record { mode = mode; records = before; rest = [] }) octets.now [] (record { mode = mode; records = before; rest = octets.now }))
+        (λ behind. (first : List ℕ) × (item : Item) × (before < MOST) × IsRecord first × (octets.now ≡ record_of first ++ behind.now)
+        × IsItem mode first item × (out.new.items ≡ out.old.items ++ item ∷ []))) }
+    ensures fault { IfErr result (FeedFails (record { mode = mode; records = before; rest = [] }) octets.now) }
+    ensures err { OnErr result (out.new.items ≡ out.old.items) }
+{
+    if before == MOST {
+        if octets.is_empty() {
+            return Ok(None);
+        }
+        return Err(FeedFault::TooManyFrames);
+    }
+    let Some(first) = front_record(octets) else {
+        return Ok(None);
+    };
+    push_item(alloc, mode, first, out)?;
+    Ok(Some(&octets[2 + first.len()..]))
+}
+
+/// Appends an item for each record that lies whole at the front of the octets, where so many records stand before them.
+/// Gives the number of records with these, and the octets behind them.
+///
+/// # Errors
+/// `TooManyFrames` and `OutOfMemory`. Some items may then be there.
+pub(crate) fn push_items<'a>(
+    alloc: Global,
+    mode: Mode,
+    before: u32,
+    octets: &'a [u8],
+    out: &mut Vec<Result<Frame, Refusal>>,
+) -> Result<(u32, &'a [u8]), FeedFault>
+    requires { before ≤ MOST }
+    ensures ok { IfOk result (λ found. (items : List Item) × (out.new.items ≡ out.old.items ++ items) × IsPartial found.1.now
+        × TakesIn (record { mode = mode; records = before; rest = [] }) octets.now items (record { mode = mode; records = found.0; rest = found.1.now })) }
+    ensures fault { IfErr result (FeedFails (record { mode = mode; records = before; rest = [] }) octets.now) }
+    ensures err { OnErr result ((items : List Item) × (out.new.items ≡ out.old.items ++ items)) }
+{
+    let mut records = before;
+    let mut rest = octets;
+    while let Some(behind) = next_item(alloc, mode, records, rest, out)? {
+        records += 1;
+        rest = behind;
+    }
+    Ok((records, rest))
+}

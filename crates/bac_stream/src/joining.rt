@@ -1,0 +1,74 @@
+//! Segments that come in frames, joined to services (clause 5.2).
+
+ghost use Rattle.std.specs.Prelude.{◌≡◌, IfErr, MatchOption, None, Some, false};
+ghost use Rattle.bac_npdu.specs.Frames.{value_of};
+ghost use Rattle.bac_segment.specs.Deliveries.{delivery};
+ghost use Rattle.bac_stream.specs.Joining.{IsFromMessage, Joins, delivered, is_taken, kind_of};
+
+use crate::{JoinFault, Joined};
+use bac_apdu::{Apdu, SegHead, Segment};
+use bac_npdu::{Body, Frame};
+use bac_segment::{Desk, Key, Taken};
+use bac_service::{Kind, decode_service};
+use std::alloc::Global;
+
+/// The segment that a frame holds.
+fn segment_of(frame: &Frame) -> Option<&Segment>
+    ensures { MatchOption result (delivered (value_of frame.now) ≡ None) (λ segment. delivered (value_of frame.now) ≡ Some (delivery segment.now)) }
+{
+    match &frame.body {
+        Body::Apdu(Apdu::Segment(segment)) => Some(segment),
+        _ => None,
+    }
+}
+
+/// The kind of the services of which there are segments like this.
+fn kind_of_segment(head: SegHead) -> Kind
+    ensures { result ≡ kind_of head }
+{
+    match head {
+        SegHead::Request(_) => Kind::Confirmed,
+        SegHead::Ack { .. } => Kind::ComplexAck,
+    }
+}
+
+/// The service of a message that is whole.
+fn message_of(alloc: Global, segment: &Segment, octets: &[u8]) -> Result<Joined, JoinFault>
+    ensures { IsFromMessage (delivery segment.now) octets.now result }
+{
+    match decode_service(alloc, kind_of_segment(segment.head), segment.choice, octets) {
+        Ok(service) => Ok(Joined::Message(service)),
+        Err(refusal) => Err(JoinFault::Content(refusal)),
+    }
+}
+
+/// Joins the segment that a frame holds to those of its message that the desk has, where this sender sent it. With the
+/// last missing one it gives the service that they are cut from.
+///
+/// It closes no key: [`Desk::octets`] gives the octets of a message, and [`Desk::close`] lets them go. Until then the same
+/// segments are answered `Repeat`.
+///
+/// # Errors
+/// `Take` as [`Desk::take`]. `Content` as [`decode_service`] refuses the octets of a message that is whole.
+pub fn join(
+    alloc: Global,
+    desk: &mut Desk,
+    peer: u32,
+    frame: &Frame,
+) -> Result<Joined, JoinFault>
+    ensures step { Joins desk.old peer (delivered (value_of frame.now)) result desk.new }
+    ensures unchanged { IfErr result (λ fault. is_taken fault ≡ false → desk.new ≡ desk.old) }
+{
+    let Some(segment) = segment_of(frame) else {
+        return Ok(Joined::NotSegment);
+    };
+    match desk.take(peer, segment) {
+        Ok(Taken::Kept) => Ok(Joined::Kept),
+        Ok(Taken::Repeat) => Ok(Joined::Repeat),
+        Ok(Taken::Complete) => {
+            let octets = desk.octets(Key::of(peer, segment)).unwrap();
+            message_of(alloc, segment, octets)
+        }
+        Err(fault) => Err(JoinFault::Take(fault)),
+    }
+}
