@@ -349,4 +349,8 @@ fn laws_can_be_called() {
     bac_record::laws::records_are_unique();
     bac_record::laws::records_exist();
     bac_stream::laws::normalised_files_are_kept();
+    bac_stream::laws::feeds_give_records();
+    bac_stream::laws::feeds_end_as_files();
+    bac_stream::laws::items_want_no_memory();
+    bac_stream::laws::joined_segments_give_the_service();
 }

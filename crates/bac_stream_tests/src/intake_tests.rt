@@ -1,0 +1,249 @@
+//! What an intake gives of streams of frames: worked examples of docs/EXAMPLES.md.
+
+use bac_npdu::{Frame, encode_frame};
+use bac_stream::{FeedFault, Intake, Mode};
+use bac_tables::{octets_of, rows_of};
+use bac_tag::Refusal;
+use std::alloc::Global;
+use std::process::Abort;
+use std::test::Fail;
+
+/// What an intake gives for a record.
+type Item = Result<Frame, Refusal>;
+
+/// F1: the canonical octets of the first example.
+const F1: &str = "01 04 00 05 01 0C 0C 00 00 00 05 19 55";
+
+/// The file of example 28: a record of F2, one of F1 and an empty one.
+const FILE: &str =
+    "00 0E 01 54 01 85 01 0C 0C 00 00 00 05 1A 00 55 00 0D 01 04 00 05 01 0C 0C 00 00 00 05 19 55 00 00";
+
+/// A record of the answer of example 4.
+const ACK: &str = "00 13 01 00 30 01 0C 0C 00 00 00 05 19 55 3E 44 42 90 99 9A 3F";
+
+/// What the items are, and what `finish` answers.
+fn told(alloc: Global, items: &[Item], end: Result<u32, FeedFault>) -> Result<String, Fail> {
+    let mut text = String::new(alloc);
+    for item in items.iter() {
+        match item {
+            Ok(_) => text.push_str("ok, ")?,
+            Err(refusal) => text.push_str(&format!(in alloc; "{refusal}, ")?)?,
+        }
+    }
+    match end {
+        Ok(count) => text.push_str(&format!(in alloc; "{count}")?)?,
+        Err(fault) => text.push_str(&format!(in alloc; "{fault}")?)?,
+    }
+    Ok(text)
+}
+
+/// The stream, cut at this place with a piece of no octets between, tells this.
+fn tells_in_two(
+    rt: &impl Abort,
+    alloc: Global,
+    mode: Mode,
+    stream: &[u8],
+    place: usize,
+    want: &str,
+) -> Result<(), Fail> {
+    let (front, behind) = stream.split_at(place.min(stream.len()));
+    let mut intake = Intake::new(alloc, mode)?;
+    let mut items = Vec::new(alloc);
+    for piece in [front, &[], behind] {
+        intake.feed(piece, &mut items)?;
+    }
+    let text = told(alloc, &items, intake.finish())?;
+    assert_eq!(rt; text.as_str(), want, "cut at {place}");
+    Ok(())
+}
+
+/// The stream in pieces of so many octets tells this.
+fn tells_in_pieces(
+    rt: &impl Abort,
+    alloc: Global,
+    mode: Mode,
+    stream: &[u8],
+    size: usize,
+    want: &str,
+) -> Result<(), Fail> {
+    let mut intake = Intake::new(alloc, mode)?;
+    let mut items = Vec::new(alloc);
+    for piece in stream.chunks(size.max(1)) {
+        intake.feed(piece, &mut items)?;
+    }
+    let text = told(alloc, &items, intake.finish())?;
+    assert_eq!(rt; text.as_str(), want, "in pieces of {size}");
+    Ok(())
+}
+
+/// Each row of the table is a stream, and what it tells in whatever pieces it comes.
+fn tells(rt: &impl Abort, alloc: Global, mode: Mode, table: &str) -> Result<(), Fail> {
+    for row in rows_of(table)?.iter() {
+        let stream = octets_of(row.octets)?;
+        for place in 0..stream.len() + 1 {
+            tells_in_two(rt, alloc, mode, &stream, place, row.told)?;
+        }
+        for size in [1, 2, 3, 16, 17] {
+            tells_in_pieces(rt, alloc, mode, &stream, size, row.told)?;
+        }
+    }
+    Ok(())
+}
+
+// Examples 28, 29 and 59, and frames that are refused elsewhere in the examples.
+#[test]
+fn a_stream_tells_the_same_in_any_pieces(rt: HostRuntime) -> Result<(), Fail> {
+    let streams = "
+        none -> 0
+        00 00 -> Short at 0, 1
+        00 0E 01 54 01 85 01 0C 0C 00 00 00 05 1A 00 55 00 0D 01 04 00 05 01 0C 0C 00 00 00 05 19 55 00 00 -> ok, ok, Short at 0, 3
+        00 0D 01 04 00 05 01 0C 0C 00 00 00 05 19 55 05 DA -> ok, truncated
+        05 DA -> truncated
+        00 14 00 00 00 00 00 00 00 00 00 00 00 00 00 00 00 00 00 00 00 -> truncated
+        00 01 02 00 03 01 00 80 00 -> Version at 0, PduType at 2, truncated
+    ";
+    tells(&rt, rt.alloc(), Mode::Tolerant, streams)
+}
+
+// Examples 28 and 35.
+#[test]
+fn a_strict_stream_refuses_what_is_not_canonical(rt: HostRuntime) -> Result<(), Fail> {
+    let streams = "
+        00 0E 01 54 01 85 01 0C 0C 00 00 00 05 1A 00 55 00 0D 01 04 00 05 01 0C 0C 00 00 00 05 19 55 00 00 -> NotCanonical at 1, ok, Short at 0, 3
+        00 0D 01 04 00 05 01 0C 0C 00 00 00 05 19 55 00 00 00 0E 01 54 01 85 01 0C 0C 00 00 00 05 1A 00 55 -> ok, Short at 0, NotCanonical at 1, 3
+    ";
+    tells(&rt, rt.alloc(), Mode::Strict, streams)
+}
+
+// Example 28: the frames of its first two records are that of F1.
+#[test]
+fn items_are_the_frames_of_their_records(rt: HostRuntime) -> Result<(), Fail> {
+    let first = octets_of(F1)?;
+    let mut intake = Intake::new(rt.alloc(), Mode::Tolerant)?;
+    let mut items = Vec::new(rt.alloc());
+    intake.feed(&octets_of(FILE)?, &mut items)?;
+    let mut written = Vec::new(rt.alloc());
+    for item in items.iter() {
+        if let Ok(frame) = item {
+            written.extend_from_slice(&encode_frame(rt.alloc(), frame)?)?;
+        }
+    }
+    let mut twice = Vec::new(rt.alloc());
+    twice.extend_from_slice(&first)?;
+    twice.extend_from_slice(&first)?;
+    assert!(rt; written.as_slice() == twice.as_slice());
+    Ok(())
+}
+
+// Example 65: F1's record cut after so many octets.
+#[test]
+fn finish_tells_of_a_cut_record(rt: HostRuntime) -> Result<(), Fail> {
+    let mut record = Vec::new(rt.alloc());
+    record.extend_from_slice(&[0, 13])?;
+    record.extend_from_slice(&octets_of(F1)?)?;
+    for size in 0..record.len() + 1 {
+        let mut intake = Intake::new(rt.alloc(), Mode::Tolerant)?;
+        let mut items = Vec::new(rt.alloc());
+        intake.feed(&record[..size], &mut items)?;
+        let want = match size {
+            0 => Ok(0),
+            15 => Ok(1),
+            _ => Err(FeedFault::Truncated),
+        };
+        assert_eq!(rt; intake.finish(), want, "after {size}");
+    }
+    Ok(())
+}
+
+// The longest records, between two of F1.
+#[test]
+fn long_records_come_in_pieces(rt: HostRuntime) -> Result<(), Fail> {
+    let first = octets_of(F1)?;
+    for length in [255, 256, 65_534, 65_535] {
+        let mut octets = vec![in rt.alloc(); 0xAA; length]?;
+        octets[..4].copy_from_slice(&[0x01, 0x00, 0x10, 0x09]);
+        let mut stream = Vec::new(rt.alloc());
+        for record in [first.as_slice(), octets.as_slice(), first.as_slice()] {
+            stream.extend_from_slice(&(record.len().min(65_535) as u16).to_be_bytes())?;
+            stream.extend_from_slice(record)?;
+        }
+        for size in [1, 16, 17, 1_000, 65_537, 200_000] {
+            tells_in_pieces(
+                &rt,
+                rt.alloc(),
+                Mode::Strict,
+                &stream,
+                size,
+                "ok, ok, ok, 3",
+            )?;
+        }
+    }
+    Ok(())
+}
+
+/// How many empty records a piece of the next test has.
+const RECORDS: usize = 1_000;
+
+// Octets behind the most records are a fault, and change nothing: the records in front of them in the piece are not
+// taken in.
+#[test]
+fn records_end_at_the_most(rt: HostRuntime) -> Result<(), Fail> {
+    let mut intake = Intake::new(rt.alloc(), Mode::Tolerant)?;
+    let mut items = Vec::new(rt.alloc());
+    let piece = [0; 2 * RECORDS];
+    for _ in 0..999 {
+        intake.feed(&piece, &mut items)?;
+        items.clear();
+    }
+    intake.feed(&piece[3..], &mut items)?;
+    assert_eq!(rt; intake.finish(), Err(FeedFault::Truncated));
+    assert_eq!(rt; items.len(), RECORDS - 2);
+    for (piece, answer) in [
+        ([0, 0, 0, 0].as_slice(), Err(FeedFault::TooManyFrames)),
+        (&[0, 0, 0, 5, 0], Err(FeedFault::TooManyFrames)),
+        (&[0, 0, 0], Ok(())),
+        (&[], Ok(())),
+        (&[0], Err(FeedFault::TooManyFrames)),
+        (&[0, 0], Err(FeedFault::TooManyFrames)),
+    ] {
+        let count = items.len();
+        assert_eq!(rt; intake.feed(piece, &mut items), answer, "of {piece:?}");
+        let more = if piece.len() == 3 { 2 } else { 0 };
+        assert_eq!(rt; items.len(), count + more, "of {piece:?}");
+    }
+    assert_eq!(rt; intake.finish(), Ok(1_000_000));
+    Ok(())
+}
+
+/// Feeds the piece, where memory is refused for it a second time: nothing has changed then.
+fn feed_again(
+    rt: &impl Abort,
+    intake: &mut Intake,
+    piece: &[u8],
+    items: &mut Vec<Item>,
+) -> Result<(), Fail> {
+    let before = (items.len(), intake.finish());
+    let answer = intake.feed(piece, items);
+    if answer.is_err() {
+        assert_eq!(rt; answer, Err(FeedFault::OutOfMemory));
+        assert_eq!(rt; (items.len(), intake.finish()), before);
+        intake.feed(piece, items)?;
+    }
+    Ok(())
+}
+
+// Examples 4 and 28: with each allocation refused in turn, since a value wants memory.
+#[test]
+fn refused_memory_changes_nothing(rt: HostRuntime) -> Result<(), Fail> {
+    let mut stream = Vec::new(rt.alloc());
+    stream.extend_from_slice(&octets_of(FILE)?)?;
+    stream.extend_from_slice(&octets_of(ACK)?)?;
+    let mut intake = Intake::new(rt.alloc(), Mode::Tolerant)?;
+    let mut items = Vec::new(rt.alloc());
+    for piece in stream.chunks(20) {
+        feed_again(&rt, &mut intake, piece, &mut items)?;
+    }
+    let text = told(rt.alloc(), &items, intake.finish())?;
+    assert_eq!(rt; text.as_str(), "ok, ok, Short at 0, ok, 4");
+    Ok(())
+}
