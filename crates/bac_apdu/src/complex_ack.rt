@@ -20,10 +20,18 @@ use std::marker::Model;
 ///
 /// Octets (clause 20.1.5): type 3 in bits 7 to 4, SEG 0 in bit 3; the invoke id; the service choice; those of the
 /// service. Bits 2 to 0 of the first octet are ignored, and 0 in canonical form.
-#[derive(Clone, Debug, PartialEq, Eq, Drop)]
+#[derive(Clone, Debug, PartialEq, Eq)]
 pub struct ComplexAck {
     invoke: u8,
     service: Service,
+}
+
+impl Drop for ComplexAck {
+    // Written here, so that how a service is freed is proved once and not wherever one is dropped.
+    #[inline(always)]
+    fn drop(self) {
+        let ComplexAck { invoke: _, service: _ } = self;
+    }
 }
 
 impl Model for ComplexAck {

@@ -36,10 +36,18 @@ pub struct RequestHead {
 /// Octets (clause 20.1.2): type 0 in bits 7 to 4, SEG 0 in bit 3, SA in bit 1; max-segments in bits 6 to 4 and
 /// max-response in bits 3 to 0; the invoke id; the service choice; those of the service. Bits 2 and 0 of the first
 /// octet and bit 7 of the second are ignored, and 0 in canonical form.
-#[derive(Clone, Debug, PartialEq, Eq, Drop)]
+#[derive(Clone, Debug, PartialEq, Eq)]
 pub struct ConfirmedRequest {
     head: RequestHead,
     service: Service,
+}
+
+impl Drop for ConfirmedRequest {
+    // Written here, so that how a service is freed is proved once and not wherever one is dropped.
+    #[inline(always)]
+    fn drop(self) {
+        let ConfirmedRequest { head: _, service: _ } = self;
+    }
 }
 
 impl Model for ConfirmedRequest {

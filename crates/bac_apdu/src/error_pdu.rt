@@ -20,10 +20,18 @@ use std::marker::Model;
 ///
 /// Octets (clause 20.1.7): type 5 in bits 7 to 4; the invoke id; the service choice; those of the error. Bits 3 to 0 of
 /// the first octet are ignored, and 0 in canonical form.
-#[derive(Clone, Debug, PartialEq, Eq, Drop)]
+#[derive(Clone, Debug, PartialEq, Eq)]
 pub struct ErrorPdu {
     invoke: u8,
     service: Service,
+}
+
+impl Drop for ErrorPdu {
+    // Written here, so that how a service is freed is proved once and not wherever one is dropped.
+    #[inline(always)]
+    fn drop(self) {
+        let ErrorPdu { invoke: _, service: _ } = self;
+    }
 }
 
 impl Model for ErrorPdu {

@@ -20,9 +20,17 @@ use std::marker::Model;
 ///
 /// Octets (clause 20.1.3): type 1 in bits 7 to 4; the service choice; those of the service. Bits 3 to 0 of the first
 /// octet are ignored, and 0 in canonical form.
-#[derive(Clone, Debug, PartialEq, Eq, Drop)]
+#[derive(Clone, Debug, PartialEq, Eq)]
 pub struct UnconfirmedRequest {
     service: Service,
+}
+
+impl Drop for UnconfirmedRequest {
+    // Written here, so that how a service is freed is proved once and not wherever one is dropped.
+    #[inline(always)]
+    fn drop(self) {
+        let UnconfirmedRequest { service: _ } = self;
+    }
 }
 
 impl Model for UnconfirmedRequest {

@@ -30,9 +30,17 @@ impl Display for MacFault {
 impl Error for MacFault {}
 
 /// The address of a device on its network, 0 to 255 octets. Up to seven of them want no memory.
-#[derive(Debug, Drop)]
+#[derive(Debug)]
 pub struct Mac {
     octets: SmallVec<u8, 7>,
+}
+
+impl Drop for Mac {
+    // Written here, so that how an address is freed is proved once and not wherever one is dropped.
+    #[inline(always)]
+    fn drop(self) {
+        let Mac { octets: _ } = self;
+    }
 }
 
 impl Model for Mac {
