@@ -1,0 +1,6 @@
+pub mod LineEnds
+pub mod LineLists
+pub mod DigitLemmas
+pub mod PackingLemmas
+pub mod RunSoFar
+pub mod FileRuns

@@ -1,0 +1,30 @@
+//! Why a text of hexadecimal lines is packed no further.
+
+use thiserror::Error;
+
+/// Why a run stopped. Lines are counted from 1. The records of the lines before the line at fault were written, and
+/// nothing more; or, after `WriteFault(k)`, the first `k` octets of the records of the lines that were at hand.
+#[derive(Clone, Copy, Debug, PartialEq, Eq, Error)]
+pub enum PackFault {
+    /// The line of this number has more than 200,000 octets before its LF.
+    #[error("line {0}: too long")]
+    LineTooLong(u32),
+    /// What is left of the line of this number is not hexadecimal digits, or an odd number of them.
+    #[error("line {0}: not hexadecimal")]
+    NotHex(u32),
+    /// The digits of the line of this number are those of more than 65,535 octets.
+    #[error("line {0}: too long")]
+    RecordTooLong(u32),
+    /// A read failed before the line of this number was whole.
+    #[error("line {0}: read fault")]
+    ReadFault(u32),
+    /// A write failed, or took none of some octets. The number is that of the octets that the writer took in the run.
+    #[error("write fault after {0} octets")]
+    WriteFault(u128),
+    /// An octet came behind 1,000,000 lines.
+    #[error("more than 1000000 records")]
+    TooManyLines,
+    /// Memory was refused for the line of this number, or for the window that a run begins with.
+    #[error("out of memory")]
+    OutOfMemory(u32),
+}

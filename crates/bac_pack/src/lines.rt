@@ -1,0 +1,53 @@
+//! Lines, and what of them is digits.
+
+ghost use Rattle.std.specs.Prelude.{◌==◌, ◌≡◌, ◌≤◌, MatchOption, OnOk, length, position, take};
+ghost use Rattle.bac_pack.specs.Lines.{IsUnbroken, LF, without_blanks, without_return};
+ghost use Rattle.bac_pack.specs.Packing.{EndsAt};
+
+use std::alloc::AllocError;
+
+/// The most octets of a line, before its LF.
+pub(crate) const LONGEST: usize = 200_000;
+
+/// Where the first LF stands.
+fn first_end(octets: &[u8]) -> Option<usize>
+    ensures { result ≡ position (λ octet. octet == LF) octets.now }
+{
+    octets.iter().position(|octet| *octet == b'\n')
+}
+
+/// Where the first LF stands, of which none is among so many octets at the front.
+pub(crate) fn line_end(octets: &[u8], passed: usize) -> Option<usize>
+    requires within { passed ≤ length octets.now }
+    requires passed { IsUnbroken (take passed octets.now) }
+    ensures { MatchOption result (IsUnbroken octets.now) (EndsAt octets.now) }
+{
+    match first_end(&octets[passed..]) {
+        Some(behind) => Some(passed + behind),
+        None => None,
+    }
+}
+
+/// The line without one CR at its end.
+pub(crate) fn strip_return(line: &[u8]) -> &[u8]
+    ensures { result.now ≡ without_return line.now }
+{
+    match line {
+        [front @ .., b'\r'] => front,
+        _ => line,
+    }
+}
+
+/// Makes `digits` the octets without the blanks among them.
+pub(crate) fn copy_digits(octets: &[u8], digits: &mut Vec<u8>) -> Result<(), AllocError>
+    ensures { OnOk result (digits.new.items ≡ without_blanks octets.now) }
+{
+    digits.clear();
+    digits.reserve(octets.len())?;
+    for octet in octets {
+        if *octet != b' ' {
+            digits.push(*octet)?;
+        }
+    }
+    Ok(())
+}

@@ -1,0 +1,130 @@
+//! The records of the lines that lie whole in what a run holds.
+
+ghost use Rattle.std.specs.Prelude.{◌+◌, ◌<◌, ◌^◌, ◌≡◌, ◌≢◌, ◌≤◌, IfErr, IfOk, MatchOption, MatchResult, OnErr, OnOk, [], drop, length, take, ℕ};
+ghost use Rattle.std.specs.Io.KnownBytes.{Appends};
+ghost use Rattle.bac_record.specs.Devices.{HasRisen};
+ghost use Rattle.bac_record.specs.Transfers.{TakesFront};
+ghost use Rattle.bac_pack.specs.Lines.{digits_of, IsUnbroken, MOST_LINES};
+ghost use Rattle.bac_pack.specs.Packing.{Adds, EndsAt, Halts, IsFound, IsSame, PacksFront, SpellsNone};
+ghost use Rattle.bac_pack.specs.Runs.{Waits};
+ghost use Rattle.bac_pack.specs.declared.windows.TheConstants.{PIECE};
+
+use crate::PackFault;
+use crate::lines::{LONGEST, line_end};
+use crate::packing::pack_line;
+use bac_record::{Output, write_whole};
+use std::alloc::Global;
+
+/// The most lines of a run.
+const MOST: u32 = 1_000_000;
+
+/// What a run makes of lines.
+#[derive(Drop)]
+pub(crate) struct Packer {
+    /// Room for the digits of a line that has blanks.
+    digits: Vec<u8>,
+    /// The records that are not written.
+    pub(crate) output: Vec<u8>,
+    /// How many lines were packed.
+    pub(crate) lines: u32,
+    /// How many octets were written.
+    pub(crate) sent: u128,
+}
+
+impl Packer {
+    /// A packer of no lines.
+    pub(crate) fn new(alloc: Global) -> Packer
+        ensures output { result.output.items ≡ [] }
+        ensures lines { result.lines ≡ 0 }
+        ensures sent { result.sent ≡ 0 }
+    {
+        Packer {
+            digits: Vec::new(alloc),
+            output: Vec::new(alloc),
+            lines: 0,
+            sent: 0,
+        }
+    }
+
+    /// Adds the record of a line.
+    pub(crate) fn add(&mut self, line: &[u8]) -> Result<(), PackFault>
+        requires { self.old.lines < MOST }
+        ensures added { OnOk result (Adds line.now self.old self.new) }
+        ensures fault { IfErr result (SpellsNone (digits_of line.now) (self.old.lines + 1)) }
+        ensures err { OnErr result (IsSame self.old self.new) }
+    {
+        pack_line(self.lines + 1, line, &mut self.digits, &mut self.output)?;
+        self.lines += 1;
+        Ok(())
+    }
+
+    /// Adds the record of the line at the front of the octets, of which so many at the front are no LF. The octets
+    /// taken are told, or `None` where no line lies there whole.
+    fn add_next(&mut self, octets: &[u8], passed: usize) -> Result<Option<usize>, PackFault>
+        requires lines { self.old.lines ≤ MOST }
+        requires room { length octets.now ≤ PIECE }
+        requires within { passed ≤ length octets.now }
+        requires passed { IsUnbroken (take passed octets.now) }
+        ensures added { IfOk result (λ found. MatchOption found
+            (IsSame self.old self.new × Waits self.old.lines octets.now)
+            (λ taken. (end : ℕ) × EndsAt octets.now end × (taken ≡ end + 1) × (self.old.lines < MOST) × Adds (take end octets.now) self.old self.new)) }
+        ensures fault { IfErr result (IsFound self.old.lines octets.now) }
+        ensures err { OnErr result (IsSame self.old self.new) }
+    {
+        if self.lines == MOST {
+            if octets.is_empty() {
+                return Ok(None);
+            }
+            return Err(PackFault::TooManyLines);
+        }
+        let Some(end) = line_end(octets, passed) else {
+            if octets.len() > LONGEST {
+                return Err(PackFault::LineTooLong(self.lines + 1));
+            }
+            return Ok(None);
+        };
+        self.add(&octets[..end])?;
+        Ok(Some(end + 1))
+    }
+
+    /// Adds the records of the lines that lie whole at the front of the octets, of which so many at the front are no
+    /// LF. Gives the number of octets of these lines, and the fault of the next one, if there is one.
+    pub(crate) fn add_whole(&mut self, octets: &[u8], passed: usize) -> (usize, Option<PackFault>)
+        requires lines { self.old.lines ≤ MOST }
+        requires room { length octets.now ≤ PIECE }
+        requires within { passed ≤ length octets.now }
+        requires passed { IsUnbroken (take passed octets.now) }
+        ensures packed { PacksFront octets.now result.0 self.old self.new }
+        ensures halted { Halts self.new.lines (drop result.0 octets.now) result.1 }
+    {
+        let mut taken = 0;
+        let mut known = passed;
+        loop {
+            match self.add_next(&octets[taken..], known) {
+                Ok(Some(count)) => taken += count,
+                Ok(None) => return (taken, None),
+                Err(fault) => return (taken, Some(fault)),
+            }
+            known = 0;
+        }
+    }
+
+    /// Writes the records, and drops them.
+    pub(crate) fn hand_over<W: Output>(&mut self, writer: &mut W) -> Result<(), PackFault>
+        requires { self.old.sent < 2 ^ 100 }
+        ensures ok { OnOk result (Appends (W.taken writer.old) (W.taken writer.new) self.old.output.items) }
+        ensures output { OnOk result (self.new.output.items ≡ []) }
+        ensures lines { OnOk result (self.new.lines ≡ self.old.lines) }
+        ensures sent { OnOk result (self.new.sent ≡ self.old.sent + length self.old.output.items) }
+        ensures fault { IfErr result (λ fault. (count : ℕ) × (fault ≡ PackFault.WriteFault (self.old.sent + count))
+            × TakesFront (W.taken writer.old) (W.taken writer.new) self.old.output.items count) }
+        ensures counted { MatchResult result (λ _. W.failures writer.new ≡ W.failures writer.old) (λ _. HasRisen (W.failures writer.old) (W.failures writer.new)) }
+    {
+        if let Err(count) = write_whole(writer, &self.output) {
+            return Err(PackFault::WriteFault(self.sent + count as u128));
+        }
+        self.sent += self.output.len() as u128;
+        self.output.clear();
+        Ok(())
+    }
+}

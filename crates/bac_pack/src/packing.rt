@@ -1,0 +1,79 @@
+//! The record of a line.
+
+ghost use Rattle.std.specs.Prelude.{◌≡◌, IfErr, OnErr, OnOk, length, take};
+ghost use Rattle.bac_pack.specs.Lines.{digits_of};
+ghost use Rattle.bac_pack.specs.Packing.{Spells, SpellsNone};
+
+use crate::PackFault;
+use crate::lines::{copy_digits, strip_return};
+
+/// The longest record, without its length octets: as many octets as these can tell.
+const LONGEST: usize = 65_535;
+
+/// Appends the record that the digits spell, as that of the line of this number. After a fault some of it may be there.
+///
+/// The digits are decoded where their octets are to stand. The length octets come first: of digits that are too many
+/// they are not the length, and the caller takes them off with the rest.
+fn push_record(number: u32, digits: &[u8], output: &mut Vec<u8>) -> Result<(), PackFault>
+    ensures ok { OnOk result (Spells digits.now output.old.items output.new.items) }
+    ensures fault { IfErr result (SpellsNone digits.now number) }
+    ensures front { OnErr result (take (length output.old.items) output.new.items ≡ output.old.items) }
+{
+    let count = digits.len() / 2;
+    let head = [(count / 256 % 256) as u8, (count % 256) as u8];
+    if output.extend_from_slice(&head).is_err() {
+        return Err(PackFault::OutOfMemory(number));
+    }
+    let start = output.len();
+    if output.resize(start + count, 0).is_err() {
+        return Err(PackFault::OutOfMemory(number));
+    }
+    if hex::decode_to_slice(digits, &mut output[start..]).is_err() {
+        return Err(PackFault::NotHex(number));
+    }
+    if count > LONGEST {
+        return Err(PackFault::RecordTooLong(number));
+    }
+    Ok(())
+}
+
+/// Appends the record of a line, of which `digits` takes the digits where blanks stand among them. After a fault some
+/// of it may be there.
+fn push_line(
+    number: u32,
+    line: &[u8],
+    digits: &mut Vec<u8>,
+    output: &mut Vec<u8>,
+) -> Result<(), PackFault>
+    ensures ok { OnOk result (Spells (digits_of line.now) output.old.items output.new.items) }
+    ensures fault { IfErr result (SpellsNone (digits_of line.now) number) }
+    ensures front { OnErr result (take (length output.old.items) output.new.items ≡ output.old.items) }
+{
+    let octets = strip_return(line);
+    if !octets.contains(&b' ') {
+        return push_record(number, octets, output);
+    }
+    if copy_digits(octets, digits).is_err() {
+        return Err(PackFault::OutOfMemory(number));
+    }
+    push_record(number, digits, output)
+}
+
+/// Appends the record of the line of this number, counted from 1. After a fault `output` is as it was.
+pub(crate) fn pack_line(
+    number: u32,
+    line: &[u8],
+    digits: &mut Vec<u8>,
+    output: &mut Vec<u8>,
+) -> Result<(), PackFault>
+    ensures ok { OnOk result (Spells (digits_of line.now) output.old.items output.new.items) }
+    ensures fault { IfErr result (SpellsNone (digits_of line.now) number) }
+    ensures err { OnErr result (output.new.items ≡ output.old.items) }
+{
+    let start = output.len();
+    let pushed = push_line(number, line, digits, output);
+    if pushed.is_err() {
+        output.truncate(start);
+    }
+    pushed
+}

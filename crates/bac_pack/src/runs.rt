@@ -1,0 +1,83 @@
+//! Runs over texts of lines.
+
+ghost use Rattle.std.specs.Prelude.{◌≡◌, IfErr, IfOk, List, MatchResult, Some, ℕ};
+ghost use Rattle.bac_pack.specs.Files.{RunsOver};
+ghost use Rattle.bac_pack.specs.Lines.{lines_of};
+ghost use Rattle.bac_pack.specs.Runs.{PacksThrough, RunCounts, Stopped};
+
+use crate::PackFault;
+use crate::packers::Packer;
+use crate::windows::Window;
+use bac_record::{Input, Output};
+use std::alloc::Global;
+
+/// Makes a record of each line, to the end of the text or to a fault.
+///
+/// It reads once, packs every line that lies whole in what it holds, hands all their records over, and only then
+/// reads again: nothing known is held back while it waits for input.
+fn run_pieces<R: Input, W: Output>(
+    alloc: Global,
+    reader: &mut R,
+    writer: &mut W,
+) -> Result<u32, PackFault>
+    ensures through { IfOk result (PacksThrough (R.left reader.old) (R.left reader.new) (W.taken writer.old) (W.taken writer.new)) }
+    ensures stopped { IfErr result (Stopped (R.left reader.old) (R.left reader.new) (W.taken writer.old) (W.taken writer.new)) }
+    ensures counted { MatchResult result
+        (λ _. (R.failures reader.new ≡ R.failures reader.old) × (W.failures writer.new ≡ W.failures writer.old))
+        (RunCounts (R.failures reader.old) (R.failures reader.new) (W.failures writer.old) (W.failures writer.new)) }
+{
+    let Ok(mut window) = Window::new(alloc) else {
+        return Err(PackFault::OutOfMemory(1));
+    };
+    let mut packer = Packer::new(alloc);
+    'pieces: loop {
+        let passed = window.octets().len();
+        match window.fill(reader) {
+            Ok(0) => break,
+            Ok(_) => {}
+            Err(_) => return Err(PackFault::ReadFault(packer.lines + 1)),
+        }
+        let (taken, halt) = packer.add_whole(window.octets(), passed);
+        packer.hand_over(writer)?;
+        if let Some(fault) = halt {
+            return Err(fault);
+        }
+        window.advance(taken);
+    }
+    // No LF ends what is left.
+    let last = window.octets();
+    if !last.is_empty() {
+        packer.add(last)?;
+        packer.hand_over(writer)?;
+    }
+    Ok(packer.lines)
+}
+
+/// Makes one record of each line of a text, in order, to its end or to a fault, and returns their number.
+///
+/// A line ends with LF (0A); octets behind the last LF are a line where there are any. One CR (0D) at a line's end is
+/// dropped, and then all blanks (20). The rest must be hexadecimal digits, in either case and an even number. A record
+/// is two octets of length, the most significant first, and then as many octets, at most 65,535. An empty line is a
+/// record of no octets.
+///
+/// It takes memory for 200,001 octets of input and for the records of the lines that lie in them.
+///
+/// # Errors
+/// As [`PackFault`] says. Reading stops at what comes first: an octet behind the 1,000,000th line, the 200,001st octet
+/// of a line before its LF, or a failed read. Of a whole line `NotHex` is told before `RecordTooLong`.
+pub fn run_pack<R: Input, W: Output>(
+    alloc: Global,
+    reader: &mut R,
+    writer: &mut W,
+) -> Result<u32, PackFault>
+    ensures through { IfOk result (PacksThrough (R.left reader.old) (R.left reader.new) (W.taken writer.old) (W.taken writer.new)) }
+    ensures stopped { IfErr result (Stopped (R.left reader.old) (R.left reader.new) (W.taken writer.old) (W.taken writer.new)) }
+
+    // Where the octets of the reader are known, the answer is that of their lines.
+    ensures files { (file : List ℕ) → R.left reader.old ≡ Some file → RunsOver (lines_of file) (W.taken writer.old) (W.taken writer.new) result }
+    ensures counted { MatchResult result
+        (λ _. (R.failures reader.new ≡ R.failures reader.old) × (W.failures writer.new ≡ W.failures writer.old))
+        (RunCounts (R.failures reader.old) (R.failures reader.new) (W.failures writer.old) (W.failures writer.new)) }
+{
+    run_pieces(alloc, reader, writer)
+}
