@@ -19,7 +19,7 @@ memory_answers MissingRequiredArgument output output' errors errors' status told
 memory_answers MissingSubcommand output output' errors errors' status told = (out_of_memory, told)
 memory_answers DisplayHelp output output' errors errors' status told = inl told
 memory_answers DisplayHelpOnMissingArgumentOrSubcommand output output' errors errors' status told = (out_of_memory, told)
-memory_answers DisplayVersion output output' errors errors' status told = (out_of_memory, told)
+memory_answers DisplayVersion output output' errors errors' status told = inl told
 memory_answers Io output output' errors errors' status told = (out_of_memory, told)
 memory_answers Format output output' errors errors' status told = (out_of_memory, told)
 memory_answers OutOfMemory output output' errors errors' status told = told

@@ -11,7 +11,7 @@ use Rattle.clap.proofs.OnLiterals.{clap_on_literals}
 use Rattle.std.specs.List.{AllByRecursion}
 use Rattle.bac_tool.specs.CommandLine.{bactool, NamesJob, IsJobOf, HasMode, word_lists}
 use Rattle.bac_tool.specs.declared.command_line.Job.{Job}
-use Rattle.bac_tool.specs.declared.command_line.Job.TheVariants.{Show, Check, Normalise}
+use Rattle.bac_tool.specs.declared.command_line.Job.TheVariants.{Show, Check, Normalise, Pack}
 use Rattle.bac_stream.specs.declared.modes.Mode.{Mode}
 use Rattle.bac_stream.specs.declared.modes.Mode.TheVariants.{Tolerant, Strict}
 
@@ -46,15 +46,17 @@ abbrev pub name_of_job : Job → Text
 name_of_job (Show mode) = codes "show"
 name_of_job (Check mode) = codes "check"
 name_of_job (Normalise mode) = codes "normalise"
+name_of_job Pack = codes "pack"
 
 abbrev pub flag_of_mode : Mode → Text
 flag_of_mode Strict = codes "true"
 flag_of_mode Tolerant = codes "false"
 
-abbrev pub flag_of_job : Job → Text
-flag_of_job (Show mode) = flag_of_mode mode
-flag_of_job (Check mode) = flag_of_mode mode
-flag_of_job (Normalise mode) = flag_of_mode mode
+abbrev pub flag_of_job : Job → Option Text
+flag_of_job (Show mode) = Some (flag_of_mode mode)
+flag_of_job (Check mode) = Some (flag_of_mode mode)
+flag_of_job (Normalise mode) = Some (flag_of_mode mode)
+flag_of_job Pack = None
 
 -- the name that was found
 abbrev name_of : Option (Text × List Row) → Text
@@ -79,25 +81,25 @@ among_subcommands : (stop : Option (Text × List Text)) (n : Text) (r : List Row
 among_subcommands None n r e = cc
 among_subcommands (Some p) n r e = found_among (λ s. answers_to p.0 (label_of s)) (λ s. rows_after s.rules [] p.1) n r (built bactool).subs e
 
--- the program has three subcommands
+-- the program has four subcommands
 pub program_names : (words : List Text) (n : Text) (r : List Row) → subcommand_of bactool words ≡ Some (n, r)
-    → (n ≡ codes "show") ⊎ ((n ≡ codes "check") ⊎ ((n ≡ codes "normalise") ⊎ ⊥))
+    → (n ≡ codes "show") ⊎ ((n ≡ codes "check") ⊎ ((n ≡ codes "normalise") ⊎ ((n ≡ codes "pack") ⊎ ⊥)))
 program_names words n r e = among_subcommands (stop_after (built bactool).top.rules (names_of (built bactool)) (argument_words bactool words)) n r e
 
 -- the job of the subcommand that was found
 pub names_job : (words : List Text) (n : Text) (r : List Row) (job : Job) → subcommand_of bactool words ≡ Some (n, r) → IsJobOf n (one_of (codes "strict") r) job → NamesJob (subcommand_of bactool words) job
 names_job words n r job found is = subst (λ o. NamesJob o job) (sym found) is
 
--- ---- the six command lines
+-- ---- the seven command lines
 
 pub words_taken : AllByRecursion (λ entry. takes bactool entry.0 ≡ true) word_lists
 unfolding clap_on_literals
-words_taken = (refl, (refl, (refl, (refl, (refl, (refl, tt))))))
+words_taken = (refl, (refl, (refl, (refl, (refl, (refl, (refl, tt)))))))
 
 -- the name and the flag of each
-pub words_named : AllByRecursion (λ entry. named (subcommand_of bactool entry.0) ≡ Some (name_of_job entry.1, Some (flag_of_job entry.1))) word_lists
+pub words_named : AllByRecursion (λ entry. named (subcommand_of bactool entry.0) ≡ Some (name_of_job entry.1, flag_of_job entry.1)) word_lists
 unfolding clap_on_literals
-words_named = (refl, (refl, (refl, (refl, (refl, (refl, tt))))))
+words_named = (refl, (refl, (refl, (refl, (refl, (refl, (refl, tt)))))))
 
 one_mode : (flag : Option Text) (mode m : Mode) → HasMode flag mode → flag ≡ Some (flag_of_mode m) → mode ≡ m
 one_mode flag mode Strict h e = h.0 e
@@ -107,7 +109,7 @@ one_mode flag mode Tolerant h e = h.1 e
 letters : (n a b : Text) → n ≡ a → n ≡ b → get_or a 0 0 ≡ get_or b 0 0
 letters n a b p q = ap (λ (t : Text). get_or t 0 0) (sym p ∙ q)
 
-job_is : (n : Text) (flag : Option Text) (job j : Job) → IsJobOf n flag job → n ≡ name_of_job j → flag ≡ Some (flag_of_job j) → job ≡ j
+job_is : (n : Text) (flag : Option Text) (job j : Job) → IsJobOf n flag job → n ≡ name_of_job j → flag ≡ flag_of_job j → job ≡ j
 job_is n flag (Show mode) (Show m) h e f = ap Show (one_mode flag mode m h.1 f)
 job_is n flag (Check mode) (Check m) h e f = ap Check (one_mode flag mode m h.1 f)
 job_is n flag (Normalise mode) (Normalise m) h e f = ap Normalise (one_mode flag mode m h.1 f)
@@ -118,6 +120,14 @@ job_is n flag (Check mode) (Normalise m) h e f = absurd (omega (arith, letters n
 job_is n flag (Normalise mode) (Show m) h e f = absurd (omega (arith, letters n (codes "normalise") (codes "show") h.0 e))
 job_is n flag (Normalise mode) (Check m) h e f = absurd (omega (arith, letters n (codes "normalise") (codes "check") h.0 e))
 
+job_is n flag Pack Pack h e f = refl
+job_is n flag Pack (Show m) h e f = absurd (omega (arith, letters n (codes "pack") (codes "show") h e))
+job_is n flag Pack (Check m) h e f = absurd (omega (arith, letters n (codes "pack") (codes "check") h e))
+job_is n flag Pack (Normalise m) h e f = absurd (omega (arith, letters n (codes "pack") (codes "normalise") h e))
+job_is n flag (Show mode) Pack h e f = absurd (omega (arith, letters n (codes "show") (codes "pack") h.0 e))
+job_is n flag (Check mode) Pack h e f = absurd (omega (arith, letters n (codes "check") (codes "pack") h.0 e))
+job_is n flag (Normalise mode) Pack h e f = absurd (omega (arith, letters n (codes "normalise") (codes "pack") h.0 e))
+
 abbrev name_from : Option (Text × Option Text) → Text
 name_from None = []
 name_from (Some p) = p.0
@@ -127,16 +137,16 @@ flag_from None = None
 flag_from (Some p) = p.1
 
 -- what is found names one job
-one_job : (found : Option (Text × List Row)) (job j : Job) → NamesJob found job → named found ≡ Some (name_of_job j, Some (flag_of_job j)) → job ≡ j
+one_job : (found : Option (Text × List Row)) (job j : Job) → NamesJob found job → named found ≡ Some (name_of_job j, flag_of_job j) → job ≡ j
 one_job None job j h e = absurd h
 one_job (Some found) job j h e =
     let name_is : found.0 ≡ name_of_job j = ap name_from e in
-    let flag_is : one_of (codes "strict") found.1 ≡ Some (flag_of_job j) = ap flag_from e in
+    let flag_is : one_of (codes "strict") found.1 ≡ flag_of_job j = ap flag_from e in
     job_is found.0 (one_of (codes "strict") found.1) job j h name_is flag_is
 
 -- the answer to one word list
 answer : (words listed : List Text) (j : Job) (r : Result Job Error) → IfOk r (NamesJob (subcommand_of bactool words)) → IfErr r (λ error. takes bactool words ≡ true → kind_of error ≡ OutOfMemory)
-    → takes bactool listed ≡ true → named (subcommand_of bactool listed) ≡ Some (name_of_job j, Some (flag_of_job j)) → words ≡ listed → MatchResult r (λ job. job ≡ j) (λ error. kind_of error ≡ OutOfMemory)
+    → takes bactool listed ≡ true → named (subcommand_of bactool listed) ≡ Some (name_of_job j, flag_of_job j) → words ≡ listed → MatchResult r (λ job. job ≡ j) (λ error. kind_of error ≡ OutOfMemory)
 answer words listed j (Ok job) named_is taken_is takes_it found is = one_job (subcommand_of bactool words) job j named_is (ap (λ (l : List Text). named (subcommand_of bactool l)) is ∙ found)
 answer words listed j (Err error) named_is taken_is takes_it found is = taken_is (ap (takes bactool) is ∙ takes_it)
 
@@ -150,7 +160,7 @@ answers words r named_is taken_is =
         answer words _ _ r named_is taken_is t.1.0 n.1.0,
         (
           answer words _ _ r named_is taken_is t.1.1.0 n.1.1.0,
-          (answer words _ _ r named_is taken_is t.1.1.1.0 n.1.1.1.0, (answer words _ _ r named_is taken_is t.1.1.1.1.0 n.1.1.1.1.0, (answer words _ _ r named_is taken_is t.1.1.1.1.1.0 n.1.1.1.1.1.0, tt))),
+          (answer words _ _ r named_is taken_is t.1.1.1.0 n.1.1.1.0, (answer words _ _ r named_is taken_is t.1.1.1.1.0 n.1.1.1.1.0, (answer words _ _ r named_is taken_is t.1.1.1.1.1.0 n.1.1.1.1.1.0, (answer words _ _ r named_is taken_is t.1.1.1.1.1.1.0 n.1.1.1.1.1.1.0, tt)))),
         ),
       ),
     )

@@ -5,7 +5,7 @@ use Rattle.clap.specs.declared.builder.action.ArgAction.TheVariants.{SetTrue}
 use Rattle.bac_stream.specs.declared.modes.Mode.{Mode}
 use Rattle.bac_stream.specs.declared.modes.Mode.TheVariants.{Tolerant, Strict}
 use Rattle.bac_tool.specs.declared.command_line.Job.{Job}
-use Rattle.bac_tool.specs.declared.command_line.Job.TheVariants.{Show, Check, Normalise}
+use Rattle.bac_tool.specs.declared.command_line.Job.TheVariants.{Show, Check, Normalise, Pack}
 
 -- the flag --strict
 abbrev pub strict : Rule
@@ -15,13 +15,13 @@ strict = record (new_rule (codes "strict")) { long = Some (codes "strict"); acti
 abbrev pub moded : Text → App
 moded name = with_rule (new_app name) strict
 
--- the program before its subcommands, of which one is required
+-- the program before its subcommands, of which one is required, with a version
 abbrev pub bare : App
-bare = record (new_app (codes "bactool")) { top = record (new_app (codes "bactool")).top { subcommand_required = true; disable_help_subcommand = true } }
+bare = record (new_app (codes "bactool")) { top = record (new_app (codes "bactool")).top { subcommand_required = true; disable_help_subcommand = true; has_version = true } }
 
 -- the program
 abbrev pub bactool : App
-bactool = with_subcommand (with_subcommand (with_subcommand bare (moded (codes "show")).top) (moded (codes "check")).top) (moded (codes "normalise")).top
+bactool = with_subcommand (with_subcommand (with_subcommand (with_subcommand bare (moded (codes "show")).top) (moded (codes "check")).top) (moded (codes "normalise")).top) (new_app (codes "pack")).top
 
 -- the mode that the flag's text names
 abbrev pub HasMode : Option Text → Mode → Type 0
@@ -32,6 +32,7 @@ abbrev pub IsJobOf : Text → Option Text → Job → Type 0
 IsJobOf name flag (Show mode) = (name ≡ codes "show") × HasMode flag mode
 IsJobOf name flag (Check mode) = (name ≡ codes "check") × HasMode flag mode
 IsJobOf name flag (Normalise mode) = (name ≡ codes "normalise") × HasMode flag mode
+IsJobOf name flag Pack = name ≡ codes "pack"
 
 -- the job that the matches name
 abbrev pub NamesJob : Option (Text × List Row) → Job → Type 0
@@ -46,4 +47,5 @@ word_lists = (codes "bactool" ∷ codes "show" ∷ [], Show Tolerant)
     ∷ (codes "bactool" ∷ codes "check" ∷ codes "--strict" ∷ [], Check Strict)
     ∷ (codes "bactool" ∷ codes "normalise" ∷ [], Normalise Tolerant)
     ∷ (codes "bactool" ∷ codes "normalise" ∷ codes "--strict" ∷ [], Normalise Strict)
+    ∷ (codes "bactool" ∷ codes "pack" ∷ [], Pack)
     ∷ []

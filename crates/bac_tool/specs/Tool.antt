@@ -3,33 +3,50 @@ use Rattle.std.specs.Prelude.{◌≡◌, ◌⊎◌, ℕ, Bool, true, List, Optio
 use Rattle.std.specs.Io.KnownBytes.{Appends}
 use Rattle.clap.specs.Words.{IsAmong, Kinds, Row, Text}
 use Rattle.clap.specs.declared.error.ErrorKind.{ErrorKind}
-use Rattle.clap.specs.declared.error.ErrorKind.TheVariants.{DisplayHelp, OutOfMemory}
+use Rattle.clap.specs.declared.error.ErrorKind.TheVariants.{DisplayHelp, DisplayVersion, OutOfMemory}
 use Rattle.bac_tool.specs.CommandLine.{NamesJob}
 use Rattle.bac_stream.specs.Judging.{IsCanonical, IsRefused, Refuses}
+use Rattle.bac_stream.specs.declared.modes.Mode.{Mode}
 use Rattle.bac_stream.specs.Lines.{ShowsAs, ChecksAs, NormalisesTo}
 use Rattle.bac_record.specs.Devices.{HasRisen}
 use Rattle.bac_record.specs.Runs.{RanThrough, RunCounts, Stopped}
+use Rattle.bac_pack.specs.Runs as packing
+use Rattle.bac_pack.specs.Runs.{PacksThrough}
 use Rattle.bac_record.specs.Transfers.{TakesFront}
 use Rattle.bac_tool.specs.declared.command_line.Job.{Job}
-use Rattle.bac_tool.specs.declared.command_line.Job.TheVariants.{Show, Check, Normalise}
-use Rattle.bac_record.specs.declared.faults.RunFault.{RunFault}
+use Rattle.bac_tool.specs.declared.command_line.Job.TheVariants.{Show, Check, Normalise, Pack}
+use Rattle.bac_tool.specs.declared.job_faults.JobFault.{JobFault}
+use Rattle.bac_tool.specs.declared.job_faults.JobFault.TheVariants as fault
 use Rattle.bac_record.specs.declared.faults.RunFault.TheVariants.{Stream, Frame}
 use Rattle.bac_record.specs.declared.summaries.Summary.{Summary}
 
--- what the run of a job leaves, by its answer
-abbrev pub RunsAs : Job → Option (List ℕ) → Option (List ℕ) → Option (List ℕ) → Option (List ℕ) → Result Summary RunFault → Type 0
-RunsAs (Show mode) left left' taken taken' (Ok summary) = RanThrough (ShowsAs mode) IsCanonical (IsRefused mode) left left' taken taken' summary
-RunsAs (Show mode) left left' taken taken' (Err fault) = Stopped (ShowsAs mode) (λ _ _. ⊥) left left' taken taken' fault
-RunsAs (Check mode) left left' taken taken' (Ok summary) = RanThrough (ChecksAs mode) IsCanonical (IsRefused mode) left left' taken taken' summary
-RunsAs (Check mode) left left' taken taken' (Err fault) = Stopped (ChecksAs mode) (λ _ _. ⊥) left left' taken taken' fault
-RunsAs (Normalise mode) left left' taken taken' (Ok summary) = RanThrough (NormalisesTo mode) IsCanonical (IsRefused mode) left left' taken taken' summary
-RunsAs (Normalise mode) left left' taken taken' (Err fault) = Stopped (NormalisesTo mode) (Refuses mode) left left' taken taken' fault
+-- a run over records that ended well, with so many refused ones
+abbrev pub RanOver : (ℕ → List ℕ → List ℕ → Type 0) → Mode → Option (List ℕ) → Option (List ℕ) → Option (List ℕ) → Option (List ℕ) → ℕ → Type 0
+RanOver line mode left left' taken taken' refused =
+    (summary : Summary) × RanThrough line IsCanonical (IsRefused mode) left left' taken taken' summary × (refused ≡ summary.refused)
 
--- the exit status by the answer of the run
-abbrev pub status_of : Result Summary RunFault → ℕ
-status_of (Ok summary) = if nat_eq summary.refused 0 then 0 else 1
-status_of (Err (Frame at refusal)) = 1
-status_of (Err (Stream at fault)) = 2
+-- what a job leaves, by its answer: how many records were refused, or a fault
+abbrev pub RunsAs : Job → Option (List ℕ) → Option (List ℕ) → Option (List ℕ) → Option (List ℕ) → Result ℕ JobFault → Type 0
+RunsAs (Show mode) left left' taken taken' (Ok refused) = RanOver (ShowsAs mode) mode left left' taken taken' refused
+RunsAs (Show mode) left left' taken taken' (Err (fault.Run stop)) = Stopped (ShowsAs mode) (λ _ _. ⊥) left left' taken taken' stop
+RunsAs (Check mode) left left' taken taken' (Ok refused) = RanOver (ChecksAs mode) mode left left' taken taken' refused
+RunsAs (Check mode) left left' taken taken' (Err (fault.Run stop)) = Stopped (ChecksAs mode) (λ _ _. ⊥) left left' taken taken' stop
+RunsAs (Normalise mode) left left' taken taken' (Ok refused) = RanOver (NormalisesTo mode) mode left left' taken taken' refused
+RunsAs (Normalise mode) left left' taken taken' (Err (fault.Run stop)) = Stopped (NormalisesTo mode) (Refuses mode) left left' taken taken' stop
+RunsAs Pack left left' taken taken' (Ok refused) = (count : ℕ) × PacksThrough left left' taken taken' count × (refused ≡ 0)
+RunsAs Pack left left' taken taken' (Err (fault.Pack stop)) = packing.Stopped left left' taken taken' stop
+RunsAs _ left left' taken taken' (Err _) = ⊥
+
+-- Where the fault is that of a device, its failures rose; else they stay.
+abbrev pub Counts : ℕ → ℕ → ℕ → ℕ → JobFault → Type 0
+Counts read read' write write' (fault.Run stop) = RunCounts read read' write write' stop
+Counts read read' write write' (fault.Pack stop) = packing.RunCounts read read' write write' stop
+
+-- the exit status by the answer of the job
+abbrev pub status_of : Result ℕ JobFault → ℕ
+status_of (Ok refused) = if nat_eq refused 0 then 0 else 1
+status_of (Err (fault.Run (Frame at refusal))) = 1
+status_of (Err _) = 2
 
 -- what is known of an input: the octets that it will give, and how often it has failed
 pub record Source : Type 0 where
@@ -44,11 +61,11 @@ pub record Sink : Type 0 where
 -- The job that the words name was run, and the status is that of its answer.
 pub record HasRun (named : Option (Text × List Row)) (input input' : Source) (output output' : Sink) (status : ℕ) : Type 0 where
   pub job : Job
-  pub answer : Result Summary RunFault
+  pub answer : Result ℕ JobFault
   pub names : NamesJob named job
   pub runs : RunsAs job input.left input'.left output.taken output'.taken answer
   pub counted : MatchResult answer (λ _. (input'.failures ≡ input.failures) × (output'.failures ≡ output.failures))
-      (RunCounts input.failures input'.failures output.failures output'.failures)
+      (Counts input.failures input'.failures output.failures output'.failures)
   pub status_is : status ≡ status_of answer
 
 -- the line that tells want of memory
@@ -75,11 +92,12 @@ Writes output output' errors errors' status = (text : List ℕ) ×
     ((Appends output.taken output'.taken text × (output'.failures ≡ output.failures) × (errors' ≡ errors) × (status ≡ 0))
     ⊎ (TakesPart output output' text × (status ≡ 2)))
 
--- How words that name no job are answered: want of memory by its line on the errors, help by a text on the output, and a
--- mistake by a text on the errors. Memory may be wanted for either text too.
+-- How words that name no job are answered: want of memory by its line on the errors, help and the version by a text on the
+-- output, and a mistake by a text on the errors. Memory may be wanted for either text too.
 abbrev pub Answers : ErrorKind → Sink → Sink → Sink → Sink → ℕ → Type 0
 Answers OutOfMemory output output' errors errors' status = Tells output output' errors errors' out_of_memory status
 Answers DisplayHelp output output' errors errors' status = Tells output output' errors errors' out_of_memory status ⊎ Writes output output' errors errors' status
+Answers DisplayVersion output output' errors errors' status = Tells output output' errors errors' out_of_memory status ⊎ Writes output output' errors errors' status
 Answers _ output output' errors errors' status = (text : List ℕ) × Tells output output' errors errors' text status
 
 -- No job was run, and nothing was read: memory was wanted, or the words have a fault and are answered by its kind. For words

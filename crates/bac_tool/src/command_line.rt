@@ -2,7 +2,7 @@
 
 use bac_stream::Mode;
 
-/// What the program is asked to do with the file of records on its standard input.
+/// What the program is asked to do with its standard input: a file of records, or for `Pack` a text.
 #[derive(Clone, Copy, Debug, PartialEq, Eq)]
 pub enum Job {
     /// A line for each record: what it says, or why it is refused.
@@ -11,4 +11,6 @@ pub enum Job {
     Check(Mode),
     /// The canonical octets of each record, as a record.
     Normalise(Mode),
+    /// A record for each line of hexadecimal digits.
+    Pack,
 }

@@ -1,11 +1,13 @@
-//! The program `bactool`: shows, checks and normalises files of BACnet frames (ANSI/ASHRAE 135).
+//! The program `bactool`: shows, checks, normalises and packs files of BACnet frames (ANSI/ASHRAE 135).
 //!
 //! A file is a list of records, each two octets of length and then a frame: one NPDU (clause 6), with an APDU (clause
-//! 20.1) or a network message (clause 6.4) in it. The runs over such files are those of bac_stream; here stand the
-//! words of the command line, the exit status and what is told on standard error.
+//! 20.1) or a network message (clause 6.4) in it. The runs over such files are those of bac_stream, and the one that makes
+//! a file of lines of hexadecimal digits that of bac_pack; here stand the words of the command line, the exit status and
+//! what is told on standard error.
 #![tactic(auto)]
 
 mod command_line;
+mod job_faults;
 mod tool;
 #[cfg(test)]
 mod tool_tests;
@@ -13,6 +15,7 @@ mod words;
 
 use bac_stream::Counted;
 pub use command_line::Job;
+pub use job_faults::JobFault;
 use std::io;
 use std::process::ExitCode;
 pub use tool::run_tool;

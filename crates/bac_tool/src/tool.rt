@@ -3,15 +3,13 @@
 ghost use Rattle.std.specs.Prelude.{◌≡◌, ◌⊎◌, MatchResult, map};
 ghost use Rattle.clap.specs.Words.{fault_of, kind_of, subcommand_of, takes};
 ghost use Rattle.bac_tool.specs.CommandLine.{bactool};
-ghost use Rattle.bac_record.specs.Runs.{RunCounts};
-ghost use Rattle.bac_tool.specs.Tool.{Answers, HasNotRun, HasRun, Receives, RunsAs, status_of as status_of_answer};
+ghost use Rattle.bac_tool.specs.Tool.{Answers, Counts, HasNotRun, HasRun, Receives, RunsAs, Writes, status_of as status_of_answer};
 
-use crate::{Job, job};
+use crate::{Job, JobFault, job};
 use arrayvec::ArrayString;
+use bac_pack::run_pack;
 use bac_record::write_whole;
-use bac_stream::{
-    Input, Output, RunFault, StreamFault, Summary, run_check, run_normalise, run_show,
-};
+use bac_stream::{Input, Output, RunFault, StreamFault, run_check, run_normalise, run_show};
 use clap::Error;
 use clap::error::ErrorKind;
 use std::alloc::Global;
@@ -47,7 +45,21 @@ fn tell_text<E: Output>(text: &[u8], errors: &mut E)
     let _ = write_whole(errors, text);
 }
 
-/// Answers words that name no job, and gives the status: help goes to the output, a mistake to the errors.
+/// Writes a text that was asked for, and gives the status.
+fn write_text<W: Output, E: Output>(text: &[u8], output: &mut W, errors: &mut E) -> u8
+    ensures { Writes (record { taken = W.taken output.old; failures = W.failures output.old }) (record { taken = W.taken output.new; failures = W.failures output.new })
+        (record { taken = E.taken errors.old; failures = E.failures errors.old }) (record { taken = E.taken errors.new; failures = E.failures errors.new }) result }
+{
+    match write_whole(output, text) {
+        Ok(()) => WELL,
+        Err(count) => {
+            tell(&StreamFault::WriteFault(count as u128), errors);
+            FAILED
+        }
+    }
+}
+
+/// Answers words that name no job, and gives the status: help and the version go to the output, a mistake to the errors.
 fn answer_words<W: Output, E: Output>(
     alloc: Global,
     error: &Error,
@@ -65,66 +77,70 @@ fn answer_words<W: Output, E: Output>(
             return FAILED;
         }
     };
-    if error.kind() != ErrorKind::DisplayHelp {
-        tell_text(text.as_bytes(), errors);
-        return FAILED;
-    }
-    match write_whole(output, text.as_bytes()) {
-        Ok(()) => WELL,
-        Err(count) => {
-            tell(&StreamFault::WriteFault(count as u128), errors);
+    match error.kind() {
+        ErrorKind::DisplayHelp | ErrorKind::DisplayVersion => {
+            write_text(text.as_bytes(), output, errors)
+        }
+        _ => {
+            tell_text(text.as_bytes(), errors);
             FAILED
         }
     }
 }
 
-/// Writes the line of a run's fault: with the record's number where the record is at fault.
-fn tell_fault<E: Output>(ran: &RunFault, errors: &mut E) {
-    match ran {
-        RunFault::Stream {
+/// Writes the line of a job's fault: with the number of the record or line where that is at fault.
+fn tell_fault<E: Output>(fault: &JobFault, errors: &mut E) {
+    match fault {
+        JobFault::Run(RunFault::Stream {
             fault: fault @ (StreamFault::WriteFault(_)
             | StreamFault::TooManyFrames
             | StreamFault::OutOfMemory),
             ..
-        } => tell(fault, errors),
-        ran => tell(ran, errors),
+        }) => tell(fault, errors),
+        JobFault::Run(fault) => tell(fault, errors),
+        JobFault::Pack(fault) => tell(fault, errors),
     }
 }
 
-/// Runs a job.
+/// Runs a job. Returns how many records were refused.
 fn run_job<R: Input, W: Output>(
     alloc: Global,
     job: Job,
     input: &mut R,
     output: &mut W,
-) -> Result<Summary, RunFault>
+) -> Result<u32, JobFault>
     ensures ran { RunsAs job (R.left input.old) (R.left input.new) (W.taken output.old) (W.taken output.new) result }
     ensures counted { MatchResult result
         (λ _. (R.failures input.new ≡ R.failures input.old) × (W.failures output.new ≡ W.failures output.old))
-        (RunCounts (R.failures input.old) (R.failures input.new) (W.failures output.old) (W.failures output.new)) }
+        (Counts (R.failures input.old) (R.failures input.new) (W.failures output.old) (W.failures output.new)) }
 {
-    match job {
-        Job::Show(mode) => run_show(alloc, mode, input, output),
-        Job::Check(mode) => run_check(alloc, mode, input, output),
-        Job::Normalise(mode) => run_normalise(alloc, mode, input, output),
-    }
+    let summary = match job {
+        Job::Show(mode) => run_show(alloc, mode, input, output)?,
+        Job::Check(mode) => run_check(alloc, mode, input, output)?,
+        Job::Normalise(mode) => run_normalise(alloc, mode, input, output)?,
+        Job::Pack => {
+            run_pack(alloc, input, output)?;
+            return Ok(0);
+        }
+    };
+    Ok(summary.refused)
 }
 
-/// The exit status by the answer of a run.
-fn status_of(answer: &Result<Summary, RunFault>) -> u8
+/// The exit status by the answer of a job.
+fn status_of(answer: &Result<u32, JobFault>) -> u8
     ensures { result ≡ status_of_answer answer.now }
 {
     match answer {
-        Ok(summary) => { if summary.refused == 0 { WELL } else { REFUSED } }
-        Err(RunFault::Frame { .. }) => REFUSED,
-        Err(RunFault::Stream { .. }) => FAILED,
+        Ok(0) => WELL,
+        Ok(_) | Err(JobFault::Run(RunFault::Frame { .. })) => REFUSED,
+        Err(_) => FAILED,
     }
 }
 
 /// Runs the program: does what the words ask for, from the input to the output, with one line on `errors` where it
 /// fails. What `errors` does not take is dropped.
 ///
-/// Returns the exit status: 0 where all went well, and where help was asked for and written; 1 where a frame was
+/// Returns the exit status: 0 where all went well, and where help or the version was asked for and written; 1 where a frame was
 /// refused and nothing worse happened; 2 where the words have a fault, or a device, the framing or memory failed.
 pub fn run_tool<R: Input, W: Output, E: Output>(
     alloc: Global,

@@ -2,7 +2,7 @@
 
 ghost use Rattle.std.specs.Prelude.{◌≡◌, IfOk, IfErr, MatchResult, [], map, true, false, codes};
 ghost use Rattle.std.specs.List.{AllByRecursion};
-ghost use Rattle.clap.specs.Words.{app_of, rule_of, subcommand_of, takes, fault_of, HasKind, kind_of, one_text, found_of};
+ghost use Rattle.clap.specs.Words.{app_of, new_app, rule_of, subcommand_of, takes, fault_of, HasKind, kind_of, one_text, found_of};
 ghost use Rattle.clap.specs.declared.builder.command.Command.{out-Command as fields_of};
 ghost use Rattle.bac_tool.specs.CommandLine.{bactool, strict, moded, bare, NamesJob, HasMode, word_lists};
 
@@ -28,13 +28,25 @@ fn moded_command<'a>(
     alloc: Global,
     name: &'a str,
     about: &'a str,
+    example: &'a str,
 ) -> Result<Command<'a>, AllocError>
     ensures shape { IfOk result (λ c. app_of c ≡ moded name.now) }
     ensures local { IfOk result (λ c. (fields_of c).has_globals ≡ false) }
 {
     Command::new(alloc, name)
         .about(about)
+        .after_help(example)
         .arg(strict_flag(alloc))
+}
+
+/// The command that reads a text and no records, and so takes no flag.
+fn pack_command<'a>(alloc: Global) -> Command<'a>
+    ensures shape { app_of result ≡ new_app (codes "pack") }
+    ensures local { (fields_of result).has_globals ≡ false }
+{
+    Command::new(alloc, "pack")
+        .about("Write a record for each line of hexadecimal digits")
+        .after_help("Example: echo 0104 0005010C 0C00000005 1955 | bactool pack | bactool show")
 }
 
 /// The program before its subcommands.
@@ -43,8 +55,9 @@ fn bare_command<'a>(alloc: Global) -> Command<'a>
 {
     Command::new(alloc, "bactool")
         .about(
-            "Shows, checks and normalises files of BACnet frames, from standard input to standard output",
+            "Shows, checks, normalises and packs files of BACnet frames, from standard input to standard output",
         )
+        .version("0.1.0")
         .subcommand_required(true)
         .disable_help_subcommand(true)
 }
@@ -53,20 +66,28 @@ fn bare_command<'a>(alloc: Global) -> Command<'a>
 fn command<'a>(alloc: Global) -> Result<Command<'a>, AllocError>
     ensures { IfOk result (λ c. app_of c ≡ bactool) }
 {
-    let show = moded_command(alloc, "show", "Write a line for each record: what it says")?;
+    let show = moded_command(
+        alloc,
+        "show",
+        "Write a line for each record: what it says, or why it is refused and at which octet",
+        "Example: bactool show < site.frames | grep refused",
+    )?;
     let check = moded_command(
         alloc,
         "check",
-        "Write a line for each record: whether it is canonical",
+        "Write a line for each record: whether it is canonical, tolerated or refused",
+        "Example: bactool check --strict < site.frames || echo not all canonical",
     )?;
     let normalise = moded_command(
         alloc,
         "normalise",
         "Write each record in its canonical octets",
+        "Example: bactool normalise < site.frames > canonical.frames",
     )?;
     let one = bare_command(alloc).subcommand(show)?;
     let two = one.subcommand(check)?;
-    two.subcommand(normalise)
+    let three = two.subcommand(normalise)?;
+    three.subcommand(pack_command(alloc))
 }
 
 /// The mode that the flag of a subcommand's matches names.
@@ -91,6 +112,9 @@ fn named_job<'a>(alloc: Global, words: &'a [&'a str]) -> Result<Job, Error>
     let Some((name, matches)) = matches.subcommand() else {
         unreachable!()
     };
+    if name == "pack" {
+        return Ok(Job::Pack);
+    }
     let mode = mode_of(matches);
     if name == "show" {
         return Ok(Job::Show(mode));

@@ -10,5 +10,7 @@ returns c =
     c.in_ok-one.ensures.shape c.in_ok-show.ensures.local ∙ ap₂ with_subcommand c.bare_command.ensures (ap (λ (a : App). a.top) c.in_ok-show.ensures.shape) in
     let two_is : app_of c.in_ok-two.two ≡ with_subcommand (with_subcommand bare (moded (codes "show")).top) (moded (codes "check")).top =
     c.in_ok-two.ensures.shape c.in_ok-check.ensures.local ∙ ap₂ with_subcommand one_is (ap (λ (a : App). a.top) c.in_ok-check.ensures.shape) in
-    IfOk-weaker c.subcommand-3.result _ _
-    (λ r added. added.shape c.in_ok-normalise.ensures.local ∙ ap₂ with_subcommand two_is (ap (λ (a : App). a.top) c.in_ok-normalise.ensures.shape)) c.subcommand-3.ensures
+    let three_is : app_of c.in_ok-three.three ≡ with_subcommand (with_subcommand (with_subcommand bare (moded (codes "show")).top) (moded (codes "check")).top) (moded (codes "normalise")).top =
+    c.in_ok-three.ensures.shape c.in_ok-normalise.ensures.local ∙ ap₂ with_subcommand two_is (ap (λ (a : App). a.top) c.in_ok-normalise.ensures.shape) in
+    IfOk-weaker c.subcommand-4.result _ _
+    (λ r added. added.shape c.pack_command.ensures.local ∙ ap₂ with_subcommand three_is (ap (λ (a : App). a.top) c.pack_command.ensures.shape)) c.subcommand-4.ensures
