@@ -275,6 +275,58 @@ fn words_that_are_taken_are_run(rt: HostRuntime) -> Result<(), Fail> {
     Ok(())
 }
 
+// Examples 31, 61 and 78.
+#[test]
+fn pack_makes_records_of_lines(rt: HostRuntime) -> Result<(), Fail> {
+    let words = ["bactool", "pack"];
+    let record = file_of(rt.alloc(), &[F1])?;
+    let text = b"0104 0005010C 0C00000005 1955\n";
+    runs(&rt, rt.alloc(), &words, text, (0, &record, ""));
+    runs(&rt, rt.alloc(), &words, b"\n", (0, &[0, 0], ""));
+    let lines = [0, 1, 0xAB, 0, 1, 0xCD].as_slice();
+    runs(&rt, rt.alloc(), &words, b"AB\r\nCD", (0, lines, ""));
+    runs(&rt, rt.alloc(), &words, &[], (0, &[], ""));
+
+    let said = "bactool: line 1: not hexadecimal\n";
+    runs(&rt, rt.alloc(), &words, b"01 4\n", (2, &[], said));
+    runs(&rt, rt.alloc(), &words, b"0\nzz", (2, &[], said));
+    let said = "bactool: line 2: not hexadecimal\n";
+    runs(&rt, rt.alloc(), &words, b"AB\nzz", (2, &lines[..3], said));
+    let long = vec![in rt.alloc(); b'0'; 131_072]?;
+    let said = "bactool: line 1: too long\n";
+    runs(&rt, rt.alloc(), &words, &long, (2, &[], said));
+    Ok(())
+}
+
+// A write that fails, and more lines than there may be.
+#[test]
+fn pack_tells_its_faults(rt: HostRuntime) -> Result<(), Fail> {
+    let words = ["bactool", "pack"];
+    for room in 0..3 {
+        let mut front = vec![in rt.alloc(); 0; room]?;
+        let mut feed = Counted::new(b"AB".as_slice());
+        let mut drain = Counted::new(front.as_mut_slice());
+        let (status, said) = told(rt.alloc(), &words, &mut feed, &mut drain);
+        let want = format!(in rt.alloc(); "bactool: write fault after {room} octets\n")?;
+        assert_eq!(rt; (status, said.as_slice()), (2, want.as_bytes()));
+    }
+    let mut feed = Counted::new(Failing { octets: b"AB\nC" });
+    let mut taken = Counted::new(Vec::new(rt.alloc()));
+    let (status, said) = told(rt.alloc(), &words, &mut feed, &mut taken);
+    assert_eq!(rt; (status, said.as_slice()), (2, b"bactool: line 2: read fault\n".as_slice()));
+    assert_eq!(rt; taken.device.as_slice(), [0, 1, 0xAB].as_slice());
+
+    let mut feed = Counted::new(io::repeat(b'\n'));
+    let mut taken = Counted::new(Vec::new(rt.alloc()));
+    let (status, said) = told(rt.alloc(), &words, &mut feed, &mut taken);
+    assert_eq!(rt;
+        (status, said.as_slice()),
+        (2, b"bactool: more than 1000000 records\n".as_slice())
+    );
+    assert_eq!(rt; taken.device.len(), 2_000_000);
+    Ok(())
+}
+
 // Which texts answer other words is not fixed; where they go and the statuses are.
 #[test]
 fn other_words_are_answered(rt: HostRuntime) -> Result<(), Fail> {
@@ -282,11 +334,12 @@ fn other_words_are_answered(rt: HostRuntime) -> Result<(), Fail> {
         [].as_slice(),
         &["bactool"],
         &["bactool", ""],
-        &["bactool", "pack"],
+        &["bactool", "pack", "--strict"],
+        &["bactool", "pack", "file"],
         &["bactool", "help"],
         &["bactool", "--strict"],
         &["bactool", "--strict", "show"],
-        &["bactool", "--version"],
+        &["bactool", "show", "--version"],
         &["bactool", "--", "show"],
         &["bactool", "show", "--lenient"],
         &["bactool", "show", "-s"],
@@ -326,6 +379,9 @@ fn help_is_written(rt: HostRuntime) -> Result<(), Fail> {
         &["bactool", "show", "--help"],
         &["bactool", "normalise", "-h"],
         &["bactool", "check", "--strict", "--help"],
+        &["bactool", "pack", "--help"],
+        &["bactool", "--version"],
+        &["bactool", "-V"],
     ] {
         let mut input = Counted::new([0, 0].as_slice());
         let mut taken = Counted::new(Vec::new(rt.alloc()));
@@ -337,7 +393,7 @@ fn help_is_written(rt: HostRuntime) -> Result<(), Fail> {
             "{words:?}"
         );
         assert!(rt;
-            text.starts_with(b"Shows") || text.starts_with(b"Write"),
+            text.starts_with(b"Shows") || text.starts_with(b"Write") || text.starts_with(b"bactool 0.1"),
             "{words:?}"
         );
 
