@@ -11,7 +11,7 @@ use Rattle.bac_pack.specs.Files.{RunsOver, StopsBefore, FaultAt, Writes}
 use Rattle.bac_pack.specs.declared.faults.PackFault.{PackFault}
 use Rattle.bac_pack.specs.declared.faults.PackFault.TheVariants.{LineTooLong, NotHex, RecordTooLong, ReadFault, WriteFault, TooManyLines, OutOfMemory}
 use Rattle.bac_pack.proofs.LineLists.{AllZip-append, AllZip-length, lines_of-line, lines_of-ended, lines_of-front, lines_of-last}
-use Rattle.bac_pack.proofs.RunSoFar.{short_lines}
+use Rattle.bac_pack.proofs.RunSoFar.{short_lines, unbroken_lines}
 
 -- A line that is whole at the front of the rest is the first of the lines there, whatever of the file is left.
 first_whole : (line rest unread : List ℕ) (is_end : Type 0) → IsLine line → IsWhole line rest is_end → (is_end → unread ≡ []) → (more : List (List ℕ)) × (lines_of (rest ++ unread) ≡ line ∷ more)
@@ -49,7 +49,7 @@ module _ (left' taken taken' : Option (List ℕ)) (file : List ℕ) where
       record {
         unread = parts.0;
         none = parts.2;
-        lines_are = ap lines_of (parts.1 ∙ append_assoc (ended run.lines) run.rest parts.0) ∙ lines_of-ended run.lines (run.rest ++ parts.0) run.each;
+        lines_are = ap lines_of (parts.1 ∙ append_assoc (ended run.lines) run.rest parts.0) ∙ lines_of-ended run.lines (run.rest ++ parts.0) (unbroken_lines run.lines run.each);
       }
 
   writes_front : (fault : PackFault) (run : Stopped (Some file) left' taken taken' fault) → run.written ≡ joined run.records → Writes run.lines taken taken'

@@ -4,3 +4,4 @@ pub mod DigitLemmas
 pub mod PackingLemmas
 pub mod RunSoFar
 pub mod FileRuns
+pub mod TextLaws

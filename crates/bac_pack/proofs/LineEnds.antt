@@ -5,10 +5,10 @@ use Rattle.std.specs.List.{position, position_or_len}
 use Rattle.bac_pack.specs.Lines.{LF, IsUnbroken}
 use Rattle.bac_pack.specs.Packing.{EndsAt}
 
-is_end : (octet : ℕ) → (octet == LF) ≡ true → octet ≡ LF
+pub is_end : (octet : ℕ) → (octet == LF) ≡ true → octet ≡ LF
 is_end octet e = grind (arith, nat_tests)
 
-is_other : (octet : ℕ) → (octet == LF) ≡ false → octet ≢ LF
+pub is_other : (octet : ℕ) → (octet == LF) ≡ false → octet ≢ LF
 is_other octet e = grind (arith, nat_tests)
 
 unbroken_when : (octets : List ℕ) → length octets ≤ position_or_len (λ octet. octet == LF) octets → IsUnbroken octets

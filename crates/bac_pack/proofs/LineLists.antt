@@ -2,7 +2,7 @@
 use Rattle.std.proofs.Common.{◌≡◌, ◌≢◌, ◌==◌, ℕ, List, [], ◌∷◌, ◌++◌, length, refl, sym, ap, ◌∙◌, append_assoc, append-nil, arith, Bool, true, false, if◌then◌else◌}
 use Rattle.std.proofs.lemmas.Bool.Decides.{nat_tests}
 use Rattle.std.specs.List.{AllByRecursion, AllZip}
-use Rattle.bac_pack.specs.Lines.{LF, in_first, with_octet, lines_of, ended, IsUnbroken, IsLine}
+use Rattle.bac_pack.specs.Lines.{LF, in_first, with_octet, lines_of, ended, IsUnbroken}
 
 pub ended-append : (lines others : List (List ℕ)) → ended (lines ++ others) ≡ ended lines ++ ended others
 ended-append [] others = refl
@@ -42,11 +42,11 @@ lines_of-line (octet ∷ line) more whole =
     ap (with_octet octet) (lines_of-line line more whole.1) ∙ with_octet-other octet (line ∷ lines_of more) whole.0
 
 -- Lines that end stand in front of those of the rest.
-pub lines_of-ended : (lines : List (List ℕ)) (rest : List ℕ) → AllByRecursion IsLine lines → lines_of (ended lines ++ rest) ≡ lines ++ lines_of rest
+pub lines_of-ended : (lines : List (List ℕ)) (rest : List ℕ) → AllByRecursion IsUnbroken lines → lines_of (ended lines ++ rest) ≡ lines ++ lines_of rest
 lines_of-ended [] rest each = refl
 lines_of-ended (line ∷ lines) rest each =
     ap lines_of (append_assoc (line ++ LF ∷ []) (ended lines) rest ∙ append_assoc line (LF ∷ []) (ended lines ++ rest))
-    ∙ lines_of-line line (ended lines ++ rest) each.0.0 ∙ ap (λ (l : List (List ℕ)). line ∷ l) (lines_of-ended lines rest each.1)
+    ∙ lines_of-line line (ended lines ++ rest) each.0 ∙ ap (λ (l : List (List ℕ)). line ∷ l) (lines_of-ended lines rest each.1)
 
 -- Octets without LF at the front of a text stand in its first line.
 pub lines_of-front : (front more : List ℕ) → IsUnbroken front → front ≢ [] → (behind : List ℕ) × (lines : List (List ℕ)) × (lines_of (front ++ more) ≡ (front ++ behind) ∷ lines)

@@ -9,7 +9,7 @@ use Rattle.std.proofs.KnownBytes.{Consumes-nil, Appends-nil, Consumes-trans, App
 use Rattle.bac_record.specs.Records.{joined, record_of}
 use Rattle.bac_record.specs.Transfers.{TakesFront}
 use Rattle.bac_record.proofs.Appended.{joined-append, joined-more, AllByRecursion-append}
-use Rattle.bac_pack.specs.Lines.{MOST_LINES, lines_of, ended, digits_of, IsShort, IsLine, Packs, IsNotHex, IsTooLong}
+use Rattle.bac_pack.specs.Lines.{MOST_LINES, lines_of, ended, digits_of, IsUnbroken, IsShort, IsLine, Packs, IsNotHex, IsTooLong}
 use Rattle.bac_pack.specs.Runs.{PacksThrough, Stopped, IsCause, IsWritten, IsWhole, NextLine, Waits}
 use Rattle.bac_pack.specs.Packing.{Adds, PacksFront, IsFound, SpellsNone}
 use Rattle.bac_pack.specs.declared.packers.Packer.{Packer}
@@ -97,6 +97,10 @@ output_room (line ∷ lines) (octets ∷ records) packed =
     let behind = output_room lines records packed.1 in
     omega (arith, packed.0.1, length-append (record_of octets) (joined records))
 
+pub unbroken_lines : (lines : List (List ℕ)) → AllByRecursion IsLine lines → AllByRecursion IsUnbroken lines
+unbroken_lines [] each = tt
+unbroken_lines (line ∷ lines) each = (each.0.0, unbroken_lines lines each.1)
+
 pub short_lines : (lines : List (List ℕ)) → AllByRecursion IsLine lines → AllByRecursion IsShort lines
 short_lines [] each = tt
 short_lines (line ∷ lines) each = (each.0.1, short_lines lines each.1)
@@ -106,7 +110,7 @@ pub ends : (left left' taken taken' : Option (List ℕ)) (held : List ℕ) (coun
     → PacksThrough left left' taken taken' count
 ends left left' taken taken' held count sent run none is_end =
     let same : lines_of (ended run.lines ++ held) ≡ run.lines =
-    lines_of-ended run.lines held run.each ∙ ap (λ l. run.lines ++ lines_of l) none ∙ append-nil run.lines in
+    lines_of-ended run.lines held (unbroken_lines run.lines run.each) ∙ ap (λ l. run.lines ++ lines_of l) none ∙ append-nil run.lines in
     record {
       text = ended run.lines ++ held;
       records = run.records;
@@ -125,7 +129,7 @@ pub ends_with : (left left' taken written taken' : Option (List ℕ)) (held : Li
     → PacksThrough left left' taken taken' new.lines
 ends_with left left' taken written taken' held old new run line some few is_end adds none wrote =
     let same : lines_of (ended run.lines ++ held) ≡ run.lines ++ held ∷ [] =
-    lines_of-ended run.lines held run.each ∙ ap (λ (l : List (List ℕ)). run.lines ++ l) (lines_of-last held line.0 some) in
+    lines_of-ended run.lines held (unbroken_lines run.lines run.each) ∙ ap (λ (l : List (List ℕ)). run.lines ++ l) (lines_of-last held line.0 some) in
     let output : new.output.items ≡ record_of adds.octets = adds.output ∙ ap (λ l. l ++ record_of adds.octets) none in
     let records = run.records ++ adds.octets ∷ [] in
     record {

@@ -1,5 +1,5 @@
 -- Texts of lines, and the record that a line of hexadecimal digits stands for. The format is this project's own.
-use Rattle.std.specs.Prelude.{◌≡◌, ◌≢◌, ℕ, ◌-◌, ◌==◌, ◌<◌, ◌≤◌, ◌++◌, List, [], ◌∷◌, length, take, filter, flat_map, not, slice_index, Ok, IsErr, if◌then◌else◌}
+use Rattle.std.specs.Prelude.{◌≡◌, ◌≢◌, ◌⊎◌, ℕ, ◌-◌, ◌==◌, ◌<◌, ◌≤◌, ◌++◌, List, [], ◌∷◌, length, take, filter, flat_map, not, slice_index, Ok, IsErr, if◌then◌else◌}
 use Rattle.std.specs.List.{AllByRecursion}
 use Rattle.hex.specs.Hex.{decode_of}
 use Rattle.bac_record.specs.Records.{IsRecord, LONGEST}
@@ -45,6 +45,11 @@ ended lines = flat_map (λ line. line ++ LF ∷ []) lines
 -- No LF stands in it.
 abbrev pub IsUnbroken : List ℕ → Type 0
 IsUnbroken octets = AllByRecursion (λ octet. octet ≢ LF) octets
+
+-- The text is these lines, each with its LF; the last may lack it, and is then not empty.
+abbrev pub IsText : List (List ℕ) → List ℕ → Type 0
+IsText lines text = (text ≡ ended lines)
+    ⊎ ((front : List (List ℕ)) × (last : List ℕ) × (lines ≡ front ++ last ∷ []) × (last ≢ []) × (text ≡ ended front ++ last))
 
 -- no longer than a line may be
 abbrev pub IsShort : List ℕ → Type 0

@@ -9,6 +9,7 @@
 #![tactic(auto)]
 
 mod faults;
+pub mod laws;
 mod lines;
 mod packers;
 mod packing;

@@ -1,10 +1,10 @@
 //! The records of the lines that lie whole in what a run holds.
 
-ghost use Rattle.std.specs.Prelude.{◌+◌, ◌<◌, ◌^◌, ◌≡◌, ◌≢◌, ◌≤◌, IfErr, IfOk, MatchOption, MatchResult, OnErr, OnOk, [], drop, length, take, ℕ};
+ghost use Rattle.std.specs.Prelude.{◌+◌, ◌<◌, ◌^◌, ◌≡◌, ◌≤◌, IfErr, IfOk, MatchOption, MatchResult, OnErr, OnOk, [], drop, length, take, ℕ};
 ghost use Rattle.std.specs.Io.KnownBytes.{Appends};
 ghost use Rattle.bac_record.specs.Devices.{HasRisen};
 ghost use Rattle.bac_record.specs.Transfers.{TakesFront};
-ghost use Rattle.bac_pack.specs.Lines.{digits_of, IsUnbroken, MOST_LINES};
+ghost use Rattle.bac_pack.specs.Lines.{IsUnbroken, digits_of};
 ghost use Rattle.bac_pack.specs.Packing.{Adds, EndsAt, Halts, IsFound, IsSame, PacksFront, SpellsNone};
 ghost use Rattle.bac_pack.specs.Runs.{Waits};
 ghost use Rattle.bac_pack.specs.declared.windows.TheConstants.{PIECE};

@@ -260,3 +260,10 @@ fn faults_are_told(rt: HostRuntime) -> Result<(), Fail> {
     }
     Ok(())
 }
+
+// The laws are functions that do nothing: their contracts are what they say.
+#[test]
+fn laws_can_be_called() {
+    bac_pack::laws::texts_are_lines();
+    bac_pack::laws::lines_are_unique();
+}
