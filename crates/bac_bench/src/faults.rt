@@ -1,6 +1,7 @@
 //! Why a measurement ends early.
 
 use bac_segment::{CutFault, TakeFault};
+use bac_stream::FeedFault;
 use bac_tag::{OutOfMemory, Refusal};
 use std::alloc::AllocError;
 use std::io;
@@ -23,6 +24,8 @@ pub enum BenchFault {
     Cut(#[from] CutFault),
     #[error(transparent)]
     Taken(#[from] TakeFault),
+    #[error(transparent)]
+    Fed(#[from] FeedFault),
     #[error(transparent)]
     Io(#[from] io::Error),
 }

@@ -1,6 +1,6 @@
 //! The program `bac_bench`: how long reading, marking and writing values takes, beside a plain copy of the same
 //! octets in the same run, how many services are decoded, marked and encoded in a second, how many APDUs, and how long
-//! a message of many segments takes to be cut and joined.
+//! a message of many segments takes to be cut and joined, and a stream of records to be taken in.
 //!
 //! Without a word it does each piece of work once and prints what is the same in every run; with the word
 //! `time` it measures, and prints a table.
@@ -11,6 +11,7 @@ ghost use Rattle.std.specs.Prelude.{◌≡◌, IfOk, vec_len};
 mod apdus;
 mod cases;
 mod faults;
+mod intakes;
 mod modes;
 mod rounds;
 mod segments;
@@ -62,7 +63,8 @@ fn run(rt: &(impl Print + AllocGlobal + Env + Clock)) -> Result<(), BenchFault> 
     }
     run_services(rt, mode)?;
     run_apdus(rt, mode)?;
-    segments::run(rt, mode, &contents(rt.alloc(), MESSAGE)?)
+    segments::run(rt, mode, &contents(rt.alloc(), MESSAGE)?)?;
+    intakes::run(rt, mode)
 }
 
 /// ReadProperty and ReadProperty-ACK, WriteProperty with a group in its value, and three services that hold numbers

@@ -21,6 +21,67 @@ const FILE: &str =
 /// A record of the answer of example 4.
 const ACK: &str = "00 13 01 00 30 01 0C 0C 00 00 00 05 19 55 3E 44 42 90 99 9A 3F";
 
+/// The frames of examples/every-kind.frames, one a line.
+const EVERY_KIND: &str = "
+    01 04 00 05 01 0C 0C 00 00 00 05 19 55
+    01 07 00 73 FF 0C 0C 00 3F FF FF 1A 02 00 29 03
+    01 00 30 01 0C 0C 00 00 00 05 19 55 3E 44 42 90 99 9A 3F
+    01 04 00 05 03 0F 0C 00 40 00 01 19 55 3E 44 42 C8 00 00 3F 49 08
+    01 00 20 03 0F
+    01 04 02 75 06 0F 0C 00 C0 00 01 19 55 3E 00 10 11 21 05 31 FB 44 41 48 00 00 55 08 3F F0 00 00 00 00 00 00 62 CA FE 75 06 00 48 65 6C 6C 6F 72 05 E9 83 06 A5 40 91 03 A4 7E 0B 17 01 B4 0F 0C 1E 00 C4 02 00 00 04 19 55 2E 21 01 2F 4E 4F 3F
+    01 04 00 02 F1 0E 0C 00 00 00 21 1E 09 55 1F
+    01 00 30 F1 0E 0C 00 00 00 21 1E 29 55 4E 44 42 90 99 9A 4F 29 67 5E 91 02 91 20 5F 1F
+    01 00 30 02 0E 0C 00 00 00 21
+    01 04 00 05 02 10 0C 00 40 00 01 1E 09 55 2E 44 42 C8 00 00 2F 39 08 1F
+    01 00 50 02 10 0E 91 02 91 20 0F 1E 0C 00 40 00 01 19 55 1F
+    01 04 00 02 0F 05 09 12 1C 00 00 00 0A 29 01 39 00
+    01 04 00 05 03 01 09 12 1C 02 00 00 04 2C 00 00 00 0A 39 3C 4E 09 55 2E 44 42 82 00 00 2F 09 57 19 02 2E 91 01 2F 39 08 4F
+    01 00 10 02 09 12 1C 02 00 00 04 2C 00 00 00 0A 39 00 4E 09 55 2E 44 42 82 00 00 2F 09 6F 2E 82 04 00 2F 4F
+    01 20 FF FF 00 FF 10 08
+    01 00 10 08 09 00 1B 3F FF FF
+    01 08 00 07 02 01 02 10 00 C4 02 00 00 01 22 01 E0 91 03 21 63
+    01 28 00 05 01 0A 00 07 02 01 02 FF 10 08
+    01 06 00 05 04 11 09 01
+    01 00 10 09 AA BB
+    01 00 30 04 06 0A 0B
+    01 04 0C 75 05 00 02 0F AA BB
+    01 00 3C 01 00 04 0C 0C 00 00 00 05 19
+    01 00 43 01 02 04
+    01 00 50 03 01 91 05 91 2A
+    01 00 50 03 05 91 05 91 2A
+    01 00 50 01 0C 91 02 91 20
+    01 00 50 F1 0E 91 02 91 20
+    01 00 50 03 0F 91 02 91 28
+    01 00 50 03 06 91 02
+    01 00 60 01 09
+    01 00 71 03 04
+    01 80 00
+    01 A3 00 05 00 FF 00 00 05
+    01 80 01 00 02 00 03
+    01 80 02 00 05 07
+    01 80 03 01 00 05
+    01 80 04 00 05
+    01 80 05
+    01 80 06 01 00 02 01 02 AA BB
+    01 80 07
+    01 80 07 00
+    01 80 08 00 05 1E
+    01 80 09 00 05
+    01 80 12
+    01 80 13 00 05 01
+    01 80 14 AA
+    01 80 80 01 04 AA BB
+    01 54 01 85 01 0C 0C 00 00 00 05 1A 00 55
+    01 04 00 05 01 0C FD 00 04 00 00 00 05 19 55
+    01 04 00 05 01 0C 0C 00 00 00 05 1D 08 00 00 00 00 00 00 00 55
+    01 04 04 05 01 0C 0C 00 00 00 05 19 55
+    01 00 30 01 0C 0C 00 00 00 05 19 55 3E 32 FF FF 3F
+    01 00 30 01 0C 0C 00 00 00 05 19 55 3E 82 04 FF 3F
+    01 00 4F 01 02 04
+    01 00 5F 01 0C 92 00 02 91 20
+    01 D0 12
+";
+
 /// What the items are, and what `finish` answers.
 fn told(alloc: Global, items: &[Item], end: Result<u32, FeedFault>) -> Result<String, Fail> {
     let mut text = String::new(alloc);
@@ -245,5 +306,43 @@ fn refused_memory_changes_nothing(rt: HostRuntime) -> Result<(), Fail> {
     }
     let text = told(rt.alloc(), &items, intake.finish())?;
     assert_eq!(rt; text.as_str(), "ok, ok, Short at 0, ok, 4");
+    Ok(())
+}
+
+/// The canonical octets of the items' frames, one behind the other, where the stream comes in pieces of so many octets.
+fn canonical_in_pieces(alloc: Global, stream: &[u8], size: usize) -> Result<Vec<u8>, Fail> {
+    let mut intake = Intake::new(alloc, Mode::Tolerant)?;
+    let mut items = Vec::new(alloc);
+    for piece in stream.chunks(size.max(1)) {
+        intake.feed(piece, &mut items)?;
+    }
+    intake.finish()?;
+    let mut canonical = Vec::new(alloc);
+    for item in items.iter() {
+        match item {
+            Ok(frame) => canonical.extend_from_slice(&encode_frame(alloc, frame)?)?,
+            Err(refusal) => return Err((*refusal).into()),
+        }
+    }
+    Ok(canonical)
+}
+
+// A frame of every kind, and one for each tolerated way of spelling.
+#[test]
+fn frames_of_every_kind_come_in_pieces(rt: HostRuntime) -> Result<(), Fail> {
+    let mut stream = Vec::new(rt.alloc());
+    for line in EVERY_KIND.lines() {
+        if !line.is_empty() {
+            let frame = octets_of(line.trim())?;
+            stream.extend_from_slice(&[0, frame.len().min(255) as u8])?;
+            stream.extend_from_slice(&frame)?;
+        }
+    }
+    let whole = canonical_in_pieces(rt.alloc(), &stream, stream.len())?;
+    assert_eq!(rt; (stream.len(), whole.len()), (829, 702));
+    for size in [1, 2, 3, 7, 64, 1_000] {
+        let found = canonical_in_pieces(rt.alloc(), &stream, size)?;
+        assert!(rt; found.as_slice() == whole.as_slice(), "in pieces of {size}");
+    }
     Ok(())
 }

@@ -292,6 +292,11 @@ fn pack_makes_records_of_lines(rt: HostRuntime) -> Result<(), Fail> {
     runs(&rt, rt.alloc(), &words, b"0\nzz", (2, &[], said));
     let said = "bactool: line 2: not hexadecimal\n";
     runs(&rt, rt.alloc(), &words, b"AB\nzz", (2, &lines[..3], said));
+    let mut longest = Vec::from_slice(rt.alloc(), b"01001009")?;
+    longest.resize(131_070, b'A')?;
+    let mut record = Vec::from_slice(rt.alloc(), &[0xFF, 0xFF, 0x01, 0x00, 0x10, 0x09])?;
+    record.resize(65_537, 0xAA)?;
+    runs(&rt, rt.alloc(), &words, &longest, (0, &record, ""));
     let long = vec![in rt.alloc(); b'0'; 131_072]?;
     let said = "bactool: line 1: too long\n";
     runs(&rt, rt.alloc(), &words, &long, (2, &[], said));
