@@ -14,7 +14,6 @@ mod lines;
 mod packers;
 mod packing;
 mod runs;
-mod windows;
 
 pub use faults::PackFault;
 pub use runs::run_pack;

@@ -9,6 +9,9 @@ use std::alloc::AllocError;
 /// The most octets of a line, before its LF.
 pub(crate) const LONGEST: usize = 200_000;
 
+/// How many octets a run holds at most: the longest line and one octet, which is its LF or too many.
+pub(crate) const PIECE: usize = LONGEST + 1;
+
 /// Where the first LF stands.
 fn first_end(octets: &[u8]) -> Option<usize>
     ensures { result ≡ position (λ octet. octet == LF) octets.now }

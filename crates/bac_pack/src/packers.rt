@@ -7,7 +7,7 @@ ghost use Rattle.bac_record.specs.Transfers.{TakesFront};
 ghost use Rattle.bac_pack.specs.Lines.{IsUnbroken, digits_of};
 ghost use Rattle.bac_pack.specs.Packing.{Adds, EndsAt, Halts, IsFound, IsSame, PacksFront, SpellsNone};
 ghost use Rattle.bac_pack.specs.Runs.{Waits};
-ghost use Rattle.bac_pack.specs.declared.windows.TheConstants.{PIECE};
+ghost use Rattle.bac_pack.specs.declared.lines.TheConstants.{PIECE};
 
 use crate::PackFault;
 use crate::lines::{LONGEST, line_end};

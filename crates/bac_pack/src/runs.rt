@@ -6,9 +6,9 @@ ghost use Rattle.bac_pack.specs.Lines.{lines_of};
 ghost use Rattle.bac_pack.specs.Runs.{PacksThrough, RunCounts, Stopped};
 
 use crate::PackFault;
+use crate::lines::PIECE;
 use crate::packers::Packer;
-use crate::windows::Window;
-use bac_record::{Input, Output};
+use bac_record::{Input, Output, Window};
 use std::alloc::Global;
 
 /// Makes a record of each line, to the end of the text or to a fault.
@@ -26,7 +26,7 @@ fn run_pieces<R: Input, W: Output>(
         (λ _. (R.failures reader.new ≡ R.failures reader.old) × (W.failures writer.new ≡ W.failures writer.old))
         (RunCounts (R.failures reader.old) (R.failures reader.new) (W.failures writer.old) (W.failures writer.new)) }
 {
-    let Ok(mut window) = Window::new(alloc) else {
+    let Ok(mut window) = Window::<PIECE>::new(alloc) else {
         return Err(PackFault::OutOfMemory(1));
     };
     let mut packer = Packer::new(alloc);

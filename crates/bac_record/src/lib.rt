@@ -33,3 +33,4 @@ pub use records::{LONGEST, read_record, write_record};
 pub use runs::{MOST, run};
 pub use summaries::Summary;
 pub use transfers::write_whole;
+pub use windows::Window;

@@ -7,9 +7,13 @@ ghost use Rattle.bac_record.specs.Runs.{RanThrough, RunCounts, Stopped};
 
 use crate::batches::Batch;
 use crate::dealing::Job;
+use crate::records::LONGEST;
 use crate::windows::Window;
 use crate::{Input, Output, RunFault, StreamFault, Summary};
 use std::alloc::Global;
+
+/// How many octets a run holds at most: the longest record with its length octets.
+const PIECE: usize = LONGEST + 2;
 
 /// The most records of a file.
 pub const MOST: u32 = 1_000_000;
@@ -32,7 +36,7 @@ fn run_pieces<J: Job, R: Input, W: Output>(
         (λ _. (R.failures reader.new ≡ R.failures reader.old) × (W.failures writer.new ≡ W.failures writer.old))
         (RunCounts (R.failures reader.old) (R.failures reader.new) (W.failures writer.old) (W.failures writer.new)) }
 {
-    let Ok(mut window) = Window::new(alloc) else {
+    let Ok(mut window) = Window::<PIECE>::new(alloc) else {
         let fault = StreamFault::OutOfMemory;
         return Err(RunFault::Stream { at: 1, fault });
     };

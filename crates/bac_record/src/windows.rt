@@ -3,55 +3,58 @@
 ghost use Rattle.std.specs.Prelude.{◌++◌, ◌<◌, ◌≡◌, ◌≤◌, IfOk, List, MatchResult, OnErr, [], drop, length, take, vec_len, ℕ};
 ghost use Rattle.std.specs.Io.KnownBytes.{Consumes, IsAtEnd, Keeps};
 ghost use Rattle.bac_record.specs.Devices.{HasRisen};
-ghost use Rattle.bac_record.specs.declared.windows.TheConstants.{PIECE};
 
-use crate::records::LONGEST;
 use crate::{Device, Input};
 use std::alloc::{AllocError, Global};
 use std::marker::Model;
 
-/// How many octets a run holds at most: the longest record with its length octets.
-pub(crate) const PIECE: usize = LONGEST + 2;
-
-/// Octets that were read and are not dealt with, at the front of a buffer of `PIECE` octets. A proof sees
-/// the octets alone.
+/// Octets that were read and are not dealt with, at most `SIZE` of them. A proof sees the octets alone.
 #[derive(Drop)]
-pub(crate) struct Window {
+pub struct Window<const SIZE: usize> {
+    /// So many octets, of which those in front are held.
     buffer: Vec<u8>,
     held: usize,
 }
 
-impl Model for Window {
+impl<const SIZE: usize> Model for Window<SIZE> {
     ghost Value = { List ℕ };
 
     ghost view = { λ window. take window.held window.buffer.items };
 
-    ghost invariant = { λ window. (vec_len window.buffer ≡ PIECE) × (window.held ≤ PIECE) };
+    ghost invariant = { λ window. (vec_len window.buffer ≡ SIZE) × (window.held ≤ SIZE) };
 }
 
-impl Window {
-    /// A window that holds nothing.
-    pub(crate) fn new(alloc: Global) -> Result<Window, AllocError>
+impl<const SIZE: usize> Window<SIZE> {
+    /// Makes a window that holds nothing.
+    ///
+    /// # Errors
+    /// `AllocError`, where memory is refused.
+    pub fn new(alloc: Global) -> Result<Window<SIZE>, AllocError>
         ensures { IfOk result (λ window. window ≡ []) }
     {
-        let buffer = vec![in alloc; 0; PIECE]?;
+        let buffer = vec![in alloc; 0; SIZE]?;
         Ok(Window { buffer, held: 0 })
     }
 
-    /// The octets.
-    pub(crate) fn octets(&self) -> &[u8]
-        ensures { result.now ≡ self.now }
+    /// The octets that it holds.
+    pub fn octets(&self) -> &[u8]
+        ensures value { result.now ≡ self.now }
+        ensures bound { length result.now ≤ SIZE }
     {
         &self.buffer[..self.held]
     }
 
-    /// Reads once, and holds what was read behind the rest. None is read at the reader's end alone.
-    pub(crate) fn fill<R: Input>(&mut self, reader: &mut R) -> Result<usize, Device>
-        requires { length self.old < PIECE }
+    /// Reads once, and holds what was read behind the rest. There must be room. Returns how many octets were read: none
+    /// at the reader's end alone.
+    ///
+    /// # Errors
+    /// `Failed`, where the read failed. What is held is as before.
+    pub fn fill<R: Input>(&mut self, reader: &mut R) -> Result<usize, Device>
+        requires { length self.old < SIZE }
         ensures read { IfOk result (λ count. (fresh : List ℕ) × (length fresh ≡ count) × (self.new ≡ self.old ++ fresh)
             × Consumes (R.left reader.old) (R.left reader.new) fresh) }
         ensures end { IfOk result (λ count. count ≡ 0 → IsAtEnd (R.left reader.new)) }
-        ensures bound { length self.new ≤ PIECE }
+        ensures bound { length self.new ≤ SIZE }
         ensures err { OnErr result ((self.new ≡ self.old) × Keeps (R.left reader.old) (R.left reader.new)) }
         ensures counted { MatchResult result (λ _. R.failures reader.new ≡ R.failures reader.old) (λ _. HasRisen (R.failures reader.old) (R.failures reader.new)) }
     {
@@ -60,8 +63,8 @@ impl Window {
         Ok(count)
     }
 
-    /// Lets the first octets go.
-    pub(crate) fn advance(&mut self, count: usize)
+    /// Lets so many of the first octets go, of which there must be as many.
+    pub fn advance(&mut self, count: usize)
         requires { count ≤ length self.old }
         ensures { self.new ≡ drop count self.old }
     {

@@ -2,7 +2,7 @@
 use Rattle.std.proofs.Common.{◌≡◌, ◌+◌, ◌-◌, ◌*◌, length, []}
 use Rattle.bac_pack.specs.Lines.{MOST_LINES}
 use Rattle.bac_pack.specs.Runs.{Waits}
-use Rattle.bac_pack.specs.declared.windows.TheConstants.{PIECE}
+use Rattle.bac_pack.specs.declared.lines.TheConstants.{PIECE}
 use Rattle.bac_pack.proofs.RunSoFar.{RunSoFar}
 use Rattle.bac_pack.proofs.runs.run_pieces.Given as goal
 

@@ -19,7 +19,7 @@ returns-in-Ok-eq0-clause-stopped g c =
     let read = c.in-Ok-eq0.ensures.read in
     let none : read.0 ≡ [] = nil_from_length read.0 (omega (arith, read.1)) in
     let same : c.fill.new.self ≡ c.pieces.window = read.2 ∙ ap (λ l. c.pieces.window ++ l) none ∙ append-nil c.pieces.window in
-    let some : 0 < length c.pieces.window = subst (λ (l : List ℕ). 0 < length l) (c.octets.ensures ∙ same) (held_some c.octets.result.now _ c.is_empty.ensures c.if-is_empty.false) in
+    let some : 0 < length c.pieces.window = subst (λ (l : List ℕ). 0 < length l) (c.octets.ensures.value ∙ same) (held_some c.octets.result.now _ c.is_empty.ensures c.if-is_empty.false) in
     stops _ _ _ _ _ _ _ _ _ _ _ _ (reads _ _ _ _ _ _ _ _ _ _ _ _ _ c.pieces.invariant.done read.3 read.2) refl
     (subst (λ l. HasEnd c.pieces.summary.records l _) (sym same) (truncated _ _ c.pieces.invariant.waits some), c.in-Ok-eq0.ensures.end (omega arith)) (λ list output outputs. outputs)
 
@@ -32,7 +32,7 @@ pub returns-in_err-hand_over-clause-stopped : goal.returns-in_err-hand_over-clau
 returns-in_err-hand_over-clause-stopped g c =
     let job = c.args.job.now in
     let read = c.in-Ok-fill.ensures.read in
-    let deals = subst (λ l. Deals (g.J.Job.line job) (g.J.Job.is_canonical job) (g.J.Job.is_refused job) c.pieces.summary.records l c.deal-taken.result.0 c.deal-taken.new.self) c.octets-in-pieces.ensures c.deal-taken.ensures.dealt in
+    let deals = subst (λ l. Deals (g.J.Job.line job) (g.J.Job.is_canonical job) (g.J.Job.is_refused job) c.pieces.summary.records l c.deal-taken.result.0 c.deal-taken.new.self) c.octets-in-pieces.ensures.value c.deal-taken.ensures.dealt in
     let fault = c.in_err-hand_over.ensures.fault in
     let p = err_from_is_err_and c.from_residual.result c.from_residual.ensures.1 in
     rw (p.1, p.2, fault.3)
@@ -49,8 +49,8 @@ returns-in-Some-clause-stopped g c =
       canonical = old.canonical + batch.summary.canonical;
       refused = old.refused + batch.summary.refused;
     } in
-    let deals = subst (λ l. Deals (g.J.Job.line job) (g.J.Job.is_canonical job) (g.J.Job.is_refused job) old.records l c.deal-taken.result.0 batch) c.octets-in-pieces.ensures c.deal-taken.ensures.dealt in
-    let halted = subst (λ l. Halts (g.J.Job.stops job) (old.records + batch.summary.records) (drop c.deal-taken.result.0 l) c.deal-taken.result.1) c.octets-in-pieces.ensures c.deal-taken.ensures.halted in
+    let deals = subst (λ l. Deals (g.J.Job.line job) (g.J.Job.is_canonical job) (g.J.Job.is_refused job) old.records l c.deal-taken.result.0 batch) c.octets-in-pieces.ensures.value c.deal-taken.ensures.dealt in
+    let halted = subst (λ l. Halts (g.J.Job.stops job) (old.records + batch.summary.records) (drop c.deal-taken.result.0 l) c.deal-taken.result.1) c.octets-in-pieces.ensures.value c.deal-taken.ensures.halted in
     let found = rw c.in-Some.is at halted in
     stops_found _ _ _ _ _ _ _ _ _ new _ _
     (goes_on _ _ _ _ _ _ _ _ _ old new _ _ batch (reads _ _ _ _ _ _ _ _ _ _ _ _ _ c.pieces.invariant.done read.3 read.2) deals c.in_ok-hand_over.ensures.ok refl refl refl) found
@@ -73,8 +73,8 @@ pieces-preserved g c =
     let read = c.in-Ok-fill.ensures.read in
     let batch = c.deal-taken.new.self in
     let old = c.pieces.summary in
-    let deals = subst (λ l. Deals (g.J.Job.line job) (g.J.Job.is_canonical job) (g.J.Job.is_refused job) old.records l c.deal-taken.result.0 batch) c.octets-in-pieces.ensures c.deal-taken.ensures.dealt in
-    let halted = subst (λ l. Halts (g.J.Job.stops job) (old.records + batch.summary.records) (drop c.deal-taken.result.0 l) c.deal-taken.result.1) c.octets-in-pieces.ensures c.deal-taken.ensures.halted in
+    let deals = subst (λ l. Deals (g.J.Job.line job) (g.J.Job.is_canonical job) (g.J.Job.is_refused job) old.records l c.deal-taken.result.0 batch) c.octets-in-pieces.ensures.value c.deal-taken.ensures.dealt in
+    let halted = subst (λ l. Halts (g.J.Job.stops job) (old.records + batch.summary.records) (drop c.deal-taken.result.0 l) c.deal-taken.result.1) c.octets-in-pieces.ensures.value c.deal-taken.ensures.halted in
     let waiting = rw c.in_default-halt.is at halted in
     let sent : length batch.output.items ≡ c.len.result = sym batch.output.ok.0 ∙ sym c.len.ensures in
     let fits : length batch.output.items ≤ 2 ^ 64 = omega (arith, sent, c.pieces.auto) in

@@ -2,7 +2,7 @@
 use Rattle.std.proofs.Common.{◌≡◌, ◌≤◌, ◌<◌, ◌+◌, ◌-◌, ◌*◌, ◌^◌, length}
 use Rattle.bac_record.specs.Records.{LONGEST, MOST}
 use Rattle.bac_record.specs.Runs.{Waits}
-use Rattle.bac_record.specs.declared.windows.TheConstants.{PIECE}
+use Rattle.bac_record.specs.declared.runs.TheConstants.{PIECE}
 use Rattle.bac_record.proofs.RunSoFar.{RunSoFar}
 use Rattle.bac_record.proofs.runs.run_pieces.Given as goal
 

@@ -3,7 +3,7 @@ use Rattle.bac_record.proofs.WindowLists.{moved_to_front}
 use Rattle.bac_record.proofs.windows.Window.advance.Goals as goal
 
 pub returns : goal.returns
-returns c =
+returns g c =
     let all = c.self.inside.buffer.items in
     let held = c.self.inside.held in
     let within : held ≤ length all = omega (arith, c.self.invariant.0, c.self.invariant.1, c.self.inside.buffer.ok.0) in
