@@ -68,7 +68,10 @@ impl<const SIZE: usize> Window<SIZE> {
         requires { count ≤ length self.old }
         ensures { self.new ≡ drop count self.old }
     {
-        self.buffer.copy_within(count..self.held, 0);
-        self.held -= count;
+        // Where none goes nothing is moved, so that a long record in many small reads costs no more than its octets.
+        if count > 0 {
+            self.buffer.copy_within(count..self.held, 0);
+            self.held -= count;
+        }
     }
 }

@@ -55,10 +55,11 @@ impl Input for Unending {
     }
 }
 
-/// Takes so many octets, and then fails.
+/// Takes so many octets, at most so many a call, and then fails.
 #[derive(Drop)]
 pub(crate) struct Drain {
     pub(crate) taken: Vec<u8>,
+    pub(crate) size: usize,
     pub(crate) room: usize,
     pub(crate) failures: u64,
 }
@@ -69,12 +70,35 @@ impl Output for Drain {
     ghost failures = { λ drain. drain.failures };
 
     fn write(&mut self, octets: &[u8]) -> Result<usize, Device> {
-        let count = octets.len().min(self.room);
+        let count = octets.len().min(self.size).min(self.room);
         if count == 0 || self.taken.extend_from_slice(&octets[..count]).is_err() {
             self.failures = self.failures.saturating_add(1);
             return Err(Device::Failed);
         }
         self.room -= count;
+        Ok(count)
+    }
+}
+
+/// A standard reader that gives these octets, so many a call, and is interrupted so many times before each call.
+#[derive(Drop)]
+pub(crate) struct Interrupted<'a> {
+    pub(crate) octets: &'a [u8],
+    pub(crate) size: usize,
+    pub(crate) times: u32,
+    pub(crate) left: u32,
+}
+
+impl<'a> Read for Interrupted<'a> {
+    fn read(&mut self, buffer: &mut [u8]) -> io::Result<usize> {
+        if self.left > 0 {
+            self.left -= 1;
+            return Err(io::Error::from(ErrorKind::Interrupted));
+        }
+        self.left = self.times;
+        let count = self.octets.len().min(self.size).min(buffer.len());
+        buffer[..count].copy_from_slice(&self.octets[..count]);
+        self.octets = &self.octets[count..];
         Ok(count)
     }
 }

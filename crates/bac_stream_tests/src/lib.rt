@@ -1,6 +1,6 @@
-//! Tests of bac_record and bac_stream: devices that fail, files and streams cut anywhere, records of each size, segments
-//! that are joined, and the lines of the worked examples. They stand in a crate of their own, over public calls alone,
-//! since a crate with tests is proved twice.
+//! Tests of bac_record, bac_stream and bac_pack: devices that fail, files, streams and texts cut anywhere, records and
+//! lines of each size, segments that are joined, and the lines of the worked examples. They stand in a crate of their
+//! own, over public calls alone, since a crate with tests is proved twice.
 #![tactic(auto)]
 
 #[cfg(test)]
@@ -11,5 +11,7 @@ mod frame_tests;
 mod intake_tests;
 #[cfg(test)]
 mod join_tests;
+#[cfg(test)]
+mod pack_tests;
 #[cfg(test)]
 mod run_tests;

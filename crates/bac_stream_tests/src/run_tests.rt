@@ -106,6 +106,7 @@ fn a_failed_write_counts_what_was_taken(rt: HostRuntime) -> Result<(), Fail> {
         for (room, at) in [(0, 1), (4, 1), (5, 2), (7, 2), (10, 3), (14, 3)] {
             let mut writer = Drain {
                 taken: Vec::new(rt.alloc()),
+                size: usize::MAX,
                 room,
                 failures: 0,
             };
