@@ -10,8 +10,8 @@ use crate::addresses::Mac;
 pub struct Dest {
     /// The network; 65,535 stands for all of them.
     pub network: u16,
-    /// The address on that network.
-    pub address: Mac,
     /// How many routers the frame may still pass.
     pub hops: u8,
+    /// The address on that network.
+    pub address: Mac,
 }
