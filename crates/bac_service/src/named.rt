@@ -43,6 +43,7 @@ pub(crate) trait Named: Drop {
 }
 
 /// Decodes such a service.
+#[inline(always)]
 pub(crate) fn decode_named<S: Named>(alloc: Global, octets: &[u8]) -> Result<Marked, Refusal>
     requires { IsTrue S.Part.is_sound }
     ensures { IsDecoded S.kind S.choice octets.now result }
@@ -70,6 +71,7 @@ pub(crate) trait NamedList: Drop {
 }
 
 /// Decodes such a service.
+#[inline(always)]
 pub(crate) fn decode_list<S: NamedList>(alloc: Global, octets: &[u8]) -> Result<Marked, Refusal>
     requires { IsTrue (S.Item.Parts.is_sound && (not S.Item.Parts.may_be_empty && disjoint S.Item.Parts.openers S.Item.Parts.continuers)) }
     ensures { IsDecoded S.kind S.choice octets.now result }
@@ -79,6 +81,7 @@ pub(crate) fn decode_list<S: NamedList>(alloc: Global, octets: &[u8]) -> Result<
 }
 
 /// Decodes a notification, which two kinds carry: confirmed or not.
+#[inline(always)]
 pub(crate) fn decode_notification(
     alloc: Global,
     confirmed: bool,
@@ -95,6 +98,7 @@ pub(crate) fn decode_notification(
 }
 
 /// Decodes the error of a service whose errors are a class and a code: five choices have one production.
+#[inline(always)]
 pub(crate) fn decode_error(alloc: Global, choice: u8, octets: &[u8]) -> Result<Marked, Refusal>
     requires { production_of true Error choice ≡ Some service_error }
     ensures { IsDecoded Error choice octets.now result }

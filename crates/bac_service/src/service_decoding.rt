@@ -38,6 +38,7 @@ fn decode_opaque(alloc: Global, kind: Kind, choice: u8, octets: &[u8]) -> Result
 }
 
 /// Decodes a confirmed request.
+#[inline(always)]
 fn decode_confirmed(alloc: Global, choice: u8, octets: &[u8]) -> Result<Marked, Refusal>
     ensures { IsDecoded Confirmed choice octets.now result }
 {
@@ -53,6 +54,7 @@ fn decode_confirmed(alloc: Global, choice: u8, octets: &[u8]) -> Result<Marked, 
 }
 
 /// Decodes an unconfirmed request.
+#[inline(always)]
 fn decode_unconfirmed(alloc: Global, choice: u8, octets: &[u8]) -> Result<Marked, Refusal>
     ensures { IsDecoded Unconfirmed choice octets.now result }
 {
@@ -65,6 +67,7 @@ fn decode_unconfirmed(alloc: Global, choice: u8, octets: &[u8]) -> Result<Marked
 }
 
 /// Decodes an answer with contents.
+#[inline(always)]
 fn decode_complex_ack(alloc: Global, choice: u8, octets: &[u8]) -> Result<Marked, Refusal>
     ensures { IsDecoded ComplexAck choice octets.now result }
 {
@@ -76,6 +79,7 @@ fn decode_complex_ack(alloc: Global, choice: u8, octets: &[u8]) -> Result<Marked
 }
 
 /// Decodes the answer to a request that failed.
+#[inline(always)]
 fn decode_failure(alloc: Global, choice: u8, octets: &[u8]) -> Result<Marked, Refusal>
     ensures { IsDecoded Error choice octets.now result }
 {

@@ -13,6 +13,7 @@ use std::alloc::Global;
 /// # Errors
 /// At the first octet with which no spelling begins; `Trailing` where those in front of it are one; `Short` where
 /// all of them begin one. `OutOfMemory` at 0 where memory is refused.
+#[inline(always)]
 pub(crate) fn decode<P: Production>(
     alloc: Global,
     octets: &[u8],
