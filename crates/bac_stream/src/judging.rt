@@ -1,6 +1,7 @@
 //! Which records are accepted, and as which frame.
 
 ghost use Rattle.std.specs.Prelude.{◌≡◌, ◌↔◌, IfErr, IfOk, None};
+ghost use Rattle.bac_tag.specs.declared.refusals.Why.TheVariants.{NotCanonical};
 ghost use Rattle.bac_tag.specs.Spelling.{HasMark};
 ghost use Rattle.bac_npdu.specs.Frames.{SpellsFrame, value_of};
 ghost use Rattle.bac_record.specs.Deals.{DealFails};
@@ -27,6 +28,15 @@ impl Drop for Judged {
     }
 }
 
+/// Why a frame of which the octets are not canonical is not accepted. A function of its own, so that the code that frees
+/// the frame stands outside the path that every record takes.
+#[inline(never)]
+fn not_canonical(_judged: Judged, place: usize) -> DealFault
+    ensures { result ≡ DealFault.Stop (record { place = place; why = NotCanonical }) }
+{
+    DealFault::Stop(Why::NotCanonical.at(place))
+}
+
 /// The frame as which the octets are accepted, and the first place where they differ from its canonical octets.
 ///
 /// # Errors
@@ -49,7 +59,7 @@ pub(crate) fn judge(alloc: Global, mode: Mode, octets: &[u8]) -> Result<Judged, 
     let judged = Judged { frame, mark };
     if mode == Mode::Strict {
         if let Some(place) = mark {
-            return Err(DealFault::Stop(Why::NotCanonical.at(place)));
+            return Err(not_canonical(judged, place));
         }
     }
     Ok(judged)

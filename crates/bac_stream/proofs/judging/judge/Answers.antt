@@ -13,12 +13,12 @@ returns-in-Err-2-clause-refused c =
 pub returns-in-Some-clause-fault : goal.returns-in-Some-clause-fault
 returns-in-Some-clause-fault c =
     let strict : c.args.mode ≡ Strict = search (rules, c.if-eq-2.ensures) in
-    rw c.at.ensures (marked_refused c.args.mode (value_of c.in-Ok.found.0) c.args.octets.now c.in-Ok.found.1 c.in-Some.place strict c.in-Some.is c.in-Ok.ensures.found c.in-Ok.ensures.mark)
+    rw c.not_canonical.ensures (marked_refused c.args.mode (value_of c.in-Ok.found.0) c.args.octets.now c.in-Ok.found.1 c.in-Some.place strict c.in-Some.is c.in-Ok.ensures.found c.in-Ok.ensures.mark)
 
 pub returns-in-Some-clause-refused : goal.returns-in-Some-clause-refused
 returns-in-Some-clause-refused c =
     let strict : c.args.mode ≡ Strict = search (rules, c.if-eq-2.ensures) in
-    marked_none c.frames_have_one_value.ensures c.args.mode (value_of c.in-Ok.found.0) c.args.octets.now c.in-Ok.found.1 c.in-Some.place strict c.in-Some.is c.in-Ok.ensures.found c.in-Ok.ensures.mark
+    rw c.not_canonical.ensures (marked_none c.frames_have_one_value.ensures c.args.mode (value_of c.in-Ok.found.0) c.args.octets.now c.in-Ok.found.1 c.in-Some.place strict c.in-Some.is c.in-Ok.ensures.found c.in-Ok.ensures.mark)
 
 pub returns-clause-canonical : goal.returns-clause-canonical
 returns-clause-canonical c = told_by_mark c.frames_have_one_value.ensures (value_of c.in-Ok.found.0) c.args.octets.now c.in-Ok.found.1 c.in-Ok.ensures.found c.in-Ok.ensures.mark
