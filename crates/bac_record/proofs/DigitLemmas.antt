@@ -59,6 +59,39 @@ four_digits n a b c d thousand few p q r s =
     (three_digits (n / 10) a b c (omega arith) (omega arith) (p ∙ ap (λ (k : ℕ). 48 + k) (sym thousands)) (q ∙ ap (λ (k : ℕ). 48 + k % 10) (sym hundreds)) r)
     ∙ sym (decimal_step n (omega arith) (omega arith))
 
+pub five_digits : (n a b c d e : ℕ) → 10000 ≤ n → n < 100000 → a ≡ 48 + n / 10000 → b ≡ 48 + n / 1000 % 10 → c ≡ 48 + n / 100 % 10 → d ≡ 48 + n / 10 % 10 → e ≡ 48 + n % 10 → a ∷ b ∷ c ∷ d ∷ e ∷ [] ≡ decimal n
+five_digits n a b c d e least few p q r s t =
+    let by4 : n / 10 / 1000 ≡ n / 10000 = omega arith in
+    let by3 : n / 10 / 100 ≡ n / 1000 = omega arith in
+    let by2 : n / 10 / 10 ≡ n / 100 = omega arith in
+    ap (λ (k : ℕ). a ∷ b ∷ c ∷ d ∷ k ∷ []) t
+    ∙ ap (λ (l : List ℕ). l ++ (48 + n % 10) ∷ [])
+    (four_digits (n / 10) a b c d (omega arith) (omega arith) (p ∙ ap (λ (k : ℕ). 48 + k) (sym by4)) (q ∙ ap (λ (k : ℕ). 48 + k % 10) (sym by3)) (r ∙ ap (λ (k : ℕ). 48 + k % 10) (sym by2)) s)
+    ∙ sym (decimal_step n (omega arith) (omega arith))
+
+pub six_digits : (n a b c d e f : ℕ) → 100000 ≤ n → n < 1000000 → a ≡ 48 + n / 100000 → b ≡ 48 + n / 10000 % 10 → c ≡ 48 + n / 1000 % 10 → d ≡ 48 + n / 100 % 10 → e ≡ 48 + n / 10 % 10 → f ≡ 48 + n % 10 → a ∷ b ∷ c ∷ d ∷ e ∷ f ∷ [] ≡ decimal n
+six_digits n a b c d e f least few p q r s t u =
+    let by5 : n / 10 / 10000 ≡ n / 100000 = omega arith in
+    let by4 : n / 10 / 1000 ≡ n / 10000 = omega arith in
+    let by3 : n / 10 / 100 ≡ n / 1000 = omega arith in
+    let by2 : n / 10 / 10 ≡ n / 100 = omega arith in
+    ap (λ (k : ℕ). a ∷ b ∷ c ∷ d ∷ e ∷ k ∷ []) u
+    ∙ ap (λ (l : List ℕ). l ++ (48 + n % 10) ∷ [])
+    (five_digits (n / 10) a b c d e (omega arith) (omega arith) (p ∙ ap (λ (k : ℕ). 48 + k) (sym by5)) (q ∙ ap (λ (k : ℕ). 48 + k % 10) (sym by4)) (r ∙ ap (λ (k : ℕ). 48 + k % 10) (sym by3)) (s ∙ ap (λ (k : ℕ). 48 + k % 10) (sym by2)) t)
+    ∙ sym (decimal_step n (omega arith) (omega arith))
+
+pub seven_digits : (n a b c d e f g : ℕ) → 1000000 ≤ n → n < 10000000 → a ≡ 48 + n / 1000000 → b ≡ 48 + n / 100000 % 10 → c ≡ 48 + n / 10000 % 10 → d ≡ 48 + n / 1000 % 10 → e ≡ 48 + n / 100 % 10 → f ≡ 48 + n / 10 % 10 → g ≡ 48 + n % 10 → a ∷ b ∷ c ∷ d ∷ e ∷ f ∷ g ∷ [] ≡ decimal n
+seven_digits n a b c d e f g least few p q r s t u v =
+    let by6 : n / 10 / 100000 ≡ n / 1000000 = omega arith in
+    let by5 : n / 10 / 10000 ≡ n / 100000 = omega arith in
+    let by4 : n / 10 / 1000 ≡ n / 10000 = omega arith in
+    let by3 : n / 10 / 100 ≡ n / 1000 = omega arith in
+    let by2 : n / 10 / 10 ≡ n / 100 = omega arith in
+    ap (λ (k : ℕ). a ∷ b ∷ c ∷ d ∷ e ∷ f ∷ k ∷ []) v
+    ∙ ap (λ (l : List ℕ). l ++ (48 + n % 10) ∷ [])
+    (six_digits (n / 10) a b c d e f (omega arith) (omega arith) (p ∙ ap (λ (k : ℕ). 48 + k) (sym by6)) (q ∙ ap (λ (k : ℕ). 48 + k % 10) (sym by5)) (r ∙ ap (λ (k : ℕ). 48 + k % 10) (sym by4)) (s ∙ ap (λ (k : ℕ). 48 + k % 10) (sym by3)) (t ∙ ap (λ (k : ℕ). 48 + k % 10) (sym by2)) u)
+    ∙ sym (decimal_step n (omega arith) (omega arith))
+
 -- ---- hexadecimal digits
 
 hexadecimal-append : (octets others : List ℕ) → hexadecimal (octets ++ others) ≡ hexadecimal octets ++ hexadecimal others

@@ -37,6 +37,50 @@ fn push_long_number(out: &mut Vec<u8>, number: u64) -> Result<(), OutOfMemory>
     Ok(())
 }
 
+/// Appends the digits of a number from 10,000 on. Five, six or seven digits are appended at once.
+fn push_large_number(out: &mut Vec<u8>, number: u64) -> Result<(), OutOfMemory>
+    requires { 10000 ≤ number }
+    ensures ok { OnOk result (out.new.items ≡ out.old.items ++ decimal number) }
+    ensures err { OnErr result (out.new.items ≡ out.old.items) }
+{
+    if number < 100_000 {
+        let digits = [
+            digit(number / 10_000),
+            digit(number / 1_000 % 10),
+            digit(number / 100 % 10),
+            digit(number / 10 % 10),
+            digit(number % 10),
+        ];
+        out.extend_from_slice(&digits)?;
+        Ok(())
+    } else if number < 1_000_000 {
+        let digits = [
+            digit(number / 100_000),
+            digit(number / 10_000 % 10),
+            digit(number / 1_000 % 10),
+            digit(number / 100 % 10),
+            digit(number / 10 % 10),
+            digit(number % 10),
+        ];
+        out.extend_from_slice(&digits)?;
+        Ok(())
+    } else if number < 10_000_000 {
+        let digits = [
+            digit(number / 1_000_000),
+            digit(number / 100_000 % 10),
+            digit(number / 10_000 % 10),
+            digit(number / 1_000 % 10),
+            digit(number / 100 % 10),
+            digit(number / 10 % 10),
+            digit(number % 10),
+        ];
+        out.extend_from_slice(&digits)?;
+        Ok(())
+    } else {
+        push_long_number(out, number)
+    }
+}
+
 /// Appends the digits of a number from 100 on. Three or four digits are appended at once.
 #[inline(never)]
 fn push_further_number(out: &mut Vec<u8>, number: u64) -> Result<(), OutOfMemory>
@@ -62,7 +106,7 @@ fn push_further_number(out: &mut Vec<u8>, number: u64) -> Result<(), OutOfMemory
         out.extend_from_slice(&digits)?;
         Ok(())
     } else {
-        push_long_number(out, number)
+        push_large_number(out, number)
     }
 }
 
