@@ -17,10 +17,18 @@ use std::marker::Model;
 /// An open value: a list of elements, which may be empty. Each is an application primitive, a context primitive
 /// (its number and its contents) or a group (its number and its elements). Numbers are 0 to 254, contents have at
 /// most 1,048,576 octets, and at most 32 groups nest.
-#[derive(Debug, Drop)]
+#[derive(Debug)]
 pub struct Any {
     octets: Vec<u8>,
     nodes: Vec<Node>,
+}
+
+impl Drop for Any {
+    // Written here, so that how an open value is freed is proved once and not wherever one is dropped.
+    #[inline(always)]
+    fn drop(self) {
+        let Any { octets: _, nodes: _ } = self;
+    }
 }
 
 impl Model for Any {

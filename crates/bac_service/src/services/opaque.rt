@@ -38,11 +38,23 @@ impl Display for OpaqueFault {
 impl Error for OpaqueFault {}
 
 /// A service of a kind and a choice without a production. It is its octets, whatever they are and however many.
-#[derive(Debug, Drop)]
+#[derive(Debug)]
 pub struct Opaque {
     kind: Kind,
     choice: u8,
     octets: Vec<u8>,
+}
+
+impl Drop for Opaque {
+    // Written here, so that how a service is freed is proved once and not wherever one is dropped.
+    #[inline(always)]
+    fn drop(self) {
+        let Opaque {
+            kind: _,
+            choice: _,
+            octets: _,
+        } = self;
+    }
 }
 
 impl Model for Opaque {

@@ -20,10 +20,18 @@ use std::marker::Model;
 /// A list of up to 8,388,600 bits. Its contents are one octet with the number of unused bits, 0 to 7, then
 /// the bits, eight to an octet, from its highest bit downwards. The unused bits stand last and may be any:
 /// zeros are written. No bits at all are the one octet 0.
-#[derive(Debug, Drop)]
+#[derive(Debug)]
 pub struct Bits {
     /// What is written, in one piece: the count of unused bits, then the bits, the unused ones zero.
     contents: Vec<u8>,
+}
+
+impl Drop for Bits {
+    // Written here, so that how a bit string is freed is proved once and not wherever one is dropped.
+    #[inline(always)]
+    fn drop(self) {
+        let Bits { contents: _ } = self;
+    }
 }
 
 impl Model for Bits {

@@ -21,10 +21,18 @@ use std::marker::Model;
 /// A text: the number of its character set and its octets, up to 1,048,575 of them. Its contents are one
 /// octet with the set, then the octets in their order. Any set is kept, and any octets: 0 is UTF-8, 3 is
 /// UCS-4, 4 is UCS-2, 5 is ISO 8859-1.
-#[derive(Debug, Drop)]
+#[derive(Debug)]
 pub struct Text {
     /// The octet with the set, then the octets of the text: what is written, in one piece.
     contents: Vec<u8>,
+}
+
+impl Drop for Text {
+    // Written here, so that how a text is freed is proved once and not wherever one is dropped.
+    #[inline(always)]
+    fn drop(self) {
+        let Text { contents: _ } = self;
+    }
 }
 
 impl Model for Text {

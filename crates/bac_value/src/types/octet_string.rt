@@ -18,9 +18,17 @@ use std::alloc::Global;
 use std::marker::Model;
 
 /// Octets, up to 1,048,576 of them. Their contents are the octets themselves, in their order.
-#[derive(Debug, Drop)]
+#[derive(Debug)]
 pub struct Octets {
     octets: Vec<u8>,
+}
+
+impl Drop for Octets {
+    // Written here, so that how an octet string is freed is proved once and not wherever one is dropped.
+    #[inline(always)]
+    fn drop(self) {
+        let Octets { octets: _ } = self;
+    }
 }
 
 impl Model for Octets {
