@@ -30,7 +30,10 @@ impl Drop for ComplexAck {
     // Written here, so that how a service is freed is proved once and not wherever one is dropped.
     #[inline(always)]
     fn drop(self) {
-        let ComplexAck { invoke: _, service: _ } = self;
+        let ComplexAck {
+            invoke: _,
+            service: _,
+        } = self;
     }
 }
 

@@ -46,7 +46,10 @@ impl Drop for ConfirmedRequest {
     // Written here, so that how a service is freed is proved once and not wherever one is dropped.
     #[inline(always)]
     fn drop(self) {
-        let ConfirmedRequest { head: _, service: _ } = self;
+        let ConfirmedRequest {
+            head: _,
+            service: _,
+        } = self;
     }
 }
 

@@ -27,7 +27,10 @@ impl Drop for Any {
     // Written here, so that how an open value is freed is proved once and not wherever one is dropped.
     #[inline(always)]
     fn drop(self) {
-        let Any { octets: _, nodes: _ } = self;
+        let Any {
+            octets: _,
+            nodes: _,
+        } = self;
     }
 }
 

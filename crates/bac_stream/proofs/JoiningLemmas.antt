@@ -149,5 +149,5 @@ module _ (services : (kind : Kind) (choice : ℕ) (v w : ServiceValue) (b : List
       let spells : SpellsMessage s service octets = rw (of.0, of.1) spells in
       let more = part_more segments (key_of peer s) [] before peer s a among one in
       joined_by s service octets a (whole (held_of desk (key_of peer s))) result spells
-          (desk_answered before [] desk peer s a runs).other_key (desk_good plan octets segments before [] desk peer s a fine cut among one runs)
-          (desk_joined plan octets segments (key_of peer s) (before ++ history.taken peer s a ∷ []) desk fine cut more runs).1 h
+      (desk_answered before [] desk peer s a runs).other_key (desk_good plan octets segments before [] desk peer s a fine cut among one runs)
+      (desk_joined plan octets segments (key_of peer s) (before ++ history.taken peer s a ∷ []) desk fine cut more runs).1 h

@@ -50,12 +50,7 @@ fn message_of(alloc: Global, segment: &Segment, octets: &[u8]) -> Result<Joined,
 ///
 /// # Errors
 /// `Take` as [`Desk::take`]. `Content` as [`decode_service`] refuses the octets of a message that is whole.
-pub fn join(
-    alloc: Global,
-    desk: &mut Desk,
-    peer: u32,
-    frame: &Frame,
-) -> Result<Joined, JoinFault>
+pub fn join(alloc: Global, desk: &mut Desk, peer: u32, frame: &Frame) -> Result<Joined, JoinFault>
     ensures step { Joins desk.old peer (delivered (value_of frame.now)) result desk.new }
     ensures unchanged { IfErr result (λ fault. is_taken fault ≡ false → desk.new ≡ desk.old) }
 {

@@ -76,7 +76,14 @@ fn message(alloc: Global) -> Result<String, Fail> {
 #[test]
 fn segments_are_joined_in_any_order(rt: HostRuntime) -> Result<(), Fail> {
     let whole = message(rt.alloc())?;
-    for [first, second, third] in [[0, 1, 2], [0, 2, 1], [1, 0, 2], [1, 2, 0], [2, 0, 1], [2, 1, 0]] {
+    for [first, second, third] in [
+        [0, 1, 2],
+        [0, 2, 1],
+        [1, 0, 2],
+        [1, 2, 0],
+        [2, 0, 1],
+        [2, 1, 0],
+    ] {
         let mut desk = Desk::new(rt.alloc())?;
         let frames = [
             ("01 04 00 05 01 0C 0C 00 00 00 05 19 55", "no segment"),
@@ -121,7 +128,10 @@ fn other_messages_are_apart(rt: HostRuntime) -> Result<(), Fail> {
     tells(&rt, rt.alloc(), &mut desk, 9, &frames)?;
     let whole = message(rt.alloc())?;
     let frames = [
-        ("01 00 3C 01 00 04 0C 0C 00 00 00 06 19", "the segment contradicts what is held"),
+        (
+            "01 00 3C 01 00 04 0C 0C 00 00 00 06 19",
+            "the segment contradicts what is held",
+        ),
         (SEGMENTS[2], "kept"),
         (SEGMENTS[1], whole.as_str()),
     ];
@@ -143,7 +153,12 @@ fn requests_are_joined_as_requests(rt: HostRuntime) -> Result<(), Fail> {
 
 /// Joins the frame, where memory is refused for it a second time: the desk has not changed then. Tells whether the
 /// message is whole.
-fn is_whole_with(rt: &impl Abort, alloc: Global, desk: &mut Desk, frame: &Frame) -> Result<bool, Fail> {
+fn is_whole_with(
+    rt: &impl Abort,
+    alloc: Global,
+    desk: &mut Desk,
+    frame: &Frame,
+) -> Result<bool, Fail> {
     let mut answer = join(alloc, desk, KEY.peer, frame);
     if let Err(JoinFault::Take(fault)) = &answer {
         assert_eq!(rt; *fault, TakeFault::OutOfMemory);
@@ -172,5 +187,11 @@ fn refused_memory_loses_no_message(rt: HostRuntime) -> Result<(), Fail> {
     }
     let octets = octets_of(SERVICE)?;
     assert_eq!(rt; desk.octets(KEY), Some(octets.as_slice()));
-    tells(&rt, rt.alloc(), &mut desk, KEY.peer, &[(SEGMENTS[1], "repeat")])
+    tells(
+        &rt,
+        rt.alloc(),
+        &mut desk,
+        KEY.peer,
+        &[(SEGMENTS[1], "repeat")],
+    )
 }

@@ -119,7 +119,6 @@ job_is n flag (Check mode) (Show m) h e f = absurd (omega (arith, letters n (cod
 job_is n flag (Check mode) (Normalise m) h e f = absurd (omega (arith, letters n (codes "check") (codes "normalise") h.0 e))
 job_is n flag (Normalise mode) (Show m) h e f = absurd (omega (arith, letters n (codes "normalise") (codes "show") h.0 e))
 job_is n flag (Normalise mode) (Check m) h e f = absurd (omega (arith, letters n (codes "normalise") (codes "check") h.0 e))
-
 job_is n flag Pack Pack h e f = refl
 job_is n flag Pack (Show m) h e f = absurd (omega (arith, letters n (codes "pack") (codes "show") h e))
 job_is n flag Pack (Check m) h e f = absurd (omega (arith, letters n (codes "pack") (codes "check") h e))

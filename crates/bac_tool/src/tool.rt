@@ -91,12 +91,14 @@ fn answer_words<W: Output, E: Output>(
 /// Writes the line of a job's fault: with the number of the record or line where that is at fault.
 fn tell_fault<E: Output>(fault: &JobFault, errors: &mut E) {
     match fault {
-        JobFault::Run(RunFault::Stream {
-            fault: fault @ (StreamFault::WriteFault(_)
-            | StreamFault::TooManyFrames
-            | StreamFault::OutOfMemory),
-            ..
-        }) => tell(fault, errors),
+        JobFault::Run(
+            RunFault::Stream {
+                fault: fault @ (StreamFault::WriteFault(_)
+                | StreamFault::TooManyFrames
+                | StreamFault::OutOfMemory),
+                ..
+            },
+        ) => tell(fault, errors),
         JobFault::Run(fault) => tell(fault, errors),
         JobFault::Pack(fault) => tell(fault, errors),
     }

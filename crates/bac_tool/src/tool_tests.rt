@@ -318,7 +318,10 @@ fn pack_tells_its_faults(rt: HostRuntime) -> Result<(), Fail> {
     let mut feed = Counted::new(Failing { octets: b"AB\nC" });
     let mut taken = Counted::new(Vec::new(rt.alloc()));
     let (status, said) = told(rt.alloc(), &words, &mut feed, &mut taken);
-    assert_eq!(rt; (status, said.as_slice()), (2, b"bactool: line 2: read fault\n".as_slice()));
+    assert_eq!(rt;
+        (status, said.as_slice()),
+        (2, b"bactool: line 2: read fault\n".as_slice())
+    );
     assert_eq!(rt; taken.device.as_slice(), [0, 1, 0xAB].as_slice());
 
     let mut feed = Counted::new(io::repeat(b'\n'));
@@ -398,7 +401,9 @@ fn help_is_written(rt: HostRuntime) -> Result<(), Fail> {
             "{words:?}"
         );
         assert!(rt;
-            text.starts_with(b"Shows") || text.starts_with(b"Write") || text.starts_with(b"bactool 0.1"),
+            text.starts_with(b"Shows")
+                || text.starts_with(b"Write")
+                || text.starts_with(b"bactool 0.1"),
             "{words:?}"
         );
 
