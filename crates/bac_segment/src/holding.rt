@@ -14,14 +14,17 @@ use std::alloc::Global;
 /// How many octets are joined at most.
 pub(crate) const MOST_OCTETS: usize = 65_535;
 
+/// For how many octets there is room at first.
+const SHORT: usize = 4_096;
+
 /// How many numbers there are.
 const NUMBERS: usize = 256;
 
 /// A piece that is held.
 #[derive(Clone, Copy, Debug, PartialEq, Eq)]
 pub(crate) struct Span {
-    /// How many octets it has.
-    len: usize,
+    /// How many octets it has, 65,535 at most.
+    len: u16,
     /// Whether others follow.
     more: bool,
 }
@@ -42,29 +45,33 @@ pub(crate) struct Held {
 }
 
 /// How many octets are held.
+#[inline(never)]
 fn octets_in(spans: &[Option<Span>]) -> usize
     requires { sum_by span_len spans.now ≤ 65535 }
     ensures { result ≡ sum_by span_len spans.now }
 {
-    spans.iter().map(|span| span.map_or(0, |s| s.len)).sum()
+    spans
+        .iter()
+        .map(|span| span.map_or(0, |s| usize::from(s.len)))
+        .sum()
 }
 
 /// Whether a segment says what is held under its number.
+#[inline(never)]
 fn is_repeat(piece: &[u8], more: bool, segment: &Segment) -> bool
     ensures { result ≡ same_entry (record { piece = piece.now; more = more }) (delivery segment.now) }
 {
     piece == segment.piece.as_slice() && more == segment.more
 }
 
-/// Makes room for a piece, and for three times the octets that are held, so that few of them are moved when it grows.
-fn make_room(octets: &mut Vec<u8>, piece: usize) -> Result<(), OutOfMemory>
+/// Makes room for so many octets: for a short message at first, and then for the longest that there is, so that what is
+/// held moves once.
+#[inline(never)]
+fn grow(octets: &mut Vec<u8>, wanted: usize) -> Result<(), OutOfMemory>
     ensures { octets.new.items ≡ octets.old.items }
 {
-    let held = octets.as_slice().len();
-    if octets.capacity() < held.saturating_add(piece) {
-        let most = MOST_OCTETS.saturating_sub(held);
-        octets.reserve_exact(held.saturating_mul(3).min(most).max(piece))?;
-    }
+    let room = if wanted <= SHORT { SHORT } else { MOST_OCTETS };
+    octets.reserve_exact(room.max(wanted).saturating_sub(octets.as_slice().len()))?;
     Ok(())
 }
 
@@ -75,9 +82,16 @@ fn put(octets: &mut Vec<u8>, start: usize, piece: &[u8]) -> Result<(), OutOfMemo
     ensures ok { OnOk result (octets.new.items ≡ take start octets.old.items ++ piece.now ++ drop start octets.old.items) }
     ensures err { OnErr result (octets.new.items ≡ octets.old.items) }
 {
-    make_room(octets, piece.len())?;
+    let end = octets.as_slice().len();
+    let wanted = end.saturating_add(piece.len());
+    if octets.capacity() < wanted {
+        grow(octets, wanted)?;
+    }
     octets.extend_from_slice(piece)?;
-    octets.slice_mut(start..).rotate_right(piece.len());
+    // In order nothing moves.
+    if start < end {
+        octets.slice_mut(start..).rotate_right(piece.len());
+    }
     Ok(())
 }
 
@@ -167,7 +181,11 @@ impl Held {
         let number = usize::from(segment.seq);
         if let Some(span) = self.spans[number] {
             let start = self.start(number);
-            if is_repeat(&self.octets[start..start + span.len], span.more, segment) {
+            if is_repeat(
+                &self.octets[start..start + usize::from(span.len)],
+                span.more,
+                segment,
+            ) {
                 return Ok(false);
             }
             return Err(TakeFault::Conflict);
@@ -224,7 +242,7 @@ impl Held {
         self.note(
             number,
             Span {
-                len: piece.len(),
+                len: piece.len() as u16,
                 more: segment.more,
             },
         );

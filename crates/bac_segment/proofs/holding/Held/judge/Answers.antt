@@ -23,14 +23,14 @@ returns-then-is_repeat c =
     let s = delivery c.args.segment.now in
     let h = span_held c.requires c.from-number.result c.start-start.result c.in-Some.span c.start-start.ensures (span_at c.requires c.from-number.result c.args.segment.now.seq c.index.result.now c.from-number.ensures (omega arith) c.index.ensures ∙ c.in-Some.is) in
     judged c.requires s (Ok false)
-    (repeated c.requires.table s h.entry (ap (λ (k : ℕ). get_or c.requires.table k None) (sym c.from-number.ensures) ∙ h.is) (same_held h s true (c.if-is_repeat.ensures ∙ ap (λ (o : List ℕ). same_entry (record { piece = slice_range o c.start-start.result (c.start-start.result + c.in-Some.span.len); more = c.in-Some.span.more }) s) c.deref.ensures.value)))
+    (repeated c.requires.table s h.entry (ap (λ (k : ℕ). get_or c.requires.table k None) (sym c.from-number.ensures) ∙ h.is) (same_held h s true (c.if-is_repeat.ensures ∙ ap (λ (k : ℕ). same_entry (record { piece = slice_range c.deref.result.now c.start-start.result (c.start-start.result + k); more = c.in-Some.span.more }) s) c.from.ensures ∙ ap (λ (o : List ℕ). same_entry (record { piece = slice_range o c.start-start.result (c.start-start.result + c.in-Some.span.len); more = c.in-Some.span.more }) s) c.deref.ensures.value)))
 
 pub returns-in-Some : goal.returns-in-Some
 returns-in-Some c =
     let s = delivery c.args.segment.now in
     let h = span_held c.requires c.from-number.result c.start-start.result c.in-Some.span c.start-start.ensures (span_at c.requires c.from-number.result c.args.segment.now.seq c.index.result.now c.from-number.ensures (omega arith) c.index.ensures ∙ c.in-Some.is) in
     judged c.requires s (Err Conflict)
-    (contradicted c.requires.table s h.entry (ap (λ (k : ℕ). get_or c.requires.table k None) (sym c.from-number.ensures) ∙ h.is) (same_held h s false (c.if-is_repeat.ensures ∙ ap (λ (o : List ℕ). same_entry (record { piece = slice_range o c.start-start.result (c.start-start.result + c.in-Some.span.len); more = c.in-Some.span.more }) s) c.deref.ensures.value)))
+    (contradicted c.requires.table s h.entry (ap (λ (k : ℕ). get_or c.requires.table k None) (sym c.from-number.ensures) ∙ h.is) (same_held h s false (c.if-is_repeat.ensures ∙ ap (λ (k : ℕ). same_entry (record { piece = slice_range c.deref.result.now c.start-start.result (c.start-start.result + k); more = c.in-Some.span.more }) s) c.from.ensures ∙ ap (λ (o : List ℕ). same_entry (record { piece = slice_range o c.start-start.result (c.start-start.result + c.in-Some.span.len); more = c.in-Some.span.more }) s) c.deref.ensures.value)))
 
 pub returns-then-ends_too_early : goal.returns-then-ends_too_early
 returns-then-ends_too_early c =
