@@ -1,0 +1,28 @@
+//! The library for C. `include/bactool.h` declares these calls and says for a C program what they do.
+//!
+//! Each call is one of the library, with its clauses said again over what C hands in and gets back: octets as a pointer and
+//! a length, an [`Outcome`] behind a pointer, and as the result one of the codes below. No call keeps a pointer, has a
+//! state, or keeps memory behind its end, so that any may run in any thread at once.
+#![tactic(auto)]
+
+mod checking;
+mod codes;
+mod comparing;
+mod normalising;
+mod outcomes;
+mod reasons;
+mod showing;
+mod versions;
+mod writing;
+
+pub use checking::bactool_check;
+pub use codes::{
+    BACTOOL_DIFFERENT, BACTOOL_LEFT_REFUSED, BACTOOL_NO_MEMORY, BACTOOL_NO_ROOM, BACTOOL_OK,
+    BACTOOL_REFUSED, BACTOOL_RIGHT_REFUSED, BACTOOL_TOLERATED,
+};
+pub use comparing::bactool_same_meaning;
+pub use normalising::bactool_normalise;
+pub use outcomes::Outcome;
+pub use reasons::bactool_reason;
+pub use showing::bactool_show;
+pub use versions::bactool_version;

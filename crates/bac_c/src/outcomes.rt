@@ -1,0 +1,64 @@
+//! What a call tells beside its code.
+
+ghost use Rattle.std.specs.Prelude.{◌≡◌};
+ghost use Rattle.bac_c.specs.Outcomes.{counted as counted_value, differs_at as differing, nothing as nothing_told, refused_as};
+
+use bac_tag::Refusal;
+
+/// What a call tells beside its code: `struct bactool_outcome` in `include/bactool.h`. What a code does not speak of is 0.
+#[repr(C)]
+#[derive(Clone, Copy, Debug, PartialEq, Eq)]
+pub struct Outcome {
+    /// The number of the reason for which an input is refused.
+    pub why: u32,
+    /// The offset at which an input is refused, or at which it first differs from the canonical octets.
+    pub place: usize,
+    /// The number of octets that are written, or that there would be where the room is too small.
+    pub count: usize,
+}
+
+impl Outcome {
+    /// The code says all.
+    pub(crate) fn nothing() -> Outcome
+        ensures { result ≡ nothing_told }
+    {
+        Outcome {
+            why: 0,
+            place: 0,
+            count: 0,
+        }
+    }
+
+    /// The octets first differ from the canonical ones at this place.
+    pub(crate) fn differs_at(place: usize) -> Outcome
+        ensures { result ≡ differing place }
+    {
+        Outcome {
+            why: 0,
+            place,
+            count: 0,
+        }
+    }
+
+    /// An input is refused.
+    pub(crate) fn refused(refusal: Refusal) -> Outcome
+        ensures { result ≡ refused_as refusal }
+    {
+        Outcome {
+            why: refusal.why as u32,
+            place: refusal.place,
+            count: 0,
+        }
+    }
+
+    /// So many octets are written, or would be.
+    pub(crate) fn counted(count: usize) -> Outcome
+        ensures { result ≡ counted_value count }
+    {
+        Outcome {
+            why: 0,
+            place: 0,
+            count,
+        }
+    }
+}

@@ -1,0 +1,49 @@
+//! The text of a frame.
+
+ghost use Rattle.std.specs.Prelude.{◌≡◌, ◌≢◌, ◌⊎◌, IfErr, IfOk};
+ghost use Rattle.bac_tag.specs.declared.refusals.Why.TheVariants.{OutOfMemory};
+ghost use Rattle.bac_c.specs.Outcomes.{IsHopeless, IsTextOf, IsWritten, LacksRoom, Tells, without_memory};
+
+use crate::writing::{hand_out, refuse};
+use crate::{BACTOOL_NO_MEMORY, BACTOOL_NO_ROOM, BACTOOL_OK, BACTOOL_REFUSED, Outcome};
+use bac_npdu::decode_frame;
+use bac_tag::Refusal;
+use bac_text::append_text;
+use std::alloc::Global;
+
+/// The text of the frame that the octets spell.
+fn text_of(alloc: Global, octets: &[u8]) -> Result<Vec<u8>, Refusal>
+    ensures text { IfOk result (λ line. IsTextOf octets.now line.items) }
+    ensures refused { IfErr result (λ refusal. refusal.why ≢ OutOfMemory → IsHopeless octets.now refusal) }
+    ensures memory { IfErr result (λ refusal. refusal.why ≡ OutOfMemory → refusal.place ≡ 0) }
+{
+    let frame = decode_frame(alloc, octets)?;
+    let mut line = Vec::new(alloc);
+    match append_text(&frame, &mut line) {
+        Ok(()) => Ok(line),
+        Err(_) => Err(Refusal::out_of_memory()),
+    }
+}
+
+/// Writes the text of the frame that the octets spell in front of `out`, and tells how many octets it has: `BACTOOL_OK`; or
+/// only tells how many, where `out` is too short for them: `BACTOOL_NO_ROOM`. `BACTOOL_REFUSED` with why and where;
+/// `BACTOOL_NO_MEMORY` where memory is refused.
+#[unsafe(no_mangle)]
+pub extern "C" fn bactool_show(
+    alloc: Global,
+    octets: &[u8],
+    out: &mut [u8],
+    outcome: &mut Outcome,
+) -> u32
+    ensures codes { (result ≡ BACTOOL_OK) ⊎ ((result ≡ BACTOOL_NO_ROOM) ⊎ ((result ≡ BACTOOL_REFUSED) ⊎ (result ≡ BACTOOL_NO_MEMORY))) }
+    ensures written { result ≡ BACTOOL_OK → IsWritten (IsTextOf octets.now) out.old out.new outcome.new }
+    ensures room { result ≡ BACTOOL_NO_ROOM → LacksRoom (IsTextOf octets.now) out.old outcome.new }
+    ensures unchanged { result ≢ BACTOOL_OK → out.new ≡ out.old }
+    ensures refused { result ≡ BACTOOL_REFUSED → Tells (IsHopeless octets.now) outcome.new }
+    ensures memory { result ≡ BACTOOL_NO_MEMORY → outcome.new ≡ without_memory }
+{
+    match text_of(alloc, octets) {
+        Ok(line) => hand_out(line.as_slice(), out, outcome),
+        Err(refusal) => refuse(refusal, outcome),
+    }
+}
