@@ -6,9 +6,13 @@
 #   make memory  runs the library's tests and the program with each allocation refused in turn (by hand: it takes
 #                three quarters of an hour)
 #   make wrong-bodies  tries the wrong bodies that the gate leaves out (by hand: it takes an hour and more)
+#   make lib     proves and builds the library for C, and leaves it in lib/libbactool.a and lib/libbactool.so
+#   make try-library  runs it from C, Python and Rust on the examples, and then tries hostile use of it (some seconds)
+#   make install, make uninstall  put the program, the library, its header and the man page below PREFIX, or take them
+#                away; PREFIX is /usr/local, and DESTDIR stands in front of it
 #   make clean   removes what the others made
 
-.PHONY: build test check bench memory wrong-bodies clean need-rt
+.PHONY: build test check bench memory wrong-bodies lib try-library install uninstall clean need-rt
 
 build: need-rt
 	@echo "bactool: proving and building it into bin/bactool (minutes the first time, seconds after that)"
@@ -35,8 +39,45 @@ memory: need-rt
 wrong-bodies: need-rt
 	@scripts/wrong-bodies
 
+# Where make install puts what it installs; DESTDIR stands in front of all.
+PREFIX ?= /usr/local
+TO = $(DESTDIR)$(PREFIX)
+INSTALLED = bin/bactool include/bactool.h lib/libbactool.a lib/libbactool.so lib/libbactool.so.0 \
+	lib/pkgconfig/bactool.pc share/man/man1/bactool.1
+
+# The archive has one object, in which the calls of include/bactool.h alone are visible. It holds what the kit's compiler
+# made of crates/bac_c, and the kit's few lines of C by which it takes memory from malloc.
+lib: need-rt
+	@echo "bactool: proving and building the library into lib/ (minutes the first time, seconds after that)"
+	@mkdir -p crates/bac_c/out
+	@cd crates/bac_c && rt lib > out/lib.log || { cat out/lib.log >&2; exit 1; }
+	@rm -rf lib && mkdir -p lib
+	@ld -r -o lib/bactool.o --whole-archive crates/bac_c/out/libbac_c.a "$$(dirname "$$(rt doc)")/c/liblibc_c.a"
+	@objcopy --wildcard --keep-global-symbol='bactool_*' lib/bactool.o
+	@ar rcs lib/libbactool.a lib/bactool.o
+	@$(CC) -shared -Wl,-soname,libbactool.so.0 -o lib/libbactool.so.0 lib/bactool.o
+	@ln -s libbactool.so.0 lib/libbactool.so
+	@rm lib/bactool.o
+
+try-library: lib
+	@scripts/try-library
+
+install:
+	@test -e bin/bactool && test -e lib/libbactool.a || { echo "bactool: make and make lib come before make install" >&2; exit 1; }
+	@mkdir -p $(addprefix $(TO)/,$(sort $(dir $(INSTALLED))))
+	@install -m 755 bin/bactool $(TO)/bin/bactool
+	@install -m 644 include/bactool.h $(TO)/include/bactool.h
+	@install -m 644 lib/libbactool.a $(TO)/lib/libbactool.a
+	@install -m 755 lib/libbactool.so.0 $(TO)/lib/libbactool.so.0
+	@ln -sf libbactool.so.0 $(TO)/lib/libbactool.so
+	@sed 's|@PREFIX@|$(PREFIX)|' include/bactool.pc.in > $(TO)/lib/pkgconfig/bactool.pc
+	@install -m 644 docs/bactool.1 $(TO)/share/man/man1/bactool.1
+
+uninstall:
+	@rm -f $(addprefix $(TO)/,$(INSTALLED))
+
 clean:
-	@rm -rf bin crates/*/out
+	@rm -rf bin lib crates/*/out
 
 need-rt:
 	@command -v rt > /dev/null || { echo "bactool: the toolchain's command rt is not on the PATH; README.md says which kit is wanted" >&2; exit 1; }

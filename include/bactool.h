@@ -1,0 +1,191 @@
+/*
+ * bactool.h: the messages of BACnet (ANSI/ASHRAE 135) for C, by the library libbactool.
+ *
+ * A frame is one NPDU (clause 6 of the standard), with an APDU or a network message in it. Of all the octets that spell
+ * one frame, the least are its canonical ones, and the library writes those alone. Octets that spell a frame otherwise
+ * are tolerated; octets that spell none are refused, with the reason and the place.
+ *
+ *     const uint8_t octets[] = {0x01, 0x04, 0x00, 0x05, 0x01, 0x0C, 0x0C, 0x00, 0x00, 0x00, 0x05, 0x19, 0x55};
+ *     char line[256];
+ *     struct bactool_outcome told;
+ *     if (bactool_show(octets, sizeof octets, line, sizeof line, &told) == BACTOOL_OK)
+ *         printf("%.*s\n", (int)told.count, line);
+ *
+ * prints `prio=0 reply=1 conf id=1 sa=0 segs=0 resp=5 ReadProperty object=0:5 property=85`.
+ *
+ * What holds of every call:
+ *
+ *   - It returns on every input. It keeps no pointer, has no state, and frees what memory it takes, so any call may run
+ *     in any thread, and many at once. It takes memory by malloc, and so must not be called from a signal handler, nor
+ *     in the forked child of a process with threads.
+ *   - A pointer and a length are so many octets, which the call reads; a pointer and a room are so many octets, which it
+ *     may write. NULL with length or room 0 is taken as none. No other pointer may be NULL.
+ *   - What a call writes, `out` and `outcome`, must not overlap anything else that it is handed. What it reads may
+ *     overlap, and is never written.
+ *   - It returns one of the codes below and fills in the whole of `outcome`. Where the code is not BACTOOL_OK, `out` is
+ *     as it was; where it is, the octets behind those written are as they were. No text ends in a NUL.
+ *
+ * Link with -lbactool; `pkg-config --cflags --libs bactool` tells the flags.
+ */
+#ifndef BACTOOL_H
+#define BACTOOL_H
+
+#include <stdbool.h>
+#include <stddef.h>
+#include <stdint.h>
+
+#ifdef __cplusplus
+extern "C" {
+#endif
+
+/* The version of this header: 10,000 times the major, 100 times the minor and the patch number. Here it is 0.1.0. */
+#define BACTOOL_VERSION 100
+
+/* What comes of a call. */
+enum bactool_code {
+    BACTOOL_OK = 0,            /* what was asked holds, or is done */
+    BACTOOL_TOLERATED = 1,     /* the octets spell a frame, and are not its canonical ones */
+    BACTOOL_DIFFERENT = 2,     /* the two inputs spell different frames */
+    BACTOOL_REFUSED = 3,       /* the octets are not accepted: `why` and `place` */
+    BACTOOL_LEFT_REFUSED = 4,  /* the left one of two inputs spells no frame: `why` and `place` */
+    BACTOOL_RIGHT_REFUSED = 5, /* the right one spells none, and the left one does: `why` and `place` */
+    BACTOOL_NO_ROOM = 6,       /* the room is too small; `count` are wanted */
+    BACTOOL_NO_MEMORY = 7      /* memory was refused: `why` is BACTOOL_OUT_OF_MEMORY */
+};
+
+/* Why octets are refused. bactool_reason gives the name. */
+enum bactool_why {
+    BACTOOL_SHORT = 1,          /* the octets end where more must come */
+    BACTOOL_TRAILING = 2,       /* octets follow a whole frame */
+    BACTOOL_BAD_VERSION = 3,    /* the version octet is not 1 */
+    BACTOOL_ADDRESS = 4,        /* a source address of length 0 */
+    BACTOOL_PDU_TYPE = 5,       /* a PDU type that is not used */
+    BACTOOL_WINDOW = 6,         /* a window size that is not 1 to 127 */
+    BACTOOL_TAG = 7,            /* a tag that cannot stand here */
+    BACTOOL_LENGTH = 8,         /* a length that cannot stand here */
+    BACTOOL_CONTENT = 9,        /* contents that no value has */
+    BACTOOL_DEPTH = 10,         /* a group inside too many others: at most 32 nest */
+    BACTOOL_NOT_CANONICAL = 11, /* a tolerated spelling, where canonical octets were asked for */
+    BACTOOL_OUT_OF_MEMORY = 12  /* memory was refused */
+};
+
+/* What a call tells beside its code. What the code does not speak of is 0. */
+struct bactool_outcome {
+    uint32_t why;  /* an enum bactool_why: the reason of a refusal */
+    size_t place;  /* the offset, counted from 0, of the first octet with which no frame goes on, or of the first one
+                      that differs from the canonical octets; the length where the octets are only too short */
+    size_t count;  /* the number of octets written, or of those wanted where the room is too small */
+};
+
+/*
+ * Tells whether octets are canonical.
+ *
+ *   BACTOOL_OK          they are the canonical octets of a frame
+ *   BACTOOL_TOLERATED   they spell a frame otherwise; `place` is the first that differs from its canonical octets.
+ *                       Never where `strict` is true
+ *   BACTOOL_REFUSED     they spell no frame: `why` and `place`. Where `strict` is true also octets that are tolerated
+ *                       else: `why` is BACTOOL_NOT_CANONICAL, `place` the first that differs
+ *   BACTOOL_NO_MEMORY   memory was refused
+ *
+ *     struct bactool_outcome told;
+ *     if (bactool_check(octets, length, false, &told) == BACTOOL_REFUSED)
+ *         fprintf(stderr, "refused at %zu\n", told.place);
+ */
+uint32_t bactool_check(const uint8_t *octets, size_t length, bool strict, struct bactool_outcome *outcome);
+
+/*
+ * Writes the canonical octets of the frame that the octets spell. They are never more than the octets handed in: a room
+ * of `length` always suffices.
+ *
+ *   BACTOOL_OK          they stand in front of `out`; `count` is their number
+ *   BACTOOL_NO_ROOM     they are more than `room`; `count` is their number
+ *   BACTOOL_REFUSED     the octets spell no frame: `why` and `place`
+ *   BACTOOL_NO_MEMORY   memory was refused
+ *
+ *     uint8_t canonical[1497];
+ *     if (length <= sizeof canonical && bactool_normalise(octets, length, canonical, sizeof canonical, &told) == BACTOOL_OK)
+ *         send(socket, canonical, told.count, 0);
+ */
+uint32_t bactool_normalise(const uint8_t *octets, size_t length, uint8_t *out, size_t room,
+                           struct bactool_outcome *outcome);
+
+/*
+ * Writes the text of the frame that the octets spell, as `bactool show` prints it: one line, without a line feed and
+ * without a NUL. To learn its length first, call with room 0.
+ *
+ *   BACTOOL_OK          it stands in front of `out`; `count` is its number of octets
+ *   BACTOOL_NO_ROOM     it has more octets than `room`; `count` is their number
+ *   BACTOOL_REFUSED     the octets spell no frame: `why` and `place`
+ *   BACTOOL_NO_MEMORY   memory was refused
+ *
+ *     if (bactool_show(octets, length, NULL, 0, &told) == BACTOOL_NO_ROOM) {
+ *         char *line = malloc(told.count);
+ *         if (line != NULL && bactool_show(octets, length, line, told.count, &told) == BACTOOL_OK)
+ *             fwrite(line, 1, told.count, stdout);
+ *         free(line);
+ *     }
+ */
+uint32_t bactool_show(const uint8_t *octets, size_t length, char *out, size_t room, struct bactool_outcome *outcome);
+
+/*
+ * Tells whether two inputs spell one frame, each in any spelling. They may be the same memory.
+ *
+ *   BACTOOL_OK             they do
+ *   BACTOOL_DIFFERENT      each spells a frame, and these differ
+ *   BACTOOL_LEFT_REFUSED   the left one spells none: `why` and `place`
+ *   BACTOOL_RIGHT_REFUSED  the left one spells a frame, the right one none: `why` and `place`
+ *   BACTOOL_NO_MEMORY      memory was refused
+ *
+ *     bool same = bactool_same_meaning(sent, sent_length, seen, seen_length, &told) == BACTOOL_OK;
+ */
+uint32_t bactool_same_meaning(const uint8_t *left, size_t left_length, const uint8_t *right, size_t right_length,
+                              struct bactool_outcome *outcome);
+
+/*
+ * Writes the name of a reason, such as "Short", where `room` is at least its length; 16 is room for each. Returns the
+ * length of the name, also where nothing is written, and 0 where `why` is no reason.
+ *
+ *     char name[16];
+ *     printf("%.*s at %zu\n", (int)bactool_reason(told.why, name, sizeof name), name, told.place);
+ */
+size_t bactool_reason(uint32_t why, char *out, size_t room);
+
+/* Returns the version of the library, by the same rule as BACTOOL_VERSION. */
+uint32_t bactool_version(void);
+
+/*
+ * The library itself wants an address also where there are no octets. These give it one for NULL, and the macros call
+ * them; a caller in another language hands in any address in place of NULL.
+ */
+static inline const uint8_t *bactool_octets(const uint8_t *octets)
+{
+    static const uint8_t none = 0;
+    return octets != NULL ? octets : &none;
+}
+
+static inline uint8_t *bactool_room(uint8_t *out)
+{
+    static uint8_t none = 0;
+    return out != NULL ? out : &none;
+}
+
+static inline char *bactool_text(char *out)
+{
+    static char none = 0;
+    return out != NULL ? out : &none;
+}
+
+#define bactool_check(octets, length, strict, outcome) (bactool_check)(bactool_octets(octets), length, strict, outcome)
+#define bactool_normalise(octets, length, out, room, outcome) \
+    (bactool_normalise)(bactool_octets(octets), length, bactool_room(out), room, outcome)
+#define bactool_show(octets, length, out, room, outcome) \
+    (bactool_show)(bactool_octets(octets), length, bactool_text(out), room, outcome)
+#define bactool_same_meaning(left, left_length, right, right_length, outcome) \
+    (bactool_same_meaning)(bactool_octets(left), left_length, bactool_octets(right), right_length, outcome)
+#define bactool_reason(why, out, room) (bactool_reason)(why, bactool_text(out), room)
+
+#ifdef __cplusplus
+}
+#endif
+
+#endif
