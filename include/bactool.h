@@ -17,13 +17,14 @@
  *
  *   - It returns on every input. It keeps no pointer, has no state, and frees what memory it takes, so any call may run
  *     in any thread, and many at once. It takes memory by malloc, and so must not be called from a signal handler, nor
- *     in the forked child of a process with threads.
- *   - A pointer and a length are so many octets, which the call reads; a pointer and a room are so many octets, which it
- *     may write. NULL with length or room 0 is taken as none. No other pointer may be NULL.
+ *     in the forked child of a process with threads. It wants less than 16 KB of stack, as measured on x86-64.
+ *   - A pointer and a length are so many octets, which the call reads and nobody changes meanwhile; a pointer and a room
+ *     are so many octets, which it may write. NULL with length or room 0 is taken as none. No other pointer may be NULL.
  *   - What a call writes, `out` and `outcome`, must not overlap anything else that it is handed. What it reads may
  *     overlap, and is never written.
- *   - It returns one of the codes below and fills in the whole of `outcome`. Where the code is not BACTOOL_OK, `out` is
- *     as it was; where it is, the octets behind those written are as they were. No text ends in a NUL.
+ *   - bactool_reason and bactool_version apart, it returns one of the codes below and fills in the whole of `outcome`.
+ *     Where the code is not BACTOOL_OK, `out` is as it was; where it is, the octets behind those written are as they
+ *     were. No text ends in a NUL.
  *
  * Link with -lbactool; `pkg-config --cflags --libs bactool` tells the flags.
  */
