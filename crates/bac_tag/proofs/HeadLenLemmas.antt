@@ -1,5 +1,5 @@
 -- How many octets the least spelling of a head has, and that no other spelling has as few.
-use Rattle.std.proofs.Common.{◌≡◌, ℕ, ◌+◌, ◌*◌, ◌^◌, ◌<◌, inl, inr, Bool, true, false, List, [], ◌∷◌, ◌++◌, length, refl, sym, ap, ◌∙◌, arith}
+use Rattle.std.proofs.Common.{◌≡◌, ℕ, ◌+◌, ◌*◌, ◌^◌, ◌<◌, inl, inr, Bool, true, false, List, [], ◌∷◌, ◌++◌, length, get_or, refl, sym, ap, ◌∙◌, arith}
 use mir.Val.{bool_byte}
 use Rattle.std.proofs.lemmas.List.{append-nil, length-append}
 use Rattle.bac_tag.specs.declared.heads.TagHead.{TagHead}
@@ -105,3 +105,28 @@ narrowest_as_short (Close number) a s long = opening_as_short 1 number 7 s.lvt a
 -- a spelling of a head with as many octets as its least is the least
 pub least_as_short : (h : TagHead) (a b : List ℕ) → Heads h a → IsLeast (Heads h) b → length a ≡ length b → a ≡ b
 least_as_short h a b s p long = let is = least_is_narrowest h b p in narrowest_as_short h a s (long ∙ ap length is) ∙ sym is
+
+-- ---- its first octet
+
+first_of : (h : TagHead) (b : List ℕ) → IsLeast (Heads h) b → get_or b 0 0 ≡ get_or (narrowest h) 0 0
+first_of h b p = ap (λ (t : List ℕ). get_or t 0 0) (least_is_narrowest h b p)
+
+pub first_of_app : (number len : ℕ) (b : List ℕ) → IsLeast (Heads (App number len)) b
+    → get_or b 0 0 ≡ 16 * nibble_of (number_form number) number + 8 * 0 + lvt_of (length_form len) len
+first_of_app number len b p = first_of (App number len) b p
+
+pub first_of_bool : (value : Bool) (b : List ℕ) → IsLeast (Heads (AppBool value)) b
+    → get_or b 0 0 ≡ 16 * nibble_of (number_form 1) 1 + 8 * 0 + bool_byte value
+first_of_bool value b p = first_of (AppBool value) b p
+
+pub first_of_ctx : (number len : ℕ) (b : List ℕ) → IsLeast (Heads (Ctx number len)) b
+    → get_or b 0 0 ≡ 16 * nibble_of (number_form number) number + 8 * 1 + lvt_of (length_form len) len
+first_of_ctx number len b p = first_of (Ctx number len) b p
+
+pub first_of_open : (number : ℕ) (b : List ℕ) → IsLeast (Heads (Open number)) b
+    → get_or b 0 0 ≡ 16 * nibble_of (number_form number) number + 8 * 1 + 6
+first_of_open number b p = first_of (Open number) b p
+
+pub first_of_close : (number : ℕ) (b : List ℕ) → IsLeast (Heads (Close number)) b
+    → get_or b 0 0 ≡ 16 * nibble_of (number_form number) number + 8 * 1 + 7
+first_of_close number b p = first_of (Close number) b p

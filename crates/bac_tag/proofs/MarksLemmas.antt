@@ -1,5 +1,5 @@
 -- Marks of heads.
-use Rattle.std.proofs.Common.{◌≡◌, ℕ, List, Option, Some, None, subst}
+use Rattle.std.proofs.Common.{◌≡◌, ℕ, ◌<◌, List, Option, Some, None, length, ap, subst, arith, length-append}
 use Rattle.std.specs.Prelude.{IfNone, IfSome}
 use Rattle.bac_tag.specs.declared.heads.TagHead.{TagHead}
 use Rattle.bac_tag.specs.Octets.{FirstDifference, IsMark}
@@ -16,3 +16,7 @@ pub mark : (h : TagHead) (taken canonical : List ℕ) (r : Option ℕ) → IsSpe
     → (b : List ℕ) → IsLeast (Heads h) b → IsMark taken b r
 mark h taken canonical r s least none some b other =
     subst (λ (t : List ℕ). IsMark taken t r) (IsLeast-one (Heads h) canonical b least other) (mark_by h s.0 taken canonical r s.1 least.member none some)
+
+-- a spelling has a first octet
+pub spelled_some : (h : TagHead) (b : List ℕ) → Heads h b → 0 < length b
+spelled_some h b s = omega (arith, ap length s.octets, length-append s.front s.back, ap length s.opening.octets)

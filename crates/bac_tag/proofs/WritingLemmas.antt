@@ -231,3 +231,15 @@ some_least (AppBool value) v f = (narrow_opening 0 1 (bool_byte value), least_bo
 some_least (Ctx number len) v f = (narrow_head 1 number len, least_ctx number len _ v f refl)
 some_least (Open number) v f = (narrow_opening 1 number 6, least_open number _ v refl)
 some_least (Close number) v f = (narrow_opening 1 number 7, least_close number _ v refl)
+
+-- ---- the LVT of a length in octets of its own
+
+pub lvt_of_long : (len : ℕ) → 5 ≤ len → 5 ≡ lvt_of (length_form len) len
+lvt_of_long len a =
+    elim (cases_lt len 254) [
+      | inl b ↦ rw (le-ltb len 5 a, lt-ltb len 254 b) refl
+      | inr b ↦ elim (cases_lt len (2 ^ 16)) [
+        | inl d ↦ rw (le-ltb len 5 a, le-ltb len 254 b, lt-ltb len (2 ^ 16) d) refl
+        | inr d ↦ rw (le-ltb len 5 a, le-ltb len 254 b, le-ltb len (2 ^ 16) d) refl
+      ]
+    ]

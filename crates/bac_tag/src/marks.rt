@@ -5,6 +5,7 @@ ghost use Rattle.bac_tag.specs.Octets.{FirstDifference, IsMark, joined_mark};
 ghost use Rattle.bac_tag.specs.Spelling.{IsLeast, IsSpelling};
 ghost use Rattle.bac_tag.specs.Heads.{IsValid, Heads};
 
+use crate::writing::first_octet;
 use crate::{TagHead, head_len, write_head};
 
 /// Returns the offset of the first octet that differs between the two lists, or at which the shorter one ends. It
@@ -30,7 +31,22 @@ pub fn first_difference(a: &[u8], b: &[u8]) -> Option<usize>
 /// where `taken` is canonical.
 ///
 /// `head` must be valid, and `taken` a spelling of some head, not necessarily of this one.
+#[inline(always)]
 pub fn mark_head(taken: &[u8], head: TagHead) -> Option<usize>
+    requires valid { IsValid head }
+    requires spelled { IsSpelling Heads taken.now }
+    ensures { (b : List ℕ) → IsLeast (Heads head) b → IsMark taken.now b result }
+{
+    // In most spellings that are not the least one the first octet is another.
+    if taken[0] != first_octet(head) {
+        return Some(0);
+    }
+    mark_whole_head(taken, head)
+}
+
+/// What [`mark_head`] returns, by all the canonical octets.
+#[inline(never)]
+fn mark_whole_head(taken: &[u8], head: TagHead) -> Option<usize>
     requires valid { IsValid head }
     requires spelled { IsSpelling Heads taken.now }
     ensures { (b : List ℕ) → IsLeast (Heads head) b → IsMark taken.now b result }

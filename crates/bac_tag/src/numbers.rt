@@ -45,6 +45,13 @@ pub fn number_within(front: &[u8], width: usize, low: u64, high: u64) -> Result<
     ensures ok { OnOk result (BeginsNumber low high front.now width) }
     ensures err { IfErr result (MissesAt low high front.now width) }
 {
+    // Where all the octets are there and their number lies in the range, none of them need be judged by itself.
+    if front.len() == width {
+        let whole = number_of(front);
+        if low <= whole && whole <= high {
+            return Ok(whole);
+        }
+    }
     let mut number = 0;
     for place in 0..front.len() {
         number = number * 256 + u64::from(front[place]);

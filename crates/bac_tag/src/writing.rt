@@ -1,8 +1,8 @@
 //! Writing a head.
 
-ghost use Rattle.std.specs.Prelude.{◌≡◌, ◌+◌, ◌*◌, ◌^◌, ◌<◌, List, ℕ, length};
+ghost use Rattle.std.specs.Prelude.{◌≡◌, ◌+◌, ◌*◌, ◌^◌, ◌<◌, List, ℕ, length, slice_index};
 ghost use Rattle.bac_tag.specs.Spelling.{IsLeast};
-ghost use Rattle.bac_tag.specs.Heads.{IsValid, Heads, class_bit, number_octets, length_octets};
+ghost use Rattle.bac_tag.specs.Heads.{IsValid, Heads, class_bit, nibble_of, number_octets, lvt_of, length_octets};
 ghost use Rattle.bac_tag.specs.Writing.{number_form, length_form, narrow_opening, narrow_head};
 
 use crate::TagHead;
@@ -134,5 +134,41 @@ pub fn head_len(head: TagHead) -> usize
         }
         TagHead::AppBool(_) => 1,
         TagHead::Open(number) | TagHead::Close(number) => opening_len(number),
+    }
+}
+
+/// The initial octet of a head in its narrowest form, with this class, number and LVT.
+#[inline(always)]
+fn narrow_initial(context: bool, number: u8, lvt: u8) -> u8
+    requires { lvt < 8 }
+    ensures { result ≡ 16 * nibble_of (number_form number) number + 8 * class_bit context + lvt }
+{
+    match number {
+        0..=14 => initial_octet(number, context, lvt),
+        _ => initial_octet(15, context, lvt),
+    }
+}
+
+/// The LVT of a length in its narrowest form: the length, or 5 where it stands in octets of its own.
+#[inline(always)]
+fn length_lvt(len: u32) -> u8
+    ensures lvt { result ≡ lvt_of (length_form len) len }
+    ensures small { result < 8 }
+{
+    if len < 5 { len as u8 } else { 5 }
+}
+
+/// The first of the octets that [`write_head`] writes of the head, without the others. The head must be valid.
+#[inline(always)]
+pub(crate) fn first_octet(head: TagHead) -> u8
+    requires { IsValid head }
+    ensures { (b : List ℕ) → IsLeast (Heads head) b → slice_index b 0 ≡ result }
+{
+    match head {
+        TagHead::App { number, len } => narrow_initial(false, number, length_lvt(len)),
+        TagHead::AppBool(value) => narrow_initial(false, 1, u8::from(value)),
+        TagHead::Ctx { number, len } => narrow_initial(true, number, length_lvt(len)),
+        TagHead::Open(number) => narrow_initial(true, number, 6),
+        TagHead::Close(number) => narrow_initial(true, number, 7),
     }
 }

@@ -1,7 +1,5 @@
-use Rattle.bac_tag.proofs.MarksLemmas.{mark}
+use Rattle.bac_tag.proofs.MarksLemmas.{spelled_some}
 use Rattle.bac_tag.proofs.marks.mark_head.Goals as goal
 
-pub returns : goal.returns
-returns c =
-    mark _ _ _ _ c.requires.spelled c.write_head.ensures
-    (rw c.as_slice.ensures.value at c.first_difference.ensures.none) (rw c.as_slice.ensures.value at c.first_difference.ensures.some)
+pub bounds-taken-0 : goal.bounds-taken-0
+bounds-taken-0 c = spelled_some _ _ c.requires.spelled.1
