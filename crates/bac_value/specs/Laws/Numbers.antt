@@ -187,3 +187,8 @@ module _ {V : Type 0} (low high : ℕ) (number_of : V → ℕ) (value_of : ℕ �
 
   pub bounded_each_length : (size : ℕ) → 1 ≤ size → size ≤ 8 → IsBegun (λ (value : V) octets. NumberContents low high (number_of value) octets) [] size
   bounded_each_length = number_each_length number_of value_of bounded.number_of_value low high bounded.range bounded.room
+
+-- ---- octets that are the fewest
+
+pub written_if : (n : ℕ) (octets : List ℕ) → IsOctets octets → HasNumberLength (length octets) → number octets ≡ n → (1 < length octets → 0 < get_or octets 0 0) → octets ≡ least_number n
+written_if n octets p sized is first = least_number_is n octets (record { are_octets = p; sized = sized; is = is }) first
