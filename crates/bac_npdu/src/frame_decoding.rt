@@ -13,7 +13,7 @@ use crate::addresses::Mac;
 use crate::control::Control;
 use crate::destination::Dest;
 use crate::frame::{Body, Frame};
-use crate::frame_heads::{Addressed, Head, read_head};
+use crate::frame_heads::{Addressed, Head, plain_head, read_head};
 use crate::message_decoding::decode_message;
 use crate::source::Source;
 use bac_apdu::decode_apdu_marked;
@@ -31,6 +31,7 @@ fn copied(alloc: Global, address: &[u8]) -> Result<Mac, Refusal>
 }
 
 /// The destination that was read.
+#[inline(always)]
 fn destination_of(alloc: Global, read: Option<(Addressed<'_>, u8)>) -> Result<Option<Dest>, Refusal>
     ensures value { IfOk result (λ dest. destination_value dest ≡ destination_read read.entry) }
     ensures memory { IfErr result (λ refusal. (refusal ≡ record { place = 0; why = OutOfMemory }) × IsLong (address_of (destination_read read.entry))) }
@@ -48,6 +49,7 @@ fn destination_of(alloc: Global, read: Option<(Addressed<'_>, u8)>) -> Result<Op
 }
 
 /// The source that was read.
+#[inline(always)]
 fn source_of(alloc: Global, read: Option<Addressed<'_>>) -> Result<Option<Source>, Refusal>
     requires { HasAddress (address_read read) }
     ensures value { IfOk result (λ source. source ≡ address_read read.entry) }
@@ -93,6 +95,7 @@ fn decode_body(
 }
 
 /// Decodes what stands behind a head.
+#[inline(always)]
 fn decode_behind(
     alloc: Global,
     octets: &[u8],
@@ -121,12 +124,25 @@ fn decode_behind(
     }
 }
 
-/// Decodes a frame, and gives its mark.
-fn decode_any(alloc: Global, octets: &[u8]) -> Result<(Frame, Option<usize>), Refusal>
+/// Decodes a frame with any head, and gives its mark.
+#[inline(never)]
+fn decode_headed(alloc: Global, octets: &[u8]) -> Result<(Frame, Option<usize>), Refusal>
     ensures { IsDecoded octets.now result }
 {
     let head = read_head(octets)?;
     decode_behind(alloc, octets, head)
+}
+
+/// Decodes a frame, and gives its mark.
+#[inline(always)]
+fn decode_any(alloc: Global, octets: &[u8]) -> Result<(Frame, Option<usize>), Refusal>
+    ensures { IsDecoded octets.now result }
+{
+    // Most frames have no address, and theirs need not be made room for.
+    match plain_head(octets) {
+        Some(head) => decode_behind(alloc, octets, head),
+        None => decode_headed(alloc, octets),
+    }
 }
 
 /// Decodes the frame that all the octets spell, and gives the place of the first octet that differs from the canonical

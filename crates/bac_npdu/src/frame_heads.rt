@@ -5,7 +5,7 @@ ghost use Rattle.bac_tag.specs.HeadOctets.{least_head};
 ghost use Rattle.bac_tag.specs.Octets.{Extends};
 ghost use Rattle.bac_npdu.specs.Addresses.{addressed};
 ghost use Rattle.bac_npdu.specs.Frames.{is_there};
-ghost use Rattle.bac_npdu.specs.HeadsRead.{address_octets, from_octets, hops_octets, IsCutAddress, address_read, destination_read, address_of, IsControlRead, IsHeadRead};
+ghost use Rattle.bac_npdu.specs.HeadsRead.{address_octets, from_octets, hops_octets, IsCutAddress, address_read, destination_read, address_of, IsControlRead, IsHeadOf, IsHeadRead};
 
 use crate::addresses::Mac;
 use crate::control::Control;
@@ -129,6 +129,30 @@ pub(crate) fn read_head(octets: &[u8]) -> Result<Head<'_>, Refusal>
         destination,
         source,
         size: octets.len() - rest.len(),
+    })
+}
+
+/// The head that is version and control octet alone, since that tells of no address; or none where the octets begin
+/// with another one. What [`read_head`] tells of such octets is the same.
+#[inline(always)]
+pub(crate) fn plain_head(octets: &[u8]) -> Option<Head<'_>>
+    ensures { IfSome result (IsHeadOf octets.now) }
+{
+    let [version, control, ..] = octets else {
+        return None;
+    };
+    if *version != 1 {
+        return None;
+    }
+    let control = Control::from_bits_retain(*control);
+    if control.has_destination() || control.has_source() {
+        return None;
+    }
+    Some(Head {
+        control,
+        destination: None,
+        source: None,
+        size: 2,
     })
 }
 
