@@ -43,40 +43,36 @@ fn push_large_number(out: &mut Vec<u8>, number: u64) -> Result<(), OutOfMemory>
     ensures ok { OnOk result (out.new.items ≡ out.old.items ++ decimal number) }
     ensures err { OnErr result (out.new.items ≡ out.old.items) }
 {
-    // Pairs of digits are split off first, which wants fewer and smaller divisions.
-    let (middle, last) = (number % 10_000 / 100, number % 100);
     if number < 100_000 {
         let digits = [
             digit(number / 10_000),
-            digit(middle / 10),
-            digit(middle % 10),
-            digit(last / 10),
-            digit(last % 10),
+            digit(number / 1_000 % 10),
+            digit(number / 100 % 10),
+            digit(number / 10 % 10),
+            digit(number % 10),
         ];
         out.extend_from_slice(&digits)?;
         Ok(())
     } else if number < 1_000_000 {
-        let first = number / 10_000;
         let digits = [
-            digit(first / 10),
-            digit(first % 10),
-            digit(middle / 10),
-            digit(middle % 10),
-            digit(last / 10),
-            digit(last % 10),
+            digit(number / 100_000),
+            digit(number / 10_000 % 10),
+            digit(number / 1_000 % 10),
+            digit(number / 100 % 10),
+            digit(number / 10 % 10),
+            digit(number % 10),
         ];
         out.extend_from_slice(&digits)?;
         Ok(())
     } else if number < 10_000_000 {
-        let first = number / 10_000 % 100;
         let digits = [
             digit(number / 1_000_000),
-            digit(first / 10),
-            digit(first % 10),
-            digit(middle / 10),
-            digit(middle % 10),
-            digit(last / 10),
-            digit(last % 10),
+            digit(number / 100_000 % 10),
+            digit(number / 10_000 % 10),
+            digit(number / 1_000 % 10),
+            digit(number / 100 % 10),
+            digit(number / 10 % 10),
+            digit(number % 10),
         ];
         out.extend_from_slice(&digits)?;
         Ok(())
@@ -101,12 +97,11 @@ fn push_further_number(out: &mut Vec<u8>, number: u64) -> Result<(), OutOfMemory
         out.extend_from_slice(&digits)?;
         Ok(())
     } else if number < 10_000 {
-        let (first, last) = (number / 100, number % 100);
         let digits = [
-            digit(first / 10),
-            digit(first % 10),
-            digit(last / 10),
-            digit(last % 10),
+            digit(number / 1_000),
+            digit(number / 100 % 10),
+            digit(number / 10 % 10),
+            digit(number % 10),
         ];
         out.extend_from_slice(&digits)?;
         Ok(())

@@ -14,4 +14,4 @@ returns-in_ok-extend_from_slice-2-clause-ok c =
     c.in_ok-extend_from_slice-2.ensures.items
     ∙ ap (λ (l : List ℕ). c.args.out.now.items ++ l)
     (four_digits c.args.number c.digit-then-number-lt10000.result c.digit-then-number-lt10000-2.result c.digit-then-number-lt10000-3.result c.digit-then-number-lt10000-4.result (omega arith) (omega arith)
-    (omega (arith, c.digit-then-number-lt10000.ensures)) (omega (arith, c.digit-then-number-lt10000-2.ensures)) (omega (arith, c.digit-then-number-lt10000-3.ensures)) (omega (arith, c.digit-then-number-lt10000-4.ensures)))
+    c.digit-then-number-lt10000.ensures c.digit-then-number-lt10000-2.ensures c.digit-then-number-lt10000-3.ensures c.digit-then-number-lt10000-4.ensures)
