@@ -90,10 +90,6 @@ begins_number low high front size rest e range most least =
       most = omega arith;
     }
 
--- all the octets of a number in the range
-pub begins_whole : (low high : ℕ) (octets : List ℕ) (size : ℕ) → length octets ≡ size → low ≤ number octets → number octets ≤ high → BeginsNumber low high octets size
-begins_whole low high octets size sized least most = begins_number low high octets size 0 (omega arith) (omega arith) (omega arith) (omega arith)
-
 pub begins_number_only : (low high : ℕ) (front : List ℕ) (size rest : ℕ) → length front + rest ≡ size → BeginsNumber low high front size
     → (number front * 256 ^ rest ≤ high) × (low < number front * 256 ^ rest + 256 ^ rest)
 begins_number_only low high front size rest e h =
