@@ -1,17 +1,16 @@
 -- Reading the octets in front of a body, step by step.
 use Rattle.std.specs.Prelude.{◌≡◌, ℕ, ◌+◌, ◌-◌, ◌/◌, ◌%◌, ◌^◌, ◌<◌, ◌≤◌, Bool, true, Option, Some, None, List, [], ◌∷◌, ◌++◌, length, drop, slice_index, refl}
-use Rattle.std.proofs.Common.{sym, ◌∙◌, ap, subst, arith, length-drop}
+use Rattle.std.proofs.Common.{sym, ◌∙◌, ap, subst, arith}
 use Rattle.std.proofs.lemmas.List.{length-append, append-nil}
 use Rattle.bac_tag.specs.declared.refusals.Why.TheVariants.{Short, Address}
 use Rattle.bac_tag.specs.Octets.{IsOctets}
 use Rattle.bac_tag.specs.Laws.Octets.{octets_at}
 use Rattle.bac_tag.specs.HeadOctets.{bit_of, HasBit}
-use Rattle.bac_npdu.specs.declared.control.Control.{Control}
 use Rattle.bac_npdu.specs.declared.frame_heads.Addressed.{Addressed}
 use Rattle.bac_npdu.specs.Addresses.{SourceValue, DestinationValue, HasAddress}
 use Rattle.bac_npdu.specs.Frames.{is_there}
 use Rattle.bac_npdu.specs.Decoded.{IsRefused}
-use Rattle.bac_npdu.specs.HeadsRead.{from_octets, hops_octets, address_of, address_read, IsCutAddress, IsHead, IsHeadOf}
+use Rattle.bac_npdu.specs.HeadsRead.{from_octets, hops_octets, address_of, address_read, IsCutAddress, IsHead}
 use Rattle.bac_npdu.proofs.HeadRefusedLemmas.{destination_cut, source_cut, hops_cut, address_refused}
 
 -- what was read is there where it was told
@@ -71,16 +70,3 @@ address_some (Some a) r more e some = positive (length a.address.now) (λ z. som
   where
     positive : (n : ℕ) → (n ≡ 0 → ⊥) → 1 ≤ n
     positive n ne = omega (arith, ne)
-
--- version and a control octet that tells of no address are a head
-plain_is : (octets : List ℕ) (c : ℕ) → 2 ≤ length octets → slice_index octets 0 ≡ 1 → slice_index octets 1 ≡ c → c / 2 ^ 5 % 2 ≡ 0 → c / 2 ^ 3 % 2 ≡ 0
-    → IsHead octets c None None (drop 2 octets)
-plain_is [] c long one at d s = absurd (omega (arith, long))
-plain_is (x ∷ []) c long one at d s = absurd (omega (arith, long))
-plain_is (x ∷ y ∷ rest) c long one at d s =
-    record { octets_are = ap (λ (n : ℕ). n ∷ y ∷ rest) one ∙ ap (λ (n : ℕ). 1 ∷ n ∷ rest) at; destination = d; source = s; address = tt }
-
-pub plain_head_of : (octets : List ℕ) (control : Control) → 2 ≤ length octets → slice_index octets 0 ≡ 1 → slice_index octets 1 ≡ control.0 → control.0 / 2 ^ 5 % 2 ≡ 0
-    → control.0 / 2 ^ 3 % 2 ≡ 0 → IsHeadOf octets (record { control = control; destination = None; source = None; size = 2 })
-plain_head_of octets control long one at d s =
-    record { rest = drop 2 octets; is_head = plain_is octets control.0 long one at d s; size = omega (arith, length-drop 2 octets) }

@@ -13,7 +13,7 @@ use crate::addresses::Mac;
 use crate::control::Control;
 use crate::destination::Dest;
 use crate::frame::{Body, Frame};
-use crate::frame_heads::{Addressed, Head, plain_head, read_head};
+use crate::frame_heads::{Addressed, Head, read_head};
 use crate::message_decoding::decode_message;
 use crate::source::Source;
 use bac_apdu::decode_apdu_marked;
@@ -124,25 +124,13 @@ fn decode_behind(
     }
 }
 
-/// Decodes a frame with any head, and gives its mark.
-#[inline(never)]
-fn decode_headed(alloc: Global, octets: &[u8]) -> Result<(Frame, Option<usize>), Refusal>
-    ensures { IsDecoded octets.now result }
-{
-    let head = read_head(octets)?;
-    decode_behind(alloc, octets, head)
-}
-
 /// Decodes a frame, and gives its mark.
 #[inline(always)]
 fn decode_any(alloc: Global, octets: &[u8]) -> Result<(Frame, Option<usize>), Refusal>
     ensures { IsDecoded octets.now result }
 {
-    // Most frames have no address, and theirs need not be made room for.
-    match plain_head(octets) {
-        Some(head) => decode_behind(alloc, octets, head),
-        None => decode_headed(alloc, octets),
-    }
+    let head = read_head(octets)?;
+    decode_behind(alloc, octets, head)
 }
 
 /// Decodes the frame that all the octets spell, and gives the place of the first octet that differs from the canonical

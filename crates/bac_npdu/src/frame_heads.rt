@@ -132,30 +132,6 @@ pub(crate) fn read_head(octets: &[u8]) -> Result<Head<'_>, Refusal>
     })
 }
 
-/// The head that is version and control octet alone, since that tells of no address; or none where the octets begin
-/// with another one. What [`read_head`] tells of such octets is the same.
-#[inline(always)]
-pub(crate) fn plain_head(octets: &[u8]) -> Option<Head<'_>>
-    ensures { IfSome result (IsHeadOf octets.now) }
-{
-    let [version, control, ..] = octets else {
-        return None;
-    };
-    if *version != 1 {
-        return None;
-    }
-    let control = Control::from_bits_retain(*control);
-    if control.has_destination() || control.has_source() {
-        return None;
-    }
-    Some(Head {
-        control,
-        destination: None,
-        source: None,
-        size: 2,
-    })
-}
-
 /// Appends a network, a length and an address. Where memory is refused `out` may hold some of the octets.
 pub(crate) fn append_address(
     network: u16,
