@@ -1,10 +1,11 @@
 -- Which octets are accepted, in each mode, and which are canonical.
-use Rattle.std.specs.Prelude.{◌≡◌, ◌≢◌, ◌⊎◌, ℕ, List, Some}
+use Rattle.std.specs.Prelude.{◌≡◌, ◌≢◌, ◌⊎◌, ℕ, List, Option, Some, Result, IfOk, IfErr}
 use Rattle.bac_tag.specs.declared.refusals.Refusal.{Refusal}
 use Rattle.bac_tag.specs.declared.refusals.Why.TheVariants.{NotCanonical, OutOfMemory}
 use Rattle.bac_tag.specs.Octets.{IsMark}
-use Rattle.bac_tag.specs.Spelling.{IsLeast, IsWholeRefusal}
-use Rattle.bac_npdu.specs.Frames.{FrameValue, SpellsFrame}
+use Rattle.bac_tag.specs.Spelling.{IsLeast, HasMark, IsWholeRefusal}
+use Rattle.bac_npdu.specs.declared.frame.Frame.{Frame}
+use Rattle.bac_npdu.specs.Frames.{FrameValue, SpellsFrame, value_of}
 use Rattle.bac_npdu.specs.Decoded.{IsFrameReason}
 use Rattle.bac_stream.specs.declared.modes.Mode.{Mode}
 use Rattle.bac_stream.specs.declared.modes.Mode.TheVariants.{Tolerant, Strict}
@@ -39,3 +40,9 @@ IsNotCanonical octets refusal = (frame : FrameValue) × (canonical : List ℕ) �
 abbrev pub Refuses : Mode → List ℕ → Refusal → Type 0
 Refuses Tolerant octets refusal = IsHopeless octets refusal
 Refuses Strict octets refusal = IsHopeless octets refusal ⊎ IsNotCanonical octets refusal
+
+-- What the octets were decoded to: the frame that they spell and its mark, or a refusal.
+pub record IsDecodedOf (octets : List ℕ) (decoded : Result (Frame × Option ℕ) Refusal) : Type 0 where
+  pub found : IfOk decoded (λ found. SpellsFrame (value_of found.0) octets)
+  pub mark : IfOk decoded (λ found. HasMark (SpellsFrame (value_of found.0)) octets found.1)
+  pub refused : IfErr decoded (λ refusal. refusal.why ≢ OutOfMemory → IsHopeless octets refusal)

@@ -8,7 +8,7 @@ ghost use Rattle.bac_record.specs.Records.{Records};
 ghost use Rattle.bac_record.specs.Runs.{RanThrough, RunCounts, Stopped};
 ghost use Rattle.bac_record.specs.Files.{RunsOver};
 
-use crate::judging::judge;
+use crate::judging::{decode, judge};
 use crate::lines::Line;
 use crate::{Input, Mode, Output, RunFault, Summary};
 use bac_record::{DealFault, Dealt, Job, run};
@@ -32,7 +32,8 @@ fn mark_of(alloc: Global, mode: Mode, octets: &[u8]) -> Result<Option<usize>, De
     ensures fault { IfErr result (DealFails (Refuses mode octets.now)) }
     ensures refused { IfErr result (DealFails (λ _. IsRefused mode octets.now)) }
 {
-    let judged = judge(alloc, mode, octets)?;
+    let decoded = decode(alloc, octets);
+    let judged = judge(mode, octets, &decoded)?;
     Ok(judged.mark)
 }
 

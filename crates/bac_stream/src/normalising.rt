@@ -10,7 +10,7 @@ ghost use Rattle.bac_record.specs.Records.{Records, IsRecord, record_of};
 ghost use Rattle.bac_record.specs.Runs.{RanThrough, RunCounts, Stopped};
 ghost use Rattle.bac_record.specs.Files.{RunsOver};
 
-use crate::judging::judge;
+use crate::judging::{decode, judge};
 use crate::{Input, Mode, Output, RunFault, Summary};
 use bac_npdu::{Frame, append_frame};
 use bac_record::{DealFault, Dealt, Job, run};
@@ -89,8 +89,9 @@ impl Job for Normalise {
     ghost is_refused = { λ normalise. IsRefused normalise.mode };
 
     fn deal(&self, _number: u32, octets: &[u8], out: &mut Vec<u8>) -> Result<Dealt, DealFault> {
-        let judged = judge(self.alloc, self.mode, octets)?;
-        push_canonical(&judged.frame, judged.mark, octets, out)?;
+        let decoded = decode(self.alloc, octets);
+        let judged = judge(self.mode, octets, &decoded)?;
+        push_canonical(judged.frame, judged.mark, octets, out)?;
         Ok(Dealt::accepted(judged.mark))
     }
 }

@@ -7,7 +7,7 @@ ghost use Rattle.bac_record.specs.Records.{Records};
 ghost use Rattle.bac_record.specs.Runs.{RanThrough, RunCounts, Stopped};
 ghost use Rattle.bac_record.specs.Files.{RunsOver};
 
-use crate::judging::judge;
+use crate::judging::{decode, judge};
 use crate::lines::Line;
 use crate::{Input, Mode, Output, RunFault, Summary};
 use bac_record::{DealFault, Dealt, Job, run};
@@ -30,7 +30,8 @@ impl Job for Show {
     ghost is_refused = { λ show. IsRefused show.mode };
 
     fn deal(&self, number: u32, octets: &[u8], out: &mut Vec<u8>) -> Result<Dealt, DealFault> {
-        let judged = match judge(self.alloc, self.mode, octets) {
+        let decoded = decode(self.alloc, octets);
+        let judged = match judge(self.mode, octets, &decoded) {
             Ok(judged) => judged,
             Err(DealFault::Stop(refusal)) => {
                 Line::Refused(refusal).push(number, out)?;
@@ -38,7 +39,7 @@ impl Job for Show {
             }
             Err(DealFault::Memory) => return Err(DealFault::Memory),
         };
-        Line::Shown(&judged.frame).push(number, out)?;
+        Line::Shown(judged.frame).push(number, out)?;
         Ok(Dealt::accepted(judged.mark))
     }
 }

@@ -15,5 +15,5 @@ returns-in-Err-Stop-clause-dealt c =
 pub returns-clause-dealt : goal.returns-clause-dealt
 returns-clause-dealt c =
     let judged = c.in-Ok.judged in
-    shown_dealt c.args.self.now.mode c.args.number c.args.octets.now c.args.out.now.items c.push-2.new.out.items c.accepted.result (value_of judged.frame) judged.mark
+    shown_dealt c.args.self.now.mode c.args.number c.args.octets.now c.args.out.now.items c.push-2.new.out.items c.accepted.result (value_of judged.frame.now) judged.mark
     c.in-Ok.ensures.accepted c.in-Ok.ensures.canonical c.in_ok-push.ensures.ok c.accepted.ensures.canonical c.accepted.ensures.accepted
