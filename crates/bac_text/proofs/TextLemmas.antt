@@ -2,11 +2,12 @@
 use Rattle.std.proofs.Common.{◌≡◌, ℕ, ◌+◌, ◌<◌, List, [], ◌∷◌, ◌++◌, length, take, get_or, map, refl, sym, ap, ◌∙◌, append_assoc, append-nil, arith}
 use Rattle.std.proofs.lemmas.List.{take_more, map-append}
 use Rattle.std.proofs.lemmas.List.FromFn.{map-range_with_len_more}
-use Rattle.std.specs.Prelude.{codes, Result, Ok, Err, OnOk, OnErr}
+use Rattle.std.specs.Prelude.{Bool, true, false, codes, Result, Ok, Err, OnOk, OnErr}
+use Rattle.std.specs.Int.{from_bool}
 use Rattle.std.specs.List.{flat_map}
 use Rattle.bac_tag.specs.Octets.{Extends}
 use Rattle.bac_value.specs.BitsContents.{bits_in, bit_in}
-use Rattle.bac_text.specs.Words.{listed}
+use Rattle.bac_text.specs.Words.{truth, listed}
 use Rattle.bac_text.specs.PrimitiveText.{bit_digit}
 
 -- two texts, one behind the other
@@ -22,6 +23,11 @@ appended_last (Err x) old mid new a b p q = tt
 pub same_text : {T E : Type 0} (r : Result T E) (old new a b : List ℕ) → a ≡ b → OnOk r (new ≡ old ++ a) → OnOk r (new ≡ old ++ b)
 same_text (Ok x) old new a b e q = q ∙ ap (λ l. old ++ l) e
 same_text (Err x) old new a b e q = tt
+
+-- the digit of a truth
+pub truth_digit : (value : Bool) → truth value ≡ (48 + from_bool value) ∷ []
+truth_digit true = refl
+truth_digit false = refl
 
 -- ---- what is left where memory is refused
 

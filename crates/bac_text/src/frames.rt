@@ -1,9 +1,10 @@
 //! The text of frames.
 
-ghost use Rattle.std.specs.Prelude.{◌≡◌, ◌++◌, OnOk, OnErr};
+ghost use Rattle.std.specs.Prelude.{◌≡◌, ◌++◌, ◌<◌, OnOk, OnErr};
 ghost use Rattle.bac_tag.specs.Octets.{Extends};
 ghost use Rattle.bac_npdu.specs.Frames.{value_of};
 ghost use Rattle.bac_text.specs.FrameText.{address_text, text};
+ghost use Rattle.bac_text.specs.Words.{field, number, truth};
 
 use crate::scalars::push_octets;
 use crate::texts::{HasText, push_field, push_optional};
@@ -21,6 +22,20 @@ fn push_address(out: &mut Vec<u8>, octets: &[u8]) -> Result<(), OutOfMemory>
         return Ok(());
     }
     push_hexadecimal(out, octets)
+}
+
+/// Appends `prio=P reply=R`, with which every line begins, at once.
+#[inline(always)]
+fn push_control(out: &mut Vec<u8>, priority: u8, reply: bool) -> Result<(), OutOfMemory>
+    requires { priority < 10 }
+    ensures ok { OnOk result (out.new.items ≡ out.old.items ++ (field "prio=" (number priority) ++ field " reply=" (truth reply))) }
+    ensures err { OnErr result (Extends out.old.items out.new.items) }
+{
+    let mut text = *b"prio=P reply=R";
+    text[5] = b'0' + priority;
+    text[13] = b'0' + u8::from(reply);
+    out.extend_from_slice(&text)?;
+    Ok(())
 }
 
 /// `NET/HEX hops=H`, with `*` for an address without octets.
@@ -71,8 +86,7 @@ impl HasText for Frame {
     ghost text = { λ frame. frame_text (value_of frame) };
 
     fn push_text(&self, out: &mut Vec<u8>) -> Result<(), OutOfMemory> {
-        push_field(out, b"prio=", &self.priority.number())?;
-        push_field(out, b" reply=", &self.reply)?;
+        push_control(out, self.priority.number(), self.reply)?;
         push_optional(out, b" dest=", &self.dest)?;
         push_optional(out, b" src=", &self.source)?;
         push_field(out, b" ", &self.body)

@@ -1,12 +1,27 @@
 //! The text of requests.
 
-ghost use Rattle.std.specs.Prelude.{◌≡◌, ◌++◌, OnOk, OnErr};
+ghost use Rattle.std.specs.Prelude.{◌≡◌, ◌++◌, ◌<◌, OnOk, OnErr};
 ghost use Rattle.bac_tag.specs.Octets.{Extends};
 ghost use Rattle.bac_text.specs.RequestText.{request_head_text};
+ghost use Rattle.bac_text.specs.Words.{field, number, truth};
 
 use crate::texts::{HasText, push_field};
 use bac_apdu::{ConfirmedRequest, RequestHead, UnconfirmedRequest};
 use bac_tag::OutOfMemory;
+
+/// Appends ` sa=A segs=S` at once.
+#[inline(always)]
+fn push_segments(out: &mut Vec<u8>, sa: bool, segs: u8) -> Result<(), OutOfMemory>
+    requires { segs < 10 }
+    ensures ok { OnOk result (out.new.items ≡ out.old.items ++ (field " sa=" (truth sa) ++ field " segs=" (number segs))) }
+    ensures err { OnErr result (Extends out.old.items out.new.items) }
+{
+    let mut text = *b" sa=A segs=S";
+    text[4] = b'0' + u8::from(sa);
+    text[11] = b'0' + segs;
+    out.extend_from_slice(&text)?;
+    Ok(())
+}
 
 /// Appends a name, and `I sa=A segs=S resp=M` of the head of a request with invoke id I.
 #[inline(always)]
@@ -19,8 +34,7 @@ pub(crate) fn push_request_head(
     ensures err { OnErr result (Extends out.old.items out.new.items) }
 {
     push_field(out, name, &head.invoke)?;
-    push_field(out, b" sa=", &head.sa)?;
-    push_field(out, b" segs=", &head.segs.number())?;
+    push_segments(out, head.sa, head.segs.number())?;
     push_field(out, b" resp=", &head.resp.number())
 }
 
