@@ -15,7 +15,7 @@ use std::alloc::Global;
 pub(crate) const MOST_OCTETS: usize = 65_535;
 
 /// For how many octets there is room at first.
-const SHORT: usize = 4_096;
+const FIRST_ROOM: usize = 4_096;
 
 /// How many numbers there are.
 const NUMBERS: usize = 256;
@@ -70,7 +70,11 @@ fn is_repeat(piece: &[u8], more: bool, segment: &Segment) -> bool
 fn grow(octets: &mut Vec<u8>, wanted: usize) -> Result<(), OutOfMemory>
     ensures { octets.new.items ≡ octets.old.items }
 {
-    let room = if wanted <= SHORT { SHORT } else { MOST_OCTETS };
+    let room = if wanted <= FIRST_ROOM {
+        FIRST_ROOM
+    } else {
+        MOST_OCTETS
+    };
     octets.reserve_exact(room.max(wanted).saturating_sub(octets.as_slice().len()))?;
     Ok(())
 }
