@@ -45,7 +45,7 @@ counted count = record { why = 0; place = 0; count = count }
 
 -- memory was refused
 abbrev pub without_memory : Outcome
-without_memory = record { why = 12; place = 0; count = 0 }
+without_memory = record { why = number_of OutOfMemory; place = 0; count = 0 }
 
 -- ---- refusals
 
