@@ -2,7 +2,8 @@
 #   make         proves and builds the program, and leaves it in bin/bactool
 #   make test    the checks of the documents, then the merge gate: every proof from nothing, every test
 #   make check   proves what changed since the last check, while editing
-#   make bench   measures the program on a million records, and values, services and APDUs of the library
+#   make bench   measures the program on a million records, the calls from C on the same, and values, services and APDUs
+#                of the library
 #   make memory  runs the library's tests and the program with each allocation refused in turn (by hand: it takes
 #                three quarters of an hour)
 #   make wrong-bodies  tries the wrong bodies that the gate leaves out (by hand: it takes an hour and more)
@@ -31,6 +32,7 @@ bench: build
 	@echo "bactool: proving and building the measurement into bin/bac_bench (minutes the first time, seconds after that)"
 	@cd crates/bac_bench && rt run > /dev/null
 	@cp crates/bac_bench/out/bac_bench bin/bac_bench
+	@$(MAKE) --no-print-directory lib || echo "bactool: there is no library for C, so its column is left out"
 	@scripts/bench
 
 memory: need-rt
