@@ -92,6 +92,9 @@ pub(crate) fn significant_of_four(octets: &[u8]) -> &[u8]
 pub fn written_number_len(number: u64) -> usize
     ensures { result ≡ length (least_number number) }
 {
+    if number < 256 {
+        return 1;
+    }
     significant(&number.to_be_bytes()).len()
 }
 
@@ -126,6 +129,11 @@ pub fn write_number(number: u64, out: &mut Vec<u8>) -> Result<(), OutOfMemory>
     ensures ok { OnOk result (out.new.items ≡ out.old.items ++ least_number number) }
     ensures err { OnErr result (out.new.items ≡ out.old.items) }
 {
+    // Most numbers have one octet.
+    if number < 256 {
+        out.push(number as u8)?;
+        return Ok(());
+    }
     out.extend_from_slice(significant(&number.to_be_bytes()))?;
     Ok(())
 }

@@ -192,3 +192,7 @@ module _ {V : Type 0} (low high : ℕ) (number_of : V → ℕ) (value_of : ℕ �
 
 pub written_if : (n : ℕ) (octets : List ℕ) → IsOctets octets → HasNumberLength (length octets) → number octets ≡ n → (1 < length octets → 0 < get_or octets 0 0) → octets ≡ least_number n
 written_if n octets p sized is first = least_number_is n octets (record { are_octets = p; sized = sized; is = is }) first
+
+-- a number of one octet
+pub written_in_one : (n : ℕ) → n < 256 → least_number n ≡ n ∷ []
+written_in_one n small = sym (written_if n (n ∷ []) (small, tt) (omega arith) (omega arith) (λ two. absurd (omega (arith, two))))
