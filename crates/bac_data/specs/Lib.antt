@@ -7,7 +7,6 @@ pub mod Endings
 pub mod Walks
 pub mod Building
 pub mod Adding
-pub mod Writing
 pub mod Refusals
 pub mod Under
 pub mod Reading

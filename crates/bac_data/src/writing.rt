@@ -2,30 +2,18 @@
 
 ghost use Rattle.std.specs.Prelude.{◌≡◌, ◌≤◌, length, OnOk, OnErr};
 ghost use Rattle.std.specs.List.{AllByRecursion};
-ghost use Rattle.bac_tag.specs.Spelling.{IsLeast};
-ghost use Rattle.bac_tag.specs.Heads.{IsValid, Heads};
+ghost use Rattle.bac_tag.specs.Spelling.{AppendsLeast};
 ghost use Rattle.bac_value.specs.PrimContents.{IsWrittenOf};
 ghost use Rattle.bac_value.specs.PrimOfContents.{prim_of_contents};
 ghost use Rattle.bac_data.specs.Spells.{SpellsPrimitive, SpellsOpen};
 ghost use Rattle.bac_data.specs.Events.{SpellsEvent, SpellsEvents};
 ghost use Rattle.bac_data.specs.Nodes.{node_event, nodes_events, IsWithin, IsNode};
 ghost use Rattle.bac_tag.specs.Octets.{Extends};
-ghost use Rattle.bac_data.specs.Writing.{Appends};
 
 use crate::nodes::Node;
 use crate::open_value::Any;
-use bac_tag::{OutOfMemory, TagHead, write_head};
-
-/// Appends a head. Where memory is refused nothing is appended.
-#[inline(always)]
-fn append_head(head: TagHead, out: &mut Vec<u8>) -> Result<(), OutOfMemory>
-    requires { IsValid head }
-    ensures ok { OnOk result (Appends (IsLeast (Heads head)) out.old.items out.new.items) }
-    ensures err { OnErr result (out.new.items ≡ out.old.items) }
-{
-    out.extend_from_slice(write_head(head).as_slice())?;
-    Ok(())
-}
+use bac_tag::layers::append_head;
+use bac_tag::{OutOfMemory, TagHead};
 
 /// Appends an application primitive by its number and its written contents. Where memory is refused some
 /// octets may be there.
@@ -33,7 +21,7 @@ fn append_head(head: TagHead, out: &mut Vec<u8>) -> Result<(), OutOfMemory>
 fn append_primitive(number: u8, contents: &[u8], out: &mut Vec<u8>) -> Result<(), OutOfMemory>
     requires number { number ≤ 12 }
     requires contents { IsWrittenOf number contents.now }
-    ensures ok { OnOk result (Appends (IsLeast (SpellsPrimitive (prim_of_contents number contents.now))) out.old.items out.new.items) }
+    ensures ok { OnOk result (AppendsLeast (SpellsPrimitive (prim_of_contents number contents.now)) out.old.items out.new.items) }
     ensures err { OnErr result (Extends out.old.items out.new.items) }
 {
     if number == 1 {
@@ -50,7 +38,7 @@ fn append_primitive(number: u8, contents: &[u8], out: &mut Vec<u8>) -> Result<()
 fn append_node(octets: &[u8], node: Node, out: &mut Vec<u8>) -> Result<(), OutOfMemory>
     requires within { IsWithin (length octets.now) node }
     requires node { IsNode octets.now node }
-    ensures ok { OnOk result (Appends (IsLeast (SpellsEvent (node_event octets.now node))) out.old.items out.new.items) }
+    ensures ok { OnOk result (AppendsLeast (SpellsEvent (node_event octets.now node)) out.old.items out.new.items) }
     ensures err { OnErr result (Extends out.old.items out.new.items) }
 {
     match node {
@@ -74,7 +62,7 @@ fn append_node(octets: &[u8], node: Node, out: &mut Vec<u8>) -> Result<(), OutOf
 fn append_nodes(octets: &[u8], nodes: &[Node], out: &mut Vec<u8>) -> Result<(), OutOfMemory>
     requires within { AllByRecursion (IsWithin (length octets.now)) nodes.now }
     requires nodes { AllByRecursion (IsNode octets.now) nodes.now }
-    ensures ok { OnOk result (Appends (IsLeast (SpellsEvents (nodes_events octets.now nodes.now))) out.old.items out.new.items) }
+    ensures ok { OnOk result (AppendsLeast (SpellsEvents (nodes_events octets.now nodes.now)) out.old.items out.new.items) }
     ensures err { OnErr result (Extends out.old.items out.new.items) }
 {
     for node in nodes {
@@ -96,7 +84,7 @@ fn room_for(octets: &[u8], nodes: &[Node]) -> usize {
 #[inline]
 fn append_any(value: &Any, number: u8, out: &mut Vec<u8>) -> Result<(), OutOfMemory>
     requires { number ≤ 254 }
-    ensures ok { OnOk result (Appends (IsLeast (SpellsOpen 32 number value.now)) out.old.items out.new.items) }
+    ensures ok { OnOk result (AppendsLeast (SpellsOpen 32 number value.now) out.old.items out.new.items) }
     ensures err { OnErr result (Extends out.old.items out.new.items) }
 {
     let (octets, nodes) = value.parts();
@@ -126,7 +114,7 @@ fn append_any(value: &Any, number: u8, out: &mut Vec<u8>) -> Result<(), OutOfMem
 /// ```
 pub fn write_any(value: &Any, number: u8, out: &mut Vec<u8>) -> Result<(), OutOfMemory>
     requires { number ≤ 254 }
-    ensures ok { OnOk result (Appends (IsLeast (SpellsOpen 32 number value.now)) out.old.items out.new.items) }
+    ensures ok { OnOk result (AppendsLeast (SpellsOpen 32 number value.now) out.old.items out.new.items) }
     ensures err { OnErr result (out.new.items ≡ out.old.items) }
 {
     let start = out.len();

@@ -1,6 +1,8 @@
-//! For the layers above, and for whoever writes a reader of octets: heads among those that may stand at a place, heads
-//! of one octet, marks of parts, and numbers. A program that handles whole messages needs none of it.
+//! For the layers above, and for whoever reads or writes octets itself: heads among those that may stand at a place,
+//! heads of one octet, heads appended, marks of parts, and numbers. A program that handles whole messages needs none
+//! of it.
 
+pub use crate::appending::append_head;
 pub use crate::expecting::Expected;
 pub use crate::marks::{first_difference, joined_marks, mark_head, mark_read_head};
 pub use crate::numbers::{first_hopeless, number_of, number_within};

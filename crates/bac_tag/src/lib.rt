@@ -10,10 +10,11 @@
 //! - A [`Refusal`] has a reason, and the offset of the first octet with which no accepted input begins: the octets
 //!   in front of it begin one, and with it they begin none.
 //!
-//! Offsets are counted in octets from 0. Nothing here takes memory. What only the layers above call stands in
-//! [`layers`]. In the examples `rt` is the program's `HostRuntime`.
+//! Offsets are counted in octets from 0. Nothing here takes memory but the vector that heads are appended to. What only
+//! the layers above call stands in [`layers`]. In the examples `rt` is the program's `HostRuntime`.
 #![tactic(auto)]
 
+mod appending;
 mod expecting;
 mod heads;
 pub mod laws;

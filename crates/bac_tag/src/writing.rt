@@ -2,7 +2,7 @@
 
 ghost use Rattle.std.specs.Prelude.{◌≡◌, ◌+◌, ◌*◌, ◌^◌, ◌<◌, List, ℕ, length, slice_index};
 ghost use Rattle.bac_tag.specs.Spelling.{IsLeast};
-ghost use Rattle.bac_tag.specs.Heads.{IsValid, Heads, class_bit, nibble_of, number_octets, lvt_of, length_octets};
+ghost use Rattle.bac_tag.specs.Heads.{IsValid, LengthFits, Heads, class_bit, nibble_of, number_octets, lvt_of, length_octets};
 ghost use Rattle.bac_tag.specs.Writing.{number_form, length_form, narrow_opening, narrow_head};
 
 use crate::TagHead;
@@ -154,6 +154,7 @@ fn narrow_initial(context: bool, number: u8, lvt: u8) -> u8
 fn length_lvt(len: u32) -> u8
     ensures lvt { result ≡ lvt_of (length_form len) len }
     ensures small { result < 8 }
+    ensures fits { len < 2 ^ 32 }
 {
     if len < 5 { len as u8 } else { 5 }
 }
@@ -162,7 +163,8 @@ fn length_lvt(len: u32) -> u8
 #[inline(always)]
 pub(crate) fn first_octet(head: TagHead) -> u8
     requires { IsValid head }
-    ensures { (b : List ℕ) → IsLeast (Heads head) b → slice_index b 0 ≡ result }
+    ensures first { (b : List ℕ) → IsLeast (Heads head) b → slice_index b 0 ≡ result }
+    ensures fits { LengthFits head }
 {
     match head {
         TagHead::App { number, len } => narrow_initial(false, number, length_lvt(len)),

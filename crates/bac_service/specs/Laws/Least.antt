@@ -5,7 +5,6 @@ use Rattle.std.proofs.lemmas.List.{append-nil, length-take-le}
 use Rattle.bac_tag.specs.Octets.{NoGreater, joined_mark}
 use Rattle.bac_tag.specs.Laws.Octets.{NoGreater-append, NoGreater-same, mark-append}
 use Rattle.bac_tag.specs.Spelling.{IsLeast, Joins, HasMark, AppendsLeast}
-use Rattle.bac_data.specs.Writing.{Appends}
 use Rattle.bac_service.specs.Productions.{Items}
 use Rattle.bac_service.specs.Laws.Longest.{take_add}
 
@@ -59,9 +58,6 @@ least_item S vs v L M = least_alike (items_alike S vs v) (least_joined L M)
 
 pub appends_joined : {P Q : List ℕ → Type 0} {a b c : List ℕ} → AppendsLeast P a b → AppendsLeast Q b c → AppendsLeast (Joins P Q) a c
 appends_joined {P} {Q} {a} L M = record { more = L.more ++ M.more; is_least = least_joined L.is_least M.is_least; new_is = M.new_is ∙ ap (λ (l : List ℕ). l ++ M.more) L.new_is ∙ append_assoc a L.more M.more }
-
-pub appends_least : {P : List ℕ → Type 0} {a b : List ℕ} → Appends (IsLeast P) a b → AppendsLeast P a b
-appends_least h = record { more = h.0; is_least = h.1; new_is = h.2 }
 
 pub appends_nothing : (a : List ℕ) → AppendsLeast (λ (l : List ℕ). l ≡ []) a a
 appends_nothing a = record { more = []; is_least = least_nothing; new_is = sym (append-nil a) }

@@ -1,6 +1,6 @@
 //! Fields of a production: contents under a head (clause 21).
 
-ghost use Rattle.std.specs.Prelude.{◌≡◌, ◌≢◌, ◌↔◌, ◌≤◌, ◌&&◌, ◌∷◌, ◌++◌, ◌^◌, [], false, not, nat_le, nat_eq, Some, None, Err, IsTrue, IfSome, IfOk, IfErr, OnOk, length, take};
+ghost use Rattle.std.specs.Prelude.{◌≡◌, ◌↔◌, ◌≤◌, ◌&&◌, ◌∷◌, ◌++◌, [], false, not, nat_le, nat_eq, Some, None, Err, IsTrue, IfSome, IfOk, IfErr, OnOk, length, take};
 ghost use Rattle.bac_tag.specs.Heads.{Heads};
 ghost use Rattle.bac_tag.specs.Short.{BeginsShort};
 ghost use Rattle.bac_tag.specs.Spelling.{IsRefusal, Takes, HasMark, AppendsLeast};
@@ -15,8 +15,10 @@ ghost use Rattle.bac_service.specs.ReadFaults.{IfRefused, EndsOrGoesOn};
 ghost use Rattle.bac_service.specs.Laws.HasLeast.{field_least};
 
 use crate::production::{Front, Production, ReadFault, complete_at};
-use bac_tag::layers::{Expected, joined_marks, mark_read_head, read_expected, short_len};
-use bac_tag::{OutOfMemory, Refusal, TagHead, Why, write_head};
+use bac_tag::layers::{
+    Expected, append_head, joined_marks, mark_read_head, read_expected, short_len,
+};
+use bac_tag::{OutOfMemory, TagHead, Why};
 use bac_value::Primitive;
 use std::alloc::Global;
 
@@ -208,7 +210,7 @@ fn write_field<T: Primitive>(
     ensures kept { Extends out.old.items out.new.items }
 {
     let len = value.written_len() as u32;
-    out.extend_from_slice(write_head(head_of::<T>(context, len)).as_slice())?;
+    append_head(head_of::<T>(context, len), out)?;
     value.write(out)
 }
 

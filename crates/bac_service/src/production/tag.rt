@@ -9,9 +9,9 @@ ghost use Rattle.bac_service.specs.Laws.HasLeast.{tag_least};
 
 use crate::production::{Front, Production, ReadFault, complete_at};
 use bac_tag::layers::{
-    Expected, is_short_closing, is_short_opening, mark_read_head, read_expected,
+    Expected, append_head, is_short_closing, is_short_opening, mark_read_head, read_expected,
 };
-use bac_tag::{OutOfMemory, TagHead, write_head};
+use bac_tag::{OutOfMemory, TagHead};
 use std::alloc::Global;
 
 /// An opening tag.
@@ -62,8 +62,7 @@ impl<const N: u8> Production for Opening<N> {
 
     #[inline(always)]
     fn write(&self, out: &mut Vec<u8>) -> Result<(), OutOfMemory> {
-        out.extend_from_slice(write_head(TagHead::Open(N)).as_slice())?;
-        Ok(())
+        append_head(TagHead::Open(N), out)
     }
 
     ghost lawful = { λ sound. head_lawful (Open N) };
@@ -113,8 +112,7 @@ impl<const N: u8> Production for Closing<N> {
 
     #[inline(always)]
     fn write(&self, out: &mut Vec<u8>) -> Result<(), OutOfMemory> {
-        out.extend_from_slice(write_head(TagHead::Close(N)).as_slice())?;
-        Ok(())
+        append_head(TagHead::Close(N), out)
     }
 
     ghost lawful = { λ sound. head_lawful (Close N) };

@@ -4,7 +4,7 @@ ghost use Rattle.bac_tag.specs.Expected.{IsSound};
 
 use bac_tables::{Row, octets_of, rows_of};
 use bac_tag::layers::{
-    Expected, first_difference, first_hopeless, mark_head, mark_read_head, number_of,
+    Expected, append_head, first_difference, first_hopeless, mark_head, mark_read_head, number_of,
     number_within, read_expected, read_one_of,
 };
 use bac_tag::{OutOfMemory, Refusal, TagHead, Why, head_len, laws, read_head, write_head};
@@ -160,6 +160,21 @@ fn are_canonical(rt: &impl Abort, alloc: Global, table: &str) -> Result<(), Fail
         assert_eq!(rt; write_head(head).as_slice(), octets.as_slice());
         assert_eq!(rt; head_len(head), taken, "{head:?}");
     }
+    Ok(())
+}
+
+#[test]
+fn appends_heads(rt: HostRuntime) -> Result<(), Fail> {
+    let mut out = Vec::new(rt.alloc());
+    append_head(TagHead::Open(3), &mut out)?;
+    let head = TagHead::Ctx {
+        number: 15,
+        len: 300,
+    };
+    append_head(head, &mut out)?;
+    append_head(TagHead::AppBool(true), &mut out)?;
+    let octets = [0x3E, 0xFD, 0x0F, 0xFE, 0x01, 0x2C, 0x11];
+    assert_eq!(rt; out.as_slice(), octets.as_slice());
     Ok(())
 }
 

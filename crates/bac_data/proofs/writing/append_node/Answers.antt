@@ -15,20 +15,21 @@ least_for octets node other b e h = subst (λ (n : Node). IsLeast (SpellsEvent (
 
 pub returns-in-Application-clause-ok : goal.returns-in-Application-clause-ok
 returns-in-Application-clause-ok c =
-    on_ok c.append_primitive.result c.append_primitive.ensures.ok (λ a. (a.0, least_for c.args.octets.now c.args.node _ a.0 c.in-Application.is a.1, a.2))
+    on_ok c.append_primitive.result c.append_primitive.ensures.ok (λ a. record { more = a.more; is_least = least_for c.args.octets.now c.args.node _ a.more c.in-Application.is a.is_least; new_is = a.new_is })
 
 pub returns-in_ok-extend_from_slice-in-Context-clause-ok : goal.returns-in_ok-extend_from_slice-in-Context-clause-ok
 returns-in_ok-extend_from_slice-in-Context-clause-ok c =
     let a = c.in_ok-append_head-in-Context.ensures.ok in
     let is : IsNode c.args.octets.now (Context c.in-Context.number c.in-Context.start c.in-Context.end) = subst (IsNode c.args.octets.now) c.in-Context.is c.requires.node in
-    let contents = slice_range c.args.octets.now c.in-Context.start c.in-Context.end in (
-      a.0 ++ contents,
-      least_for c.args.octets.now c.args.node _ (a.0 ++ contents) c.in-Context.is (least_context c.in-Context.number contents a.0 is.1 a.1),
-      c.in_ok-extend_from_slice-in-Context.ensures.items ∙ ap (λ (l : List ℕ). l ++ contents) a.2 ∙ append_assoc c.args.out.now.items a.0 contents,
-    )
+    let contents = slice_range c.args.octets.now c.in-Context.start c.in-Context.end in
+    record {
+      more = a.more ++ contents;
+      is_least = least_for c.args.octets.now c.args.node _ (a.more ++ contents) c.in-Context.is (least_context c.in-Context.number contents a.more is.1 a.is_least);
+      new_is = c.in_ok-extend_from_slice-in-Context.ensures.items ∙ ap (λ (l : List ℕ). l ++ contents) a.new_is ∙ append_assoc c.args.out.now.items a.more contents;
+    }
 
 pub returns-in-Open-clause-ok : goal.returns-in-Open-clause-ok
-returns-in-Open-clause-ok c = on_ok c.append_head-in-Open.result c.append_head-in-Open.ensures.ok (λ a. (a.0, least_for c.args.octets.now c.args.node _ a.0 c.in-Open.is a.1, a.2))
+returns-in-Open-clause-ok c = on_ok c.append_head-in-Open.result c.append_head-in-Open.ensures.ok (λ a. record { more = a.more; is_least = least_for c.args.octets.now c.args.node _ a.more c.in-Open.is a.is_least; new_is = a.new_is })
 
 pub returns-in-Close-clause-ok : goal.returns-in-Close-clause-ok
-returns-in-Close-clause-ok c = on_ok c.append_head-in-Close.result c.append_head-in-Close.ensures.ok (λ a. (a.0, least_for c.args.octets.now c.args.node _ a.0 c.in-Close.is a.1, a.2))
+returns-in-Close-clause-ok c = on_ok c.append_head-in-Close.result c.append_head-in-Close.ensures.ok (λ a. record { more = a.more; is_least = least_for c.args.octets.now c.args.node _ a.more c.in-Close.is a.is_least; new_is = a.new_is })

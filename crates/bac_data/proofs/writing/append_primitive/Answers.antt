@@ -10,16 +10,20 @@ use Rattle.bac_data.proofs.writing.append_primitive.Goals as goal
 pub returns-then-number-eq1-clause-ok : goal.returns-then-number-eq1-clause-ok
 returns-then-number-eq1-clause-ok c =
     let w : IsWrittenOf 1 c.args.contents.now = subst (λ (n : ℕ). IsWrittenOf n c.args.contents.now) c.if-number-eq1.true c.requires.contents in
-    on_ok c.append_head.result c.append_head.ensures.ok (λ a.
-    (a.0, subst (λ (n : ℕ). IsLeast (SpellsPrimitive (prim_of_contents n c.args.contents.now)) a.0) (sym c.if-number-eq1.true) (least_boolean c.args.contents.now a.0 w a.1), a.2))
+    on_ok c.append_head.result c.append_head.ensures.ok (λ a. record {
+      more = a.more;
+      is_least = subst (λ (n : ℕ). IsLeast (SpellsPrimitive (prim_of_contents n c.args.contents.now)) a.more) (sym c.if-number-eq1.true) (least_boolean c.args.contents.now a.more w a.is_least);
+      new_is = a.new_is;
+    })
 
 pub overflow_cast-len : goal.overflow_cast-len
 overflow_cast-len c = let limit = written_limit c.args.number c.args.contents.now c.requires.contents in omega (arith, limit)
 
 pub returns-clause-ok : goal.returns-clause-ok
 returns-clause-ok c =
-    let a = c.in_ok-append_head.ensures.ok in (
-      a.0 ++ c.args.contents.now,
-      least_application c.args.number c.args.contents.now a.0 c.if-number-eq1.false c.requires.contents a.1,
-      c.in_ok-extend_from_slice.ensures.items ∙ ap (λ (l : List ℕ). l ++ c.args.contents.now) a.2 ∙ append_assoc c.args.out.now.items a.0 c.args.contents.now,
-    )
+    let a = c.in_ok-append_head.ensures.ok in
+    record {
+      more = a.more ++ c.args.contents.now;
+      is_least = least_application c.args.number c.args.contents.now a.more c.if-number-eq1.false c.requires.contents a.is_least;
+      new_is = c.in_ok-extend_from_slice.ensures.items ∙ ap (λ (l : List ℕ). l ++ c.args.contents.now) a.new_is ∙ append_assoc c.args.out.now.items a.more c.args.contents.now;
+    }

@@ -12,5 +12,6 @@ returns-clause-ok g c =
     let laws = g.met.T.Primitive in
     let w = g.T.Primitive.written c.args.value.now in
     let head : c.head_of.result ≡ heading c.args.context g.T.Primitive.APP (length w) = c.head_of.ensures ∙ ap (heading c.args.context g.T.Primitive.APP) c.written_len-len.ensures.len in
-    on_ok_weaker c.write.result (λ e. appends_field g.T.Primitive.contents c.args.context g.T.Primitive.APP c.args.value.now w c.write_head.result.items _ _ _ (laws.written_contents c.args.value.now c.written_len-len.ensures.value) (laws.written_least c.args.value.now)
-    (subst (λ (h : TagHead). IsLeast (Heads h) c.write_head.result.items) head c.write_head.ensures) (rw c.as_slice.ensures.value at c.in_ok-extend_from_slice.ensures.items) e) c.write.ensures.ok
+    let a = c.in_ok-append_head.ensures.ok in
+    on_ok_weaker c.write.result (λ e. appends_field g.T.Primitive.contents c.args.context g.T.Primitive.APP c.args.value.now w a.more _ _ _ (laws.written_contents c.args.value.now c.written_len-len.ensures.value) (laws.written_least c.args.value.now)
+    (subst (λ (h : TagHead). IsLeast (Heads h) a.more) head a.is_least) a.new_is e) c.write.ensures.ok
