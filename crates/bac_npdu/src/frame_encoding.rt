@@ -17,6 +17,9 @@ use bac_tag::OutOfMemory;
 use bitflags::Flags;
 use std::alloc::Global;
 
+/// For how many octets there is room at first, as most frames want.
+const FIRST_ROOM: usize = 64;
+
 /// The canonical control octet of a frame.
 fn control_of(frame: &Frame) -> Control
     ensures value { result.0 ≡ least_of (control_said (value_of frame.now)) }
@@ -92,7 +95,7 @@ pub fn append_frame(frame: &Frame, out: &mut Vec<u8>) -> Result<(), OutOfMemory>
 pub fn encode_frame(alloc: Global, frame: &Frame) -> Result<Vec<u8>, OutOfMemory>
     ensures { IfOk result (λ out. IsLeast (SpellsFrame (value_of frame.now)) out.items) }
 {
-    let mut out = Vec::new(alloc);
+    let mut out = Vec::with_capacity(alloc, FIRST_ROOM)?;
     append_frame(frame, &mut out)?;
     Ok(out)
 }

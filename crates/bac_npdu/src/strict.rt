@@ -1,16 +1,16 @@
 //! Canonical octets alone, and canonical octets of what was read.
 
 ghost use Rattle.std.specs.Prelude.{◌≡◌, ◌≢◌, ◌↔◌, false, IfOk, IfErr};
-ghost use Rattle.bac_tag.specs.Spelling.{IsLeast, IsWholeRefusal};
+ghost use Rattle.bac_tag.specs.Spelling.{HasMark, IsLeast, IsWholeRefusal};
 ghost use Rattle.bac_npdu.specs.Frames.{SpellsFrame, value_of};
 ghost use Rattle.bac_npdu.specs.Heads.{IsVersionPlace, IsAddressPlace};
 ghost use Rattle.bac_npdu.specs.Decoded.{begins_small, IsPduTypePlace, IsFrameWindowPlace, IsFrameReason};
 ghost use Rattle.bac_npdu.specs.Meanings.{IsNormalOf, IsFirstFlaw};
 
 use crate::frame::Frame;
-use crate::frame_decoding::{decode_frame, decode_marked};
-use crate::frame_encoding::encode_frame;
-use bac_tag::{Refusal, Why};
+use crate::frame_decoding::decode_marked;
+use crate::frame_encoding::append_frame;
+use bac_tag::{OutOfMemory, Refusal, Why};
 use std::alloc::Global;
 
 /// Decodes the frame of which all the octets are the canonical ones.
@@ -36,10 +36,30 @@ pub fn decode_strict(alloc: Global, octets: &[u8]) -> Result<Frame, Refusal>
     }
 }
 
+/// The canonical octets of a frame that octets spell with this mark. They are no longer than the octets, so memory is
+/// asked for once.
+#[inline(always)]
+fn canonical_of(
+    alloc: Global,
+    octets: &[u8],
+    frame: &Frame,
+    mark: Option<usize>,
+) -> Result<Vec<u8>, OutOfMemory>
+    requires { HasMark (SpellsFrame (value_of frame.now)) octets.now mark }
+    ensures { IfOk result (λ out. IsLeast (SpellsFrame (value_of frame.now)) out.items) }
+{
+    if mark.is_none() {
+        return Ok(Vec::from_slice(alloc, octets)?);
+    }
+    let mut out = Vec::with_capacity(alloc, octets.len())?;
+    append_frame(frame, &mut out)?;
+    Ok(out)
+}
+
 /// The canonical octets of the frame that all the octets spell.
 ///
 /// # Errors
-/// As [`decode_frame`].
+/// As [`decode_marked`].
 pub fn normalise_frame(alloc: Global, octets: &[u8]) -> Result<Vec<u8>, Refusal>
     ensures written { IfOk result (λ out. IsNormalOf octets.now out.items) }
     ensures refused { IfErr result (λ refusal. refusal.why ≢ Why.OutOfMemory → IsWholeRefusal SpellsFrame octets.now refusal) }
@@ -50,6 +70,6 @@ pub fn normalise_frame(alloc: Global, octets: &[u8]) -> Result<Vec<u8>, Refusal>
     ensures windows { IfErr result (λ refusal. refusal.why ≢ Why.OutOfMemory → (refusal.why ≡ Why.Window) ↔ IsFrameWindowPlace octets.now refusal.place) }
     ensures reasons { IfErr result (λ refusal. IsFrameReason refusal.why) }
 {
-    let frame = decode_frame(alloc, octets)?;
-    encode_frame(alloc, &frame).map_err(|_refused| Refusal::out_of_memory())
+    let (frame, mark) = decode_marked(alloc, octets)?;
+    canonical_of(alloc, octets, &frame, mark).map_err(|_refused| Refusal::out_of_memory())
 }
