@@ -11,6 +11,9 @@ use bac_tag::Refusal;
 use bac_text::append_text;
 use std::alloc::Global;
 
+/// For how many octets there is room at first, as most texts want.
+const FIRST_ROOM: usize = 256;
+
 /// The text of the frame that the octets spell.
 fn text_of(alloc: Global, octets: &[u8]) -> Result<Vec<u8>, Refusal>
     ensures text { IfOk result (λ line. IsTextOf octets.now line.items) }
@@ -18,7 +21,9 @@ fn text_of(alloc: Global, octets: &[u8]) -> Result<Vec<u8>, Refusal>
     ensures memory { IfErr result (λ refusal. refusal.why ≡ OutOfMemory → refusal.place ≡ 0) }
 {
     let frame = decode_frame(alloc, octets)?;
-    let mut line = Vec::new(alloc);
+    let Ok(mut line) = Vec::with_capacity(alloc, FIRST_ROOM) else {
+        return Err(Refusal::out_of_memory());
+    };
     match append_text(&frame, &mut line) {
         Ok(()) => Ok(line),
         Err(_) => Err(Refusal::out_of_memory()),

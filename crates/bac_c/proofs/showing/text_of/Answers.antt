@@ -9,6 +9,6 @@ returns-in_err-frame-clause-refused c =
     let e = c.in_err-frame.ensures in
     rw (p.1, p.2) (λ memory. hopeless c.args.octets.now c.in_err-frame.field-0.0 memory (e.refused memory) e.versions e.addresses e.types e.windows e.reasons)
 
-pub returns-in-Ok-clause-text : goal.returns-in-Ok-clause-text
-returns-in-Ok-clause-text c =
-    text_alone (value_of c.in_ok-frame.frame) c.args.octets.now c.new-line.result.items c.append_text.new.out.items c.in_ok-frame.ensures.found c.new-line.ensures.items c.in-Ok.ensures.written
+pub returns-in-Ok-append_text-clause-text : goal.returns-in-Ok-append_text-clause-text
+returns-in-Ok-append_text-clause-text c =
+    text_alone (value_of c.in_ok-frame.frame) c.args.octets.now c.in-Ok.line.items c.append_text.new.out.items c.in_ok-frame.ensures.found c.in-Ok.ensures.items c.in-Ok-append_text.ensures.written
