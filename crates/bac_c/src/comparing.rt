@@ -7,7 +7,6 @@ ghost use Rattle.bac_npdu.specs.Frames.{SpellsFrame};
 ghost use Rattle.bac_npdu.specs.Meanings.{MeanTheSame};
 ghost use Rattle.bac_c.specs.Outcomes.{IsHopeless, Tells, nothing, without_memory};
 
-use crate::writing::refuse;
 use crate::{
     BACTOOL_DIFFERENT, BACTOOL_LEFT_REFUSED, BACTOOL_NO_MEMORY, BACTOOL_OK, BACTOOL_RIGHT_REFUSED,
     Outcome,

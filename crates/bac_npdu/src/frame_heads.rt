@@ -5,7 +5,7 @@ ghost use Rattle.bac_tag.specs.HeadOctets.{least_head};
 ghost use Rattle.bac_tag.specs.Octets.{Extends};
 ghost use Rattle.bac_npdu.specs.Addresses.{addressed};
 ghost use Rattle.bac_npdu.specs.Frames.{is_there};
-ghost use Rattle.bac_npdu.specs.HeadsRead.{address_octets, from_octets, hops_octets, IsCutAddress, address_read, destination_read, address_of, IsControlRead, IsHeadOf, IsHeadRead};
+ghost use Rattle.bac_npdu.specs.HeadsRead.{address_octets, from_octets, hops_octets, IsCutAddress, address_read, destination_read, address_of, IsControlRead, IsHeadRead};
 
 use crate::addresses::Mac;
 use crate::control::Control;

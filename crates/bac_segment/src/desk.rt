@@ -1,6 +1,6 @@
 //! Several messages at once.
 
-ghost use Rattle.std.specs.Prelude.{◌≡◌, ◌≢◌, ◌<◌, ◌&&◌, ◌==◌, true, Ok, Err, [], length, IfOk, IfErr, OnOk, OnErr, option_copied};
+ghost use Rattle.std.specs.Prelude.{◌≡◌, ◌≢◌, ◌<◌, ◌&&◌, ◌==◌, true, Ok, Err, [], IfOk, IfErr, OnOk, OnErr, option_copied};
 ghost use Rattle.bac_segment.specs.Deliveries.{delivery, key_of};
 ghost use Rattle.bac_segment.specs.Tables.{whole, empty_table};
 ghost use Rattle.bac_segment.specs.Taking.{Keeps, may_add};

@@ -1,6 +1,6 @@
 //! How pieces are held: joined in order of number, and a span for each number that is held.
 
-ghost use Rattle.std.specs.Prelude.{◌≡◌, ◌≤◌, ◌<◌, ◌+◌, ◌==◌, ◌&&◌, ◌||◌, nat_lt, nat_le, not, if◌then◌else◌, ◌++◌, [], None, Some, IsTrue, Ok, slice_set, max, take, drop, length, replicate, IfOk, OnOk, OnErr, sum_by};
+ghost use Rattle.std.specs.Prelude.{◌≡◌, ◌≤◌, ◌<◌, ◌+◌, ◌==◌, ◌&&◌, ◌||◌, nat_lt, nat_le, not, if◌then◌else◌, ◌++◌, None, Some, Ok, slice_set, max, take, drop, length, IfOk, OnOk, OnErr, sum_by};
 ghost use Rattle.bac_segment.specs.Deliveries.{delivery};
 ghost use Rattle.bac_segment.specs.Tables.{empty_table};
 ghost use Rattle.bac_segment.specs.Taking.{Keeps, Judges, same_entry};

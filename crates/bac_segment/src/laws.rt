@@ -7,7 +7,7 @@ ghost use Rattle.bac_segment.specs.declared.cutting.CutPlan.{CutPlan};
 ghost use Rattle.bac_segment.specs.declared.faults.Taken.TheVariants.{Complete};
 ghost use Rattle.bac_segment.specs.Deliveries.{Delivery, key_of};
 ghost use Rattle.bac_segment.specs.Tables.{Table, whole};
-ghost use Rattle.bac_segment.specs.Taking.{Answer, IsKept, counts, answer, may_add, held};
+ghost use Rattle.bac_segment.specs.Taking.{Answer, IsKept, answer, may_add, held};
 ghost use Rattle.bac_segment.specs.Pieces.{ArePieces, IsCutOf, cut_fault};
 ghost use Rattle.bac_segment.specs.Cuts.{IsOneOf, AreAmong, AreOf, IsGood};
 ghost use Rattle.bac_segment.specs.Reassembled.{Reassembled, opened};

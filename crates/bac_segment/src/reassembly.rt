@@ -2,7 +2,7 @@
 
 ghost use Rattle.std.specs.Prelude.{◌≡◌, IfOk, OnErr, option_copied};
 ghost use Rattle.bac_segment.specs.Deliveries.{delivery};
-ghost use Rattle.bac_segment.specs.Tables.{empty_table, whole};
+ghost use Rattle.bac_segment.specs.Tables.{whole};
 ghost use Rattle.bac_segment.specs.Reassembled.{Takes, opened};
 
 use crate::faults::{TakeFault, Taken};

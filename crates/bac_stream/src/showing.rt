@@ -1,8 +1,8 @@
 //! The run of `show`.
 
-ghost use Rattle.std.specs.Prelude.{◌≡◌, ◌↔◌, IfErr, IfOk, IsTrue, MatchResult, List, ℕ, Some};
+ghost use Rattle.std.specs.Prelude.{◌≡◌, IfErr, IfOk, MatchResult, List, ℕ, Some};
 ghost use Rattle.bac_stream.specs.Judging.{IsCanonical, IsRefused};
-ghost use Rattle.bac_stream.specs.Lines.{IsShown, ShowsAs};
+ghost use Rattle.bac_stream.specs.Lines.{ShowsAs};
 ghost use Rattle.bac_record.specs.Records.{Records};
 ghost use Rattle.bac_record.specs.Runs.{RanThrough, RunCounts, Stopped};
 ghost use Rattle.bac_record.specs.Files.{RunsOver};

@@ -1,7 +1,5 @@
 //! The text of APDUs.
 
-ghost use Rattle.std.specs.Prelude.{◌≡◌, ◌++◌, OnOk, OnErr};
-
 use crate::texts::HasText;
 use bac_apdu::Apdu;
 use bac_tag::OutOfMemory;

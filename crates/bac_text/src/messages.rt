@@ -1,7 +1,5 @@
 //! The text of network messages.
 
-ghost use Rattle.std.specs.Prelude.{◌≡◌, ◌++◌, OnOk, OnErr};
-
 use crate::messages::networks::{push_networks, push_who_is_router};
 use crate::messages::single_numbers::{
     push_connection, push_disconnect, push_network_number, push_performance, push_reject,

@@ -1,7 +1,5 @@
 //! The text of services.
 
-ghost use Rattle.std.specs.Prelude.{◌≡◌, ◌++◌, OnOk, OnErr};
-
 use crate::texts::HasText;
 use bac_service::Service;
 use bac_tag::OutOfMemory;

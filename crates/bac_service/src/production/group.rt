@@ -11,7 +11,7 @@ ghost use Rattle.bac_service.specs.Laws.HasLeast.{group_least};
 
 use crate::production::tag::{Closing, Opening};
 use crate::production::{Front, Production, ReadFault};
-use bac_tag::{OutOfMemory, TagHead, write_head};
+use bac_tag::OutOfMemory;
 use std::alloc::Global;
 
 /// A part between an opening and a closing tag of one number.

@@ -1,6 +1,5 @@
 //! I-Am (clauses 16.10 and 21).
 
-ghost use Rattle.std.specs.Prelude.{◌≡◌};
 ghost use Rattle.bac_service.specs.IAm.{SpellsIAm, i_am_parts};
 
 use crate::named::Named;

@@ -1,6 +1,5 @@
 //! ReadProperty (clauses 15.5 and 21).
 
-ghost use Rattle.std.specs.Prelude.{◌≡◌};
 ghost use Rattle.bac_service.specs.ReadProperty.{SpellsReadProperty, read_property_parts};
 
 use crate::named::Named;

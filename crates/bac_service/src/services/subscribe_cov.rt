@@ -1,6 +1,5 @@
 //! SubscribeCOV (clauses 13.14 and 21).
 
-ghost use Rattle.std.specs.Prelude.{◌≡◌};
 ghost use Rattle.bac_service.specs.SubscribeCov.{SpellsSubscribeCov};
 ghost use Rattle.bac_service.specs.Laws.SubscribeCov.{subscribe_cov_parts};
 

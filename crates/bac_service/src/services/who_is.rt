@@ -1,6 +1,5 @@
 //! Who-Is (clauses 16.10 and 21).
 
-ghost use Rattle.std.specs.Prelude.{◌≡◌};
 ghost use Rattle.bac_service.specs.WhoIs.{SpellsWhoIs, who_is_parts};
 
 use crate::named::Named;

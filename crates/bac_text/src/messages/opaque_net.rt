@@ -1,7 +1,5 @@
 //! The text of messages without a layout.
 
-ghost use Rattle.std.specs.Prelude.{◌≡◌, ◌++◌, OnOk, OnErr};
-
 use crate::scalars::push_octets;
 use crate::texts::{HasText, push_optional};
 use bac_npdu::OpaqueNet;

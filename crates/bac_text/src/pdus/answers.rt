@@ -1,7 +1,5 @@
 //! The text of answers, and of ends of transactions.
 
-ghost use Rattle.std.specs.Prelude.{◌≡◌, ◌++◌, OnOk, OnErr};
-
 use crate::texts::{HasText, push_field};
 use bac_apdu::{Abort, ComplexAck, ErrorPdu, Reject, SimpleAck};
 use bac_tag::OutOfMemory;

@@ -1,7 +1,5 @@
 //! The text of segments, and of what is told of them.
 
-ghost use Rattle.std.specs.Prelude.{◌≡◌, ◌++◌, OnOk, OnErr};
-
 use crate::pdus::requests::push_request_head;
 use crate::scalars::push_octets;
 use crate::texts::{HasText, push_field};

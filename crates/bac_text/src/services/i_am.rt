@@ -1,7 +1,5 @@
 //! The text of I-Am.
 
-ghost use Rattle.std.specs.Prelude.{◌≡◌, ◌++◌, OnOk, OnErr};
-
 use crate::texts::{HasText, push_field};
 use bac_service::IAm;
 use bac_tag::OutOfMemory;

@@ -1,6 +1,6 @@
 //! The text of services without a production.
 
-ghost use Rattle.std.specs.Prelude.{◌≡◌, ◌++◌, OnOk, OnErr};
+ghost use Rattle.std.specs.Prelude.{◌≡◌};
 ghost use Rattle.bac_text.specs.OpaqueText.{choice_name};
 
 use crate::scalars::push_octets;

@@ -1,7 +1,5 @@
 //! The text of ReadProperty and of its answer.
 
-ghost use Rattle.std.specs.Prelude.{◌≡◌, ◌++◌, OnOk, OnErr};
-
 use crate::services::properties::push_property;
 use crate::texts::{HasText, push_field};
 use bac_service::{ReadProperty, ReadPropertyAck};

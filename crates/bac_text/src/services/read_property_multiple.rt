@@ -1,7 +1,5 @@
 //! The text of ReadPropertyMultiple and of its answer.
 
-ghost use Rattle.std.specs.Prelude.{◌≡◌, ◌++◌, OnOk, OnErr};
-
 use crate::texts::{HasText, push_field, push_optional};
 use bac_service::{
     ReadAccessResult, ReadAccessSpecification, ReadPropertyMultiple, ReadPropertyMultipleAck,

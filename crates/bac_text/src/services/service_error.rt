@@ -1,7 +1,5 @@
 //! The text of errors of typed services.
 
-ghost use Rattle.std.specs.Prelude.{◌≡◌, ◌++◌, OnOk, OnErr};
-
 use crate::services::properties::push_cause;
 use crate::texts::{HasText, push_field};
 use bac_service::ServiceError;

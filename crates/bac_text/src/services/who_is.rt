@@ -1,7 +1,5 @@
 //! The text of Who-Is.
 
-ghost use Rattle.std.specs.Prelude.{◌≡◌, ◌++◌, OnOk, OnErr};
-
 use crate::texts::{HasText, push_field};
 use bac_service::WhoIs;
 use bac_tag::OutOfMemory;

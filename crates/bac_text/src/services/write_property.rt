@@ -1,7 +1,5 @@
 //! The text of WriteProperty.
 
-ghost use Rattle.std.specs.Prelude.{◌≡◌, ◌++◌, OnOk, OnErr};
-
 use crate::services::properties::push_property;
 use crate::texts::{HasText, push_field, push_optional};
 use bac_service::WriteProperty;

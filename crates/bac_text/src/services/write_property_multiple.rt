@@ -1,7 +1,5 @@
 //! The text of WritePropertyMultiple and of its error.
 
-ghost use Rattle.std.specs.Prelude.{◌≡◌, ◌++◌, OnOk, OnErr};
-
 use crate::services::properties::{push_cause, push_property};
 use crate::texts::{HasText, push_field};
 use bac_service::{WriteAccessSpecification, WritePropertyMultiple, WritePropertyMultipleError};
