@@ -7,7 +7,9 @@ ghost use Rattle.bac_tag.specs.Heads.{IsValid, Heads};
 use crate::writing::first_octet;
 use crate::{OutOfMemory, TagHead, head_len, write_head};
 
-/// Appends the canonical octets of the head, those that [`write_head`] returns. The head must be valid.
+/// Appends the canonical octets of the head (clause 20.2.1), those that [`write_head`] returns: 1 to 7, the initial
+/// octet, then the number octet, then the octets of the length, where the initial octet has no room for them. The head
+/// must be valid.
 ///
 /// # Errors
 /// `OutOfMemory` where memory is refused. `out` then stays as it was.

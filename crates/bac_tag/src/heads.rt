@@ -1,6 +1,6 @@
 //! Tag heads.
 
-ghost use Rattle.std.specs.Prelude.{◌≡◌, ◌↔◌, IsTrue};
+ghost use Rattle.std.specs.Prelude.{◌↔◌, IsTrue};
 ghost use Rattle.bac_tag.specs.Heads.{IsValid};
 
 /// A tag head: what stands in front of the contents of an element (clause 20.2.1). It has 1 to 7 octets:

@@ -1,6 +1,6 @@
 //! Numbers in octets, the most significant octet first.
 
-ghost use Rattle.std.specs.Prelude.{◌≡◌, ℕ, ◌+◌, ◌*◌, ◌^◌, ◌<◌, ◌≤◌, ◌↔◌, ◌⊎◌, length, IsTrue, IfSome, IfNone, IfOk, IfErr, OnOk};
+ghost use Rattle.std.specs.Prelude.{◌≡◌, ◌+◌, ◌*◌, ◌^◌, ◌<◌, ◌≤◌, ◌↔◌, ◌⊎◌, length, IsTrue, IfSome, IfNone, IfOk, IfErr, OnOk};
 ghost use Rattle.bac_tag.specs.Number.{number, BeginsNumber, MissesAt};
 
 /// Returns the number that the octets spell, the most significant octet first, and 0 where there are none. They

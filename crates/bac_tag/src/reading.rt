@@ -7,7 +7,7 @@ ghost use Rattle.bac_tag.specs.Spelling.{Takes, NoFront, IsRefusal};
 ghost use Rattle.bac_tag.specs.Heads.{Heads, class_bit};
 ghost use Rattle.bac_tag.specs.Number.{NumberIn};
 ghost use Rattle.bac_tag.specs.Expected.{IsSound, FitsOne, ExpectedHeads, HeadsOfOne};
-ghost use Rattle.bac_tag.specs.Reading.{HasLvt, IsWide, Uses, LengthWithin, IsFront};
+ghost use Rattle.bac_tag.specs.Reading.{HasLvt, IsWide, LengthWithin, IsFront};
 
 use crate::layers::{Expected, number_within};
 use crate::{Refusal, TagHead, Why};

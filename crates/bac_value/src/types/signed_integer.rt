@@ -1,6 +1,6 @@
 //! Signed integers (clause 20.2.5).
 
-ghost use Rattle.std.specs.Prelude.{true, false, ◌≡◌, ◌++◌, ◌+◌, ◌<◌, ◌≤◌, ◌-◌, ◌↔◌, ℕ, replicate, length, slice_index, IsTrue, FitsSigned};
+ghost use Rattle.std.specs.Prelude.{false, ◌≡◌, ◌++◌, ◌+◌, ◌<◌, ◌≤◌, ◌-◌, ◌↔◌, ℕ, replicate, length, slice_index, IsTrue, FitsSigned};
 ghost use Rattle.std.specs.Int.{w64};
 ghost use Rattle.std.proofs.Common.{lit≤};
 ghost use Rattle.bac_value.specs.Numbers.{HasNumberLength};

@@ -7,9 +7,7 @@ ghost use Rattle.bac_value.specs.Laws.Numbers.{number_range, number_written, num
 ghost use Rattle.bac_value.specs.Laws.Unsigned.{one_unsigned, unsigned_each_length};
 
 use crate::primitives::Primitive;
-use crate::ranged_numbers::{
-    hopeless_number, mark_number, read_number, write_number, written_number_len,
-};
+use crate::ranged_numbers::{mark_number, read_number, write_number, written_number_len};
 use bac_tag::{OutOfMemory, Refusal};
 use std::alloc::Global;
 
