@@ -87,9 +87,9 @@ fn put(octets: &mut Vec<u8>, start: usize, piece: &[u8]) -> Result<(), OutOfMemo
     ensures err { OnErr result (octets.new.items ≡ octets.old.items) }
 {
     let end = octets.as_slice().len();
-    let wanted = end.saturating_add(piece.len());
-    if octets.capacity() < wanted {
-        grow(octets, wanted)?;
+    // Asked as `extend_from_slice` asks again, which the compiler then leaves out.
+    if octets.capacity().wrapping_sub(end) < piece.len() {
+        grow(octets, end.saturating_add(piece.len()))?;
     }
     octets.extend_from_slice(piece)?;
     // In order nothing moves.
