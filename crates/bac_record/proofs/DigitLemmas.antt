@@ -43,54 +43,45 @@ pub two_digits : (n a b : ℕ) → 10 ≤ n → n < 100 → a ≡ 48 + n / 10 �
 two_digits n a b ten few p q =
     ap (λ (d : ℕ). a ∷ d ∷ []) q ∙ ap (λ (l : List ℕ). l ++ (48 + n % 10) ∷ []) (one_digit (n / 10) a (omega arith) p) ∙ sym (decimal_step n ten (omega arith))
 
-pub three_digits : (n a b c : ℕ) → 100 ≤ n → n < 1000 → a ≡ 48 + n / 100 → b ≡ 48 + n / 10 % 10 → c ≡ 48 + n % 10 → a ∷ b ∷ c ∷ [] ≡ decimal n
-three_digits n a b c hundred few p q r =
-    let tens : n / 10 / 10 ≡ n / 100 = omega arith in
-    ap (λ (d : ℕ). a ∷ b ∷ d ∷ []) r
-    ∙ ap (λ (l : List ℕ). l ++ (48 + n % 10) ∷ []) (two_digits (n / 10) a b (omega arith) (omega arith) (p ∙ ap (λ (k : ℕ). 48 + k) (sym tens)) q)
-    ∙ sym (decimal_step n (omega arith) (omega arith))
+-- two digits behind those of the hundreds
+pub pair_more : (n a b : ℕ) (front : List ℕ) → 100 ≤ n → n < 2 ^ 64 → front ≡ decimal (n / 100) → a ≡ 48 + n % 100 / 10 → b ≡ 48 + n % 100 % 10 → front ++ a ∷ b ∷ [] ≡ decimal n
+pair_more n a b front more fits is p q =
+    let hundreds : n / 100 ≡ n / 10 / 10 = omega arith in
+    let tens : n % 100 / 10 ≡ n / 10 % 10 = omega arith in
+    let ones : n % 100 % 10 ≡ n % 10 = omega arith in
+    ap (λ (l : List ℕ). l ++ a ∷ b ∷ []) (is ∙ ap decimal hundreds)
+    ∙ ap (λ (k : ℕ). decimal (n / 10 / 10) ++ k ∷ b ∷ []) (p ∙ ap (λ (k : ℕ). 48 + k) tens)
+    ∙ ap (λ (k : ℕ). decimal (n / 10 / 10) ++ (48 + n / 10 % 10) ∷ k ∷ []) (q ∙ ap (λ (k : ℕ). 48 + k) ones)
+    ∙ sym (append_assoc (decimal (n / 10 / 10)) ((48 + n / 10 % 10) ∷ []) ((48 + n % 10) ∷ []))
+    ∙ ap (λ (l : List ℕ). l ++ (48 + n % 10) ∷ []) (sym (decimal_step (n / 10) (omega arith) (omega arith)))
+    ∙ sym (decimal_step n (omega arith) fits)
 
-pub four_digits : (n a b c d : ℕ) → 1000 ≤ n → n < 10000 → a ≡ 48 + n / 1000 → b ≡ 48 + n / 100 % 10 → c ≡ 48 + n / 10 % 10 → d ≡ 48 + n % 10 → a ∷ b ∷ c ∷ d ∷ [] ≡ decimal n
-four_digits n a b c d thousand few p q r s =
-    let thousands : n / 10 / 100 ≡ n / 1000 = omega arith in
-    let hundreds : n / 10 / 10 ≡ n / 100 = omega arith in
-    ap (λ (k : ℕ). a ∷ b ∷ c ∷ k ∷ []) s
-    ∙ ap (λ (l : List ℕ). l ++ (48 + n % 10) ∷ [])
-    (three_digits (n / 10) a b c (omega arith) (omega arith) (p ∙ ap (λ (k : ℕ). 48 + k) (sym thousands)) (q ∙ ap (λ (k : ℕ). 48 + k % 10) (sym hundreds)) r)
-    ∙ sym (decimal_step n (omega arith) (omega arith))
+pub three_digits : (n a b c : ℕ) → 100 ≤ n → n < 1000 → a ≡ 48 + n / 100 → b ≡ 48 + n % 100 / 10 → c ≡ 48 + n % 100 % 10 → a ∷ b ∷ c ∷ [] ≡ decimal n
+three_digits n a b c least few p q r = pair_more n b c (a ∷ []) least (omega arith) (one_digit (n / 100) a (omega arith) p) q r
 
-pub five_digits : (n a b c d e : ℕ) → 10000 ≤ n → n < 100000 → a ≡ 48 + n / 10000 → b ≡ 48 + n / 1000 % 10 → c ≡ 48 + n / 100 % 10 → d ≡ 48 + n / 10 % 10 → e ≡ 48 + n % 10 → a ∷ b ∷ c ∷ d ∷ e ∷ [] ≡ decimal n
+pub four_digits : (n a b c d : ℕ) → 1000 ≤ n → n < 10000 → a ≡ 48 + n / 100 / 10 → b ≡ 48 + n / 100 % 10 → c ≡ 48 + n % 100 / 10 → d ≡ 48 + n % 100 % 10 → a ∷ b ∷ c ∷ d ∷ [] ≡ decimal n
+four_digits n a b c d least few p q r s = pair_more n c d (a ∷ b ∷ []) (omega arith) (omega arith) (two_digits (n / 100) a b (omega arith) (omega arith) p q) r s
+
+pub five_digits : (n a b c d e : ℕ) → 10000 ≤ n → n < 100000 → a ≡ 48 + n / 10000 → b ≡ 48 + n / 100 % 100 / 10 → c ≡ 48 + n / 100 % 100 % 10 → d ≡ 48 + n % 100 / 10 → e ≡ 48 + n % 100 % 10
+    → a ∷ b ∷ c ∷ d ∷ e ∷ [] ≡ decimal n
 five_digits n a b c d e least few p q r s t =
-    let by4 : n / 10 / 1000 ≡ n / 10000 = omega arith in
-    let by3 : n / 10 / 100 ≡ n / 1000 = omega arith in
-    let by2 : n / 10 / 10 ≡ n / 100 = omega arith in
-    ap (λ (k : ℕ). a ∷ b ∷ c ∷ d ∷ k ∷ []) t
-    ∙ ap (λ (l : List ℕ). l ++ (48 + n % 10) ∷ [])
-    (four_digits (n / 10) a b c d (omega arith) (omega arith) (p ∙ ap (λ (k : ℕ). 48 + k) (sym by4)) (q ∙ ap (λ (k : ℕ). 48 + k % 10) (sym by3)) (r ∙ ap (λ (k : ℕ). 48 + k % 10) (sym by2)) s)
-    ∙ sym (decimal_step n (omega arith) (omega arith))
+    let front : n / 10000 ≡ n / 100 / 100 = omega arith in
+    pair_more n d e (a ∷ b ∷ c ∷ []) (omega arith) (omega arith) (three_digits (n / 100) a b c (omega arith) (omega arith) (p ∙ ap (λ (k : ℕ). 48 + k) front) q r) s t
 
-pub six_digits : (n a b c d e f : ℕ) → 100000 ≤ n → n < 1000000 → a ≡ 48 + n / 100000 → b ≡ 48 + n / 10000 % 10 → c ≡ 48 + n / 1000 % 10 → d ≡ 48 + n / 100 % 10 → e ≡ 48 + n / 10 % 10 → f ≡ 48 + n % 10 → a ∷ b ∷ c ∷ d ∷ e ∷ f ∷ [] ≡ decimal n
+pub six_digits : (n a b c d e f : ℕ) → 100000 ≤ n → n < 1000000 → a ≡ 48 + n / 10000 / 10 → b ≡ 48 + n / 10000 % 10 → c ≡ 48 + n / 100 % 100 / 10 → d ≡ 48 + n / 100 % 100 % 10 → e ≡ 48 + n % 100 / 10
+    → f ≡ 48 + n % 100 % 10 → a ∷ b ∷ c ∷ d ∷ e ∷ f ∷ [] ≡ decimal n
 six_digits n a b c d e f least few p q r s t u =
-    let by5 : n / 10 / 10000 ≡ n / 100000 = omega arith in
-    let by4 : n / 10 / 1000 ≡ n / 10000 = omega arith in
-    let by3 : n / 10 / 100 ≡ n / 1000 = omega arith in
-    let by2 : n / 10 / 10 ≡ n / 100 = omega arith in
-    ap (λ (k : ℕ). a ∷ b ∷ c ∷ d ∷ e ∷ k ∷ []) u
-    ∙ ap (λ (l : List ℕ). l ++ (48 + n % 10) ∷ [])
-    (five_digits (n / 10) a b c d e (omega arith) (omega arith) (p ∙ ap (λ (k : ℕ). 48 + k) (sym by5)) (q ∙ ap (λ (k : ℕ). 48 + k % 10) (sym by4)) (r ∙ ap (λ (k : ℕ). 48 + k % 10) (sym by3)) (s ∙ ap (λ (k : ℕ). 48 + k % 10) (sym by2)) t)
-    ∙ sym (decimal_step n (omega arith) (omega arith))
+    let front : n / 10000 ≡ n / 100 / 100 = omega arith in
+    pair_more n e f (a ∷ b ∷ c ∷ d ∷ []) (omega arith) (omega arith)
+    (four_digits (n / 100) a b c d (omega arith) (omega arith) (p ∙ ap (λ (k : ℕ). 48 + k / 10) front) (q ∙ ap (λ (k : ℕ). 48 + k % 10) front) r s) t u
 
-pub seven_digits : (n a b c d e f g : ℕ) → 1000000 ≤ n → n < 10000000 → a ≡ 48 + n / 1000000 → b ≡ 48 + n / 100000 % 10 → c ≡ 48 + n / 10000 % 10 → d ≡ 48 + n / 1000 % 10 → e ≡ 48 + n / 100 % 10 → f ≡ 48 + n / 10 % 10 → g ≡ 48 + n % 10 → a ∷ b ∷ c ∷ d ∷ e ∷ f ∷ g ∷ [] ≡ decimal n
+pub seven_digits : (n a b c d e f g : ℕ) → 1000000 ≤ n → n < 10000000 → a ≡ 48 + n / 1000000 → b ≡ 48 + n / 10000 % 100 / 10 → c ≡ 48 + n / 10000 % 100 % 10 → d ≡ 48 + n / 100 % 100 / 10
+    → e ≡ 48 + n / 100 % 100 % 10 → f ≡ 48 + n % 100 / 10 → g ≡ 48 + n % 100 % 10 → a ∷ b ∷ c ∷ d ∷ e ∷ f ∷ g ∷ [] ≡ decimal n
 seven_digits n a b c d e f g least few p q r s t u v =
-    let by6 : n / 10 / 100000 ≡ n / 1000000 = omega arith in
-    let by5 : n / 10 / 10000 ≡ n / 100000 = omega arith in
-    let by4 : n / 10 / 1000 ≡ n / 10000 = omega arith in
-    let by3 : n / 10 / 100 ≡ n / 1000 = omega arith in
-    let by2 : n / 10 / 10 ≡ n / 100 = omega arith in
-    ap (λ (k : ℕ). a ∷ b ∷ c ∷ d ∷ e ∷ f ∷ k ∷ []) v
-    ∙ ap (λ (l : List ℕ). l ++ (48 + n % 10) ∷ [])
-    (six_digits (n / 10) a b c d e f (omega arith) (omega arith) (p ∙ ap (λ (k : ℕ). 48 + k) (sym by6)) (q ∙ ap (λ (k : ℕ). 48 + k % 10) (sym by5)) (r ∙ ap (λ (k : ℕ). 48 + k % 10) (sym by4)) (s ∙ ap (λ (k : ℕ). 48 + k % 10) (sym by3)) (t ∙ ap (λ (k : ℕ). 48 + k % 10) (sym by2)) u)
-    ∙ sym (decimal_step n (omega arith) (omega arith))
+    let millions : n / 1000000 ≡ n / 100 / 10000 = omega arith in
+    let front : n / 10000 ≡ n / 100 / 100 = omega arith in
+    pair_more n f g (a ∷ b ∷ c ∷ d ∷ e ∷ []) (omega arith) (omega arith)
+    (five_digits (n / 100) a b c d e (omega arith) (omega arith) (p ∙ ap (λ (k : ℕ). 48 + k) millions) (q ∙ ap (λ (k : ℕ). 48 + k % 100 / 10) front) (r ∙ ap (λ (k : ℕ). 48 + k % 100 % 10) front) s t) u v
 
 -- ---- hexadecimal digits
 

@@ -1,3 +1,4 @@
+pub mod PairLemmas
 pub mod DigitLemmas
 pub mod Lists
 pub mod Partial

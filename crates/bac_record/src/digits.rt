@@ -10,6 +10,10 @@ use bac_tag::OutOfMemory;
 /// The hexadecimal digits.
 const DIGITS: [u8; 16] = *b"0123456789ABCDEF";
 
+/// The two digits of each number below 100, one number behind the other.
+const PAIRS: [u8; 200] =
+    *b"00010203040506070809101112131415161718192021222324252627282930313233343536373839404142434445464748495051525354555657585960616263646566676869707172737475767778798081828384858687888990919293949596979899";
+
 /// The digit of a number below 10.
 #[inline(always)]
 fn digit(number: u64) -> u8
@@ -17,6 +21,17 @@ fn digit(number: u64) -> u8
     ensures { result ≡ 48 + number }
 {
     b'0' + number as u8
+}
+
+/// The two digits of a number below 100, the first of them 0 where one would do.
+#[inline(always)]
+fn pair(number: u64) -> (u8, u8)
+    requires { number < 100 }
+    ensures tens { result.0 ≡ 48 + number / 10 }
+    ensures ones { result.1 ≡ 48 + number % 10 }
+{
+    let first = 2 * number as usize;
+    (PAIRS[first], PAIRS[first + 1])
 }
 
 /// Appends the decimal digits of a number, from the last one on. Where memory is refused `out` stays as it was.
@@ -44,37 +59,23 @@ fn push_large_number(out: &mut Vec<u8>, number: u64) -> Result<(), OutOfMemory>
     ensures err { OnErr result (out.new.items ≡ out.old.items) }
 {
     if number < 100_000 {
-        let digits = [
-            digit(number / 10_000),
-            digit(number / 1_000 % 10),
-            digit(number / 100 % 10),
-            digit(number / 10 % 10),
-            digit(number % 10),
-        ];
-        out.extend_from_slice(&digits)?;
+        let first = digit(number / 10_000);
+        let (second, third) = pair(number / 100 % 100);
+        let (fourth, fifth) = pair(number % 100);
+        out.extend_from_slice(&[first, second, third, fourth, fifth])?;
         Ok(())
     } else if number < 1_000_000 {
-        let digits = [
-            digit(number / 100_000),
-            digit(number / 10_000 % 10),
-            digit(number / 1_000 % 10),
-            digit(number / 100 % 10),
-            digit(number / 10 % 10),
-            digit(number % 10),
-        ];
-        out.extend_from_slice(&digits)?;
+        let (first, second) = pair(number / 10_000);
+        let (third, fourth) = pair(number / 100 % 100);
+        let (fifth, sixth) = pair(number % 100);
+        out.extend_from_slice(&[first, second, third, fourth, fifth, sixth])?;
         Ok(())
     } else if number < 10_000_000 {
-        let digits = [
-            digit(number / 1_000_000),
-            digit(number / 100_000 % 10),
-            digit(number / 10_000 % 10),
-            digit(number / 1_000 % 10),
-            digit(number / 100 % 10),
-            digit(number / 10 % 10),
-            digit(number % 10),
-        ];
-        out.extend_from_slice(&digits)?;
+        let first = digit(number / 1_000_000);
+        let (second, third) = pair(number / 10_000 % 100);
+        let (fourth, fifth) = pair(number / 100 % 100);
+        let (sixth, seventh) = pair(number % 100);
+        out.extend_from_slice(&[first, second, third, fourth, fifth, sixth, seventh])?;
         Ok(())
     } else {
         push_long_number(out, number)
@@ -89,21 +90,14 @@ fn push_further_number(out: &mut Vec<u8>, number: u64) -> Result<(), OutOfMemory
     ensures err { OnErr result (out.new.items ≡ out.old.items) }
 {
     if number < 1_000 {
-        let digits = [
-            digit(number / 100),
-            digit(number / 10 % 10),
-            digit(number % 10),
-        ];
-        out.extend_from_slice(&digits)?;
+        let first = digit(number / 100);
+        let (second, third) = pair(number % 100);
+        out.extend_from_slice(&[first, second, third])?;
         Ok(())
     } else if number < 10_000 {
-        let digits = [
-            digit(number / 1_000),
-            digit(number / 100 % 10),
-            digit(number / 10 % 10),
-            digit(number % 10),
-        ];
-        out.extend_from_slice(&digits)?;
+        let (first, second) = pair(number / 100);
+        let (third, fourth) = pair(number % 100);
+        out.extend_from_slice(&[first, second, third, fourth])?;
         Ok(())
     } else {
         push_large_number(out, number)
@@ -123,7 +117,8 @@ pub fn push_decimal(out: &mut Vec<u8>, number: u64) -> Result<(), OutOfMemory>
         out.push(digit(number))?;
         Ok(())
     } else if number < 100 {
-        out.extend_from_slice(&[digit(number / 10), digit(number % 10)])?;
+        let (first, second) = pair(number);
+        out.extend_from_slice(&[first, second])?;
         Ok(())
     } else {
         push_further_number(out, number)

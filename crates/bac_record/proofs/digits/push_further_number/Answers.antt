@@ -6,12 +6,12 @@ pub returns-in_ok-extend_from_slice-clause-ok : goal.returns-in_ok-extend_from_s
 returns-in_ok-extend_from_slice-clause-ok c =
     c.in_ok-extend_from_slice.ensures.items
     ∙ ap (λ (l : List ℕ). c.args.out.now.items ++ l)
-    (three_digits c.args.number c.digit.result c.digit-then-number-lt1000.result c.digit-then-number-lt1000-2.result (omega arith) (omega arith) c.digit.ensures
-    c.digit-then-number-lt1000.ensures c.digit-then-number-lt1000-2.ensures)
+    (three_digits c.args.number c.digit-first.result c.pair-second.result.0 c.pair-second.result.1 (omega arith) (omega arith)
+    c.digit-first.ensures c.pair-second.ensures.tens c.pair-second.ensures.ones)
 
 pub returns-in_ok-extend_from_slice-2-clause-ok : goal.returns-in_ok-extend_from_slice-2-clause-ok
 returns-in_ok-extend_from_slice-2-clause-ok c =
     c.in_ok-extend_from_slice-2.ensures.items
     ∙ ap (λ (l : List ℕ). c.args.out.now.items ++ l)
-    (four_digits c.args.number c.digit-then-number-lt10000.result c.digit-then-number-lt10000-2.result c.digit-then-number-lt10000-3.result c.digit-then-number-lt10000-4.result (omega arith) (omega arith)
-    c.digit-then-number-lt10000.ensures c.digit-then-number-lt10000-2.ensures c.digit-then-number-lt10000-3.ensures c.digit-then-number-lt10000-4.ensures)
+    (four_digits c.args.number c.pair-first.result.0 c.pair-first.result.1 c.pair-third.result.0 c.pair-third.result.1 (omega arith) (omega arith)
+    c.pair-first.ensures.tens c.pair-first.ensures.ones c.pair-third.ensures.tens c.pair-third.ensures.ones)

@@ -6,19 +6,19 @@ pub returns-in_ok-extend_from_slice-clause-ok : goal.returns-in_ok-extend_from_s
 returns-in_ok-extend_from_slice-clause-ok c =
     c.in_ok-extend_from_slice.ensures.items
     ∙ ap (λ (l : List ℕ). c.args.out.now.items ++ l)
-    (five_digits c.args.number c.digit.result c.digit-then-number-lt100000.result c.digit-then-number-lt100000-2.result c.digit-then-number-lt100000-3.result c.digit-then-number-lt100000-4.result (omega arith) (omega arith)
-    c.digit.ensures c.digit-then-number-lt100000.ensures c.digit-then-number-lt100000-2.ensures c.digit-then-number-lt100000-3.ensures c.digit-then-number-lt100000-4.ensures)
+    (five_digits c.args.number c.digit-first.result c.pair-second.result.0 c.pair-second.result.1 c.pair-fourth.result.0 c.pair-fourth.result.1 (omega arith) (omega arith)
+    c.digit-first.ensures c.pair-second.ensures.tens c.pair-second.ensures.ones c.pair-fourth.ensures.tens c.pair-fourth.ensures.ones)
 
 pub returns-in_ok-extend_from_slice-2-clause-ok : goal.returns-in_ok-extend_from_slice-2-clause-ok
 returns-in_ok-extend_from_slice-2-clause-ok c =
     c.in_ok-extend_from_slice-2.ensures.items
     ∙ ap (λ (l : List ℕ). c.args.out.now.items ++ l)
-    (six_digits c.args.number c.digit-then-number-lt1000000.result c.digit-then-number-lt1000000-2.result c.digit-then-number-lt1000000-3.result c.digit-then-number-lt1000000-4.result c.digit-then-number-lt1000000-5.result c.digit-then-number-lt1000000-6.result (omega arith) (omega arith)
-    c.digit-then-number-lt1000000.ensures c.digit-then-number-lt1000000-2.ensures c.digit-then-number-lt1000000-3.ensures c.digit-then-number-lt1000000-4.ensures c.digit-then-number-lt1000000-5.ensures c.digit-then-number-lt1000000-6.ensures)
+    (six_digits c.args.number c.pair-first.result.0 c.pair-first.result.1 c.pair-third.result.0 c.pair-third.result.1 c.pair-fifth.result.0 c.pair-fifth.result.1 (omega arith) (omega arith)
+    c.pair-first.ensures.tens c.pair-first.ensures.ones c.pair-third.ensures.tens c.pair-third.ensures.ones c.pair-fifth.ensures.tens c.pair-fifth.ensures.ones)
 
 pub returns-in_ok-extend_from_slice-3-clause-ok : goal.returns-in_ok-extend_from_slice-3-clause-ok
 returns-in_ok-extend_from_slice-3-clause-ok c =
     c.in_ok-extend_from_slice-3.ensures.items
     ∙ ap (λ (l : List ℕ). c.args.out.now.items ++ l)
-    (seven_digits c.args.number c.digit-then-number-lt10000000.result c.digit-then-number-lt10000000-2.result c.digit-then-number-lt10000000-3.result c.digit-then-number-lt10000000-4.result c.digit-then-number-lt10000000-5.result c.digit-then-number-lt10000000-6.result c.digit-then-number-lt10000000-7.result (omega arith) (omega arith)
-    c.digit-then-number-lt10000000.ensures c.digit-then-number-lt10000000-2.ensures c.digit-then-number-lt10000000-3.ensures c.digit-then-number-lt10000000-4.ensures c.digit-then-number-lt10000000-5.ensures c.digit-then-number-lt10000000-6.ensures c.digit-then-number-lt10000000-7.ensures)
+    (seven_digits c.args.number c.digit-first-then-number-lt10000000.result c.pair-second-then-number-lt10000000.result.0 c.pair-second-then-number-lt10000000.result.1 c.pair-fourth-then-number-lt10000000.result.0 c.pair-fourth-then-number-lt10000000.result.1 c.pair-sixth.result.0 c.pair-sixth.result.1 (omega arith) (omega arith)
+    c.digit-first-then-number-lt10000000.ensures c.pair-second-then-number-lt10000000.ensures.tens c.pair-second-then-number-lt10000000.ensures.ones c.pair-fourth-then-number-lt10000000.ensures.tens c.pair-fourth-then-number-lt10000000.ensures.ones c.pair-sixth.ensures.tens c.pair-sixth.ensures.ones)
