@@ -1,6 +1,6 @@
 //! The lines of `show` and `check`.
 
-ghost use Rattle.std.specs.Prelude.{◌≡◌, ◌++◌, OnOk, OnErr};
+ghost use Rattle.std.specs.Prelude.{◌≡◌, ◌++◌, codes, OnOk, OnErr};
 ghost use Rattle.bac_tag.specs.Octets.{Extends};
 ghost use Rattle.bac_stream.specs.Lines.{said_by, said_of, said_text, numbered};
 
@@ -34,28 +34,34 @@ impl Line<'_> {
         }
     }
 
-    /// Appends the text. Where memory is refused some of it may be there.
+    /// Appends the text, a blank in front of it and a line feed behind it. Where memory is refused some of it may be
+    /// there.
     fn append_text(&self, out: &mut Vec<u8>) -> Result<(), OutOfMemory>
-        ensures ok { OnOk result (out.new.items ≡ out.old.items ++ said_text (said_by self.now)) }
+        ensures ok { OnOk result (out.new.items ≡ out.old.items ++ codes " " ++ said_text (said_by self.now) ++ codes "\n") }
         ensures err { OnErr result (Extends out.old.items out.new.items) }
     {
         match self {
-            Line::Canonical => {
-                out.extend_from_slice(b"ok")?;
-                Ok(())
-            }
+            // Most records are canonical: their text is appended at once.
+            Line::Canonical => out.extend_from_slice(b" ok\n")?,
             Line::Tolerated(place) => {
-                out.extend_from_slice(b"tolerated at ")?;
-                push_decimal(out, *place as u64)
+                out.extend_from_slice(b" tolerated at ")?;
+                push_decimal(out, *place as u64)?;
+                out.push(b'\n')?;
             }
             Line::Refused(refusal) => {
-                out.extend_from_slice(b"refused ")?;
+                out.extend_from_slice(b" refused ")?;
                 out.extend_from_slice(refusal.why.name().as_bytes())?;
                 out.extend_from_slice(b" at ")?;
-                push_decimal(out, refusal.place as u64)
+                push_decimal(out, refusal.place as u64)?;
+                out.push(b'\n')?;
             }
-            Line::Shown(frame) => append_text(frame, out),
+            Line::Shown(frame) => {
+                out.push(b' ')?;
+                append_text(frame, out)?;
+                out.push(b'\n')?;
+            }
         }
+        Ok(())
     }
 
     /// Appends the line of the record with this number. Where memory is refused some of it may be there.
@@ -64,10 +70,7 @@ impl Line<'_> {
         ensures err { OnErr result (Extends out.old.items out.new.items) }
     {
         push_decimal(out, u64::from(number))?;
-        out.extend_from_slice(b" ")?;
-        self.append_text(out)?;
-        out.extend_from_slice(b"\n")?;
-        Ok(())
+        self.append_text(out)
     }
 
     /// Appends the line of the record with this number. Where memory is refused `out` stays as it was.
