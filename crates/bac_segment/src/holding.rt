@@ -79,6 +79,33 @@ fn grow(octets: &mut Vec<u8>, wanted: usize) -> Result<(), OutOfMemory>
     Ok(())
 }
 
+/// Appends a piece to the octets. Where memory is refused they stay as they are.
+#[inline(always)]
+fn append(octets: &mut Vec<u8>, piece: &[u8]) -> Result<(), OutOfMemory>
+    ensures ok { OnOk result (octets.new.items ≡ octets.old.items ++ piece.now) }
+    ensures err { OnErr result (octets.new.items ≡ octets.old.items) }
+{
+    let end = octets.as_slice().len();
+    // Asked as `extend_from_slice` asks again, which the compiler then leaves out. It never wraps.
+    if octets.capacity().wrapping_sub(end) < piece.len() {
+        grow(octets, end.saturating_add(piece.len()))?;
+    }
+    octets.extend_from_slice(piece)?;
+    Ok(())
+}
+
+/// Inserts a piece in front of octets that stand there. Where memory is refused they stay as they are.
+#[inline(never)]
+fn insert(octets: &mut Vec<u8>, start: usize, piece: &[u8]) -> Result<(), OutOfMemory>
+    requires { start ≤ length octets.old.items }
+    ensures ok { OnOk result (octets.new.items ≡ take start octets.old.items ++ piece.now ++ drop start octets.old.items) }
+    ensures err { OnErr result (octets.new.items ≡ octets.old.items) }
+{
+    append(octets, piece)?;
+    octets.slice_mut(start..).rotate_right(piece.len());
+    Ok(())
+}
+
 /// Puts a piece among the octets. Where memory is refused they stay as they are.
 #[inline(always)]
 fn put(octets: &mut Vec<u8>, start: usize, piece: &[u8]) -> Result<(), OutOfMemory>
@@ -86,17 +113,11 @@ fn put(octets: &mut Vec<u8>, start: usize, piece: &[u8]) -> Result<(), OutOfMemo
     ensures ok { OnOk result (octets.new.items ≡ take start octets.old.items ++ piece.now ++ drop start octets.old.items) }
     ensures err { OnErr result (octets.new.items ≡ octets.old.items) }
 {
-    let end = octets.as_slice().len();
-    // Asked as `extend_from_slice` asks again, which the compiler then leaves out.
-    if octets.capacity().wrapping_sub(end) < piece.len() {
-        grow(octets, end.saturating_add(piece.len()))?;
-    }
-    octets.extend_from_slice(piece)?;
     // In order nothing moves.
-    if start < end {
-        octets.slice_mut(start..).rotate_right(piece.len());
+    if octets.as_slice().len() <= start {
+        return append(octets, piece);
     }
-    Ok(())
+    insert(octets, start, piece)
 }
 
 impl Held {
