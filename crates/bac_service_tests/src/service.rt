@@ -17,6 +17,7 @@ mod who_is;
 mod write_property;
 mod write_property_multiple;
 
+use crate::expectations::assert_same;
 use bac_data::{Any, Event};
 use bac_service::{Kind, Service, decode_service_marked, encode_service};
 use bac_tables::{Outcome, joined, octets_of, places_of, rows_of};
@@ -36,7 +37,7 @@ fn decoded(
     let (kind, choice) = service;
     match decode_service_marked(alloc, kind, choice, octets) {
         Err(refusal) if refusal.why == Why::OutOfMemory => {
-            assert_eq!(rt; refusal.place, 0);
+            assert_same(rt, refusal.place, 0);
             decode_service_marked(alloc, kind, choice, octets)
         }
         found => found,
@@ -81,7 +82,7 @@ fn comes_to(
 ) -> Result<(), Fail> {
     match decoded(rt, alloc, service, octets) {
         Ok((found, mark)) => {
-            assert_eq!(rt; (found.kind(), found.choice()), service);
+            assert_same(rt, (found.kind(), found.choice()), service);
             let written = encoded(alloc, &found)?;
             assert_eq!(rt; Ok((written.as_slice(), mark)), wanted, "of {octets:?}");
             let (canonical, _) = decoded(rt, alloc, service, &written)?;
@@ -198,8 +199,8 @@ fn object(kind: u16, instance: u32) -> Result<ObjectId, Fail> {
 
 /// The value has these events.
 fn gives(rt: &impl Abort, value: &Any, events: &[Event]) {
-    assert_eq!(rt; value.count(), events.len());
+    assert_same(rt, value.count(), events.len());
     for (event, wanted) in value.events().zip(events) {
-        assert_eq!(rt; event, *wanted);
+        assert_same(rt, &event, wanted);
     }
 }

@@ -7,6 +7,8 @@ mod data;
 #[cfg(test)]
 mod examples;
 #[cfg(test)]
+mod expectations;
+#[cfg(test)]
 mod tables;
 #[cfg(test)]
 mod tag;

@@ -1,13 +1,15 @@
 //! Mistakes in the texts of tables are faults, so that no row is passed over.
 
+use crate::expectations::assert_same;
 use bac_tables::{Outcome, TableFault, octets_of, places_of, rows_of};
 use std::test::Fail;
 
 #[test]
 fn only_pairs_of_hexadecimal_digits_are_octets(rt: HostRuntime) -> Result<(), Fail> {
-    assert_eq!(rt;
+    assert_same(
+        &rt,
         octets_of("00 7f FF")?.as_slice(),
-        [0, 0x7F, 0xFF].as_slice()
+        [0, 0x7F, 0xFF].as_slice(),
     );
     assert!(rt; octets_of("none")?.is_empty());
     for text in [
@@ -23,9 +25,9 @@ fn only_pairs_of_hexadecimal_digits_are_octets(rt: HostRuntime) -> Result<(), Fa
 
 #[test]
 fn a_line_that_is_no_row_is_told(rt: HostRuntime) -> Result<(), Fail> {
-    assert_eq!(rt; rows_of("\n  \n").err(), Some(TableFault::NoRow));
+    assert_same(&rt, rows_of("\n  \n").err(), Some(TableFault::NoRow));
     for line in ["00", "00 - itself", "00 ->", "00-> itself"] {
-        assert_eq!(rt; rows_of(line).err(), Some(TableFault::Line(line)));
+        assert_same(&rt, rows_of(line).err(), Some(TableFault::Line(line)));
     }
     for line in [
         "00 -> itself.",
@@ -38,7 +40,7 @@ fn a_line_that_is_no_row_is_told(rt: HostRuntime) -> Result<(), Fail> {
         }
     }
     for row in rows_of("\n    00 01 -> itself\n")?.iter() {
-        assert_eq!(rt; (row.octets, row.told), ("00 01", "itself"));
+        assert_same(&rt, (row.octets, row.told), ("00 01", "itself"));
         assert!(rt; matches!(row.outcome()?, Outcome::Itself));
     }
     Ok(())

@@ -1,6 +1,7 @@
 //! ConfirmedCOVNotification and UnconfirmedCOVNotification.
 
 use super::{canonical, fronts, gives, judge, longer_heads, object};
+use crate::expectations::assert_same;
 use bac_data::Event;
 use bac_service::{CovNotification, Kind, Service, Unsigned32};
 use bac_value::{Enumerated, PrimRef, Priority, RealBits};
@@ -25,16 +26,16 @@ const PROPERTY: &str = "09 12 1C 02 00 00 04 2C 00 00 00 0A 39 00 4E 09 55";
 
 /// The notification has the fields of those octets.
 fn tells_two_values(rt: &impl Abort, notification: &CovNotification) -> Result<(), Fail> {
-    assert_eq!(rt; notification.process_identifier, Unsigned32(18));
-    assert_eq!(rt; notification.device, object(8, 4)?);
-    assert_eq!(rt; notification.object, object(0, 10)?);
-    assert_eq!(rt; notification.time_remaining, Unsigned32(0));
+    assert_same(rt, notification.process_identifier, Unsigned32(18));
+    assert_same(rt, notification.device, object(8, 4)?);
+    assert_same(rt, notification.object, object(0, 10)?);
+    assert_same(rt, notification.time_remaining, Unsigned32(0));
     let [first, second] = notification.values.as_slice() else {
         panic!(rt; "{notification:?}")
     };
-    assert_eq!(rt; (first.property, first.index), (Enumerated(85), None));
-    assert_eq!(rt; (second.property, second.index), (Enumerated(111), None));
-    assert_eq!(rt; (first.priority, second.priority), (None, None));
+    assert_same(rt, (first.property, first.index), (Enumerated(85), None));
+    assert_same(rt, (second.property, second.index), (Enumerated(111), None));
+    assert_same(rt, (first.priority, second.priority), (None, None));
     let real = PrimRef::RealBits(RealBits(0x4282_0000));
     gives(rt, &first.value, &[Event::App(real)]);
     let bits = PrimRef::Bits {
@@ -51,7 +52,7 @@ fn values_of_an_object_are_told(rt: HostRuntime) -> Result<(), Fail> {
     for service in [UNCONFIRMED, CONFIRMED] {
         match canonical(&rt, rt.alloc(), service, NOTIFICATION)? {
             Service::CovNotification(notification) => {
-                assert_eq!(rt; notification.confirmed, service == CONFIRMED);
+                assert_same(&rt, notification.confirmed, service == CONFIRMED);
                 tells_two_values(&rt, &notification)?;
             }
             found => panic!(rt; "{found:?}"),
@@ -68,15 +69,16 @@ fn a_value_has_an_index_and_a_priority(rt: HostRuntime) -> Result<(), Fail> {
     let octets = "09 12 1C 02 00 00 04 2C 00 00 00 0A 3A 0E 10 4E 09 57 19 10 2E 2F 39 08 4F";
     match canonical(&rt, rt.alloc(), UNCONFIRMED, octets)? {
         Service::CovNotification(notification) => {
-            assert_eq!(rt; notification.time_remaining, Unsigned32(3600));
+            assert_same(&rt, notification.time_remaining, Unsigned32(3600));
             let [value] = notification.values.as_slice() else {
                 panic!(rt; "{notification:?}")
             };
-            assert_eq!(rt;
+            assert_same(
+                &rt,
                 (value.property, value.index),
-                (Enumerated(87), Some(Unsigned32(16)))
+                (Enumerated(87), Some(Unsigned32(16))),
             );
-            assert_eq!(rt; value.priority, Priority::new(8));
+            assert_same(&rt, value.priority, Priority::new(8));
             gives(&rt, &value.value, &[]);
         }
         found => panic!(rt; "{found:?}"),

@@ -1,6 +1,7 @@
 //! I-Am.
 
 use super::{canonical, fronts, judge, longer_heads, object};
+use crate::expectations::assert_same;
 use bac_service::{IAm, Kind, Service, Unsigned16, Unsigned32};
 use bac_value::Enumerated;
 use std::test::Fail;
@@ -26,7 +27,7 @@ fn a_device_tells_its_largest_message_and_its_vendor(rt: HostRuntime) -> Result<
                 segmentation: Enumerated(3),
                 vendor: Unsigned16(99),
             };
-            assert_eq!(rt; request, wanted);
+            assert_same(&rt, request, wanted);
         }
         found => panic!(rt; "{found:?}"),
     }

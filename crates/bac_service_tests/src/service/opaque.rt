@@ -1,9 +1,9 @@
 //! Services without a production.
 
 use super::{canonical, encoded, is_kept, judge};
+use crate::expectations::assert_same;
 use bac_service::{Kind, Opaque, OpaqueFault, Service};
 use bac_tables::{octets_of, places_of};
-use bac_tag::Why;
 use std::alloc::Global;
 use std::test::Fail;
 
@@ -37,13 +37,14 @@ fn any_octets_may_be_opaque(rt: HostRuntime) -> Result<(), Fail> {
     for (kind, choice, octets) in table {
         let octets = octets_of(octets)?;
         let made = opaque(rt.alloc(), kind, choice, &octets)?;
-        assert_eq!(rt; (made.kind(), made.choice()), (kind, choice));
-        assert_eq!(rt; made.octets(), octets.as_slice());
+        assert_same(&rt, (made.kind(), made.choice()), (kind, choice));
+        assert_same(&rt, made.octets(), octets.as_slice());
         let service = Service::Opaque(made);
-        assert_eq!(rt; (service.kind(), service.choice()), (kind, choice));
-        assert_eq!(rt;
+        assert_same(&rt, (service.kind(), service.choice()), (kind, choice));
+        assert_same(
+            &rt,
             encoded(rt.alloc(), &service)?.as_slice(),
-            octets.as_slice()
+            octets.as_slice(),
         );
     }
     Ok(())
@@ -90,8 +91,8 @@ fn other_services_are_read_as_opaque(rt: HostRuntime) -> Result<(), Fail> {
     for (kind, choice, octets) in table {
         match canonical(&rt, rt.alloc(), (kind, choice), octets)? {
             Service::Opaque(found) => {
-                assert_eq!(rt; (found.kind(), found.choice()), (kind, choice));
-                assert_eq!(rt; found.octets(), octets_of(octets)?.as_slice());
+                assert_same(&rt, (found.kind(), found.choice()), (kind, choice));
+                assert_same(&rt, found.octets(), octets_of(octets)?.as_slice());
             }
             found => panic!(rt; "{found:?}"),
         }

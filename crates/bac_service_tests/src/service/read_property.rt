@@ -1,6 +1,7 @@
 //! ReadProperty.
 
 use super::{canonical, fronts, judge, longer_heads, object};
+use crate::expectations::assert_same;
 use bac_service::{Kind, ReadProperty, Service, Unsigned32};
 use bac_value::Enumerated;
 use std::test::Fail;
@@ -27,13 +28,14 @@ fn an_object_a_property_and_an_index_are_asked_for(rt: HostRuntime) -> Result<()
             Service::ReadProperty(request) => {
                 let object = object(0, instance)?;
                 let property = Enumerated(property);
-                assert_eq!(rt;
+                assert_same(
+                    &rt,
                     request,
                     ReadProperty {
                         object,
                         property,
-                        index
-                    }
+                        index,
+                    },
                 );
             }
             found => panic!(rt; "{found:?}"),

@@ -1,9 +1,9 @@
 //! ReadProperty-ACK.
 
 use super::{canonical, fronts, gives, judge, longer_heads, object};
+use crate::expectations::assert_same;
 use bac_data::Event;
 use bac_service::{Kind, Service, Unsigned32};
-use bac_tag::Why;
 use bac_value::{Enumerated, PrimRef, RealBits};
 use std::test::Fail;
 
@@ -19,8 +19,8 @@ fn the_value_of_a_property_is_told(rt: HostRuntime) -> Result<(), Fail> {
     let octets = "0C 00 00 00 05 19 55 3E 44 42 90 99 9A 3F";
     match canonical(&rt, rt.alloc(), SERVICE, octets)? {
         Service::ReadPropertyAck(ack) => {
-            assert_eq!(rt; ack.object, object(0, 5)?);
-            assert_eq!(rt; (ack.property, ack.index), (Enumerated(85), None));
+            assert_same(&rt, ack.object, object(0, 5)?);
+            assert_same(&rt, (ack.property, ack.index), (Enumerated(85), None));
             let real = PrimRef::RealBits(RealBits(0x4290_999A));
             gives(&rt, &ack.value, &[Event::App(real)]);
         }
@@ -35,9 +35,10 @@ fn the_value_of_an_element_is_told(rt: HostRuntime) -> Result<(), Fail> {
     let octets = "0C 00 00 00 05 19 55 29 02 3E 2E 1A 00 55 2F 3F";
     match canonical(&rt, rt.alloc(), SERVICE, octets)? {
         Service::ReadPropertyAck(ack) => {
-            assert_eq!(rt;
+            assert_same(
+                &rt,
                 (ack.property, ack.index),
-                (Enumerated(85), Some(Unsigned32(2)))
+                (Enumerated(85), Some(Unsigned32(2))),
             );
             let events = [Event::Open(2), Event::Ctx(1, &[0, 0x55]), Event::Close(2)];
             gives(&rt, &ack.value, &events);

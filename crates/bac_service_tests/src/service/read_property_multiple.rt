@@ -1,6 +1,7 @@
 //! ReadPropertyMultiple.
 
 use super::{canonical, fronts, judge, longer_heads, object};
+use crate::expectations::assert_same;
 use bac_service::{Kind, PropertyReference, Service, Unsigned32};
 use bac_value::Enumerated;
 use std::test::Fail;
@@ -22,13 +23,13 @@ fn one_property_of_one_object_is_asked_for(rt: HostRuntime) -> Result<(), Fail> 
             let [spec] = request.specs.as_slice() else {
                 panic!(rt; "{request:?}")
             };
-            assert_eq!(rt; spec.object, object(0, 33)?);
+            assert_same(&rt, spec.object, object(0, 33)?);
             let property = Enumerated(85);
             let wanted = [PropertyReference {
                 property,
                 index: None,
             }];
-            assert_eq!(rt; spec.properties.as_slice(), wanted.as_slice());
+            assert_same(&rt, spec.properties.as_slice(), wanted.as_slice());
         }
         found => panic!(rt; "{found:?}"),
     }
@@ -44,18 +45,24 @@ fn objects_and_properties_keep_their_order(rt: HostRuntime) -> Result<(), Fail> 
             let [first, second] = request.specs.as_slice() else {
                 panic!(rt; "{request:?}")
             };
-            assert_eq!(rt;
+            assert_same(
+                &rt,
                 (first.object, second.object),
-                (object(0, 33)?, object(8, 4)?)
+                (object(0, 33)?, object(8, 4)?),
             );
             let [status, present] = first.properties.as_slice() else {
                 panic!(rt; "{request:?}")
             };
-            assert_eq!(rt;
+            assert_same(
+                &rt,
                 (status.property, status.index),
-                (Enumerated(103), Some(Unsigned32(3)))
+                (Enumerated(103), Some(Unsigned32(3))),
             );
-            assert_eq!(rt; (present.property, present.index), (Enumerated(85), None));
+            assert_same(
+                &rt,
+                (present.property, present.index),
+                (Enumerated(85), None),
+            );
             assert!(rt; second.properties.is_empty());
         }
         found => panic!(rt; "{found:?}"),

@@ -1,6 +1,7 @@
 //! ReadPropertyMultiple-ACK.
 
 use super::{canonical, fronts, gives, is_kept, judge, longer_heads, object};
+use crate::expectations::assert_same;
 use bac_data::{Any, Event};
 use bac_service::{
     ErrorCause, Kind, PropertyResult, ReadAccessResult, ReadResult, Service, Unsigned32,
@@ -43,19 +44,23 @@ fn a_value_and_an_error_are_told(rt: HostRuntime) -> Result<(), Fail> {
             let [of_object] = ack.results.as_slice() else {
                 panic!(rt; "{ack:?}")
             };
-            assert_eq!(rt; of_object.object, object(0, 33)?);
+            assert_same(&rt, of_object.object, object(0, 33)?);
             let [first, second] = results_of(&rt, of_object) else {
                 panic!(rt; "{ack:?}")
             };
-            assert_eq!(rt; (first.property, first.index), (Enumerated(85), None));
-            assert_eq!(rt; (second.property, second.index), (Enumerated(103), None));
+            assert_same(&rt, (first.property, first.index), (Enumerated(85), None));
+            assert_same(
+                &rt,
+                (second.property, second.index),
+                (Enumerated(103), None),
+            );
             let (Ok(value), Err(cause)) = (outcome(first), outcome(second)) else {
                 panic!(rt; "{ack:?}")
             };
             let real = PrimRef::RealBits(RealBits(0x4290_999A));
             gives(&rt, value, &[Event::App(real)]);
             let (class, code) = (Enumerated(2), Enumerated(32));
-            assert_eq!(rt; cause, ErrorCause { class, code });
+            assert_same(&rt, cause, ErrorCause { class, code });
         }
         found => panic!(rt; "{found:?}"),
     }
@@ -94,17 +99,19 @@ fn the_result_of_an_element_is_told(rt: HostRuntime) -> Result<(), Fail> {
             let [first, second] = ack.results.as_slice() else {
                 panic!(rt; "{ack:?}")
             };
-            assert_eq!(rt;
+            assert_same(
+                &rt,
                 (first.object, second.object),
-                (object(0, 5)?, object(0, 6)?)
+                (object(0, 5)?, object(0, 6)?),
             );
             assert!(rt; first.results.is_none());
             let [element] = results_of(&rt, second) else {
                 panic!(rt; "{ack:?}")
             };
-            assert_eq!(rt;
+            assert_same(
+                &rt,
                 (element.property, element.index),
-                (Enumerated(85), Some(Unsigned32(2)))
+                (Enumerated(85), Some(Unsigned32(2))),
             );
             gives(&rt, outcome(element)?, &[]);
         }

@@ -1,6 +1,7 @@
 //! Errors of typed services.
 
 use super::{canonical, encoded, fronts, judge, longer_heads};
+use crate::expectations::assert_same;
 use bac_service::{Kind, Service, ServiceError};
 use bac_tables::octets_of;
 use std::test::Fail;
@@ -14,19 +15,25 @@ fn an_error_has_a_class_and_a_code(rt: HostRuntime) -> Result<(), Fail> {
     let octets = "91 02 91 20";
     for choice in CHOICES {
         let error = ServiceError::new(choice, 2, 32).ok_or("a typed service")?;
-        assert_eq!(rt;
+        assert_same(
+            &rt,
             (error.choice(), error.class(), error.code()),
-            (choice, 2, 32)
+            (choice, 2, 32),
         );
         match canonical(&rt, rt.alloc(), (Kind::Error, choice), octets)? {
-            Service::ServiceError(found) => assert_eq!(rt; found, error),
+            Service::ServiceError(found) => assert_same(&rt, found, error),
             found => panic!(rt; "{found:?}"),
         }
         let service = Service::ServiceError(error);
-        assert_eq!(rt; (service.kind(), service.choice()), (Kind::Error, choice));
-        assert_eq!(rt;
+        assert_same(
+            &rt,
+            (service.kind(), service.choice()),
+            (Kind::Error, choice),
+        );
+        assert_same(
+            &rt,
             encoded(rt.alloc(), &service)?.as_slice(),
-            octets_of(octets)?.as_slice()
+            octets_of(octets)?.as_slice(),
         );
         longer_heads(&rt, rt.alloc(), (Kind::Error, choice), octets, "0 2")?;
         fronts(&rt, rt.alloc(), (Kind::Error, choice), octets, "none")?;

@@ -1,6 +1,7 @@
 //! Services that are made and not read, and those that are read without their marks.
 
 use super::{canonical, encoded, object};
+use crate::expectations::assert_same;
 use bac_service::{
     CovNotification, Kind, PropertyReference, ReadAccessSpecification, ReadProperty,
     ReadPropertyMultiple, Service, Unsigned32, WhoIs, decode_service, laws,
@@ -21,10 +22,11 @@ fn is_written(
     choice: u8,
     octets: &str,
 ) -> Result<(), Fail> {
-    assert_eq!(rt; (service.kind(), service.choice()), (kind, choice));
-    assert_eq!(rt;
+    assert_same(rt, (service.kind(), service.choice()), (kind, choice));
+    assert_same(
+        rt,
         encoded(alloc, service)?.as_slice(),
-        octets_of(octets)?.as_slice()
+        octets_of(octets)?.as_slice(),
     );
     Ok(())
 }
@@ -93,13 +95,13 @@ fn a_service_is_read_without_its_mark(rt: HostRuntime) -> Result<(), Fail> {
     match decode_service(rt.alloc(), Kind::Unconfirmed, 8, &octets)? {
         Service::WhoIs(request) => {
             let limits = Instance::new(100).zip(Instance::new(200));
-            assert_eq!(rt; request, WhoIs { limits });
+            assert_same(&rt, request, WhoIs { limits });
         }
         found => panic!(rt; "{found:?}"),
     }
     let refusal = decode_service(rt.alloc(), Kind::Unconfirmed, 8, &[9, 0]).err();
     let (place, why) = (2, Why::Short);
-    assert_eq!(rt; refusal, Some(Refusal { place, why }));
+    assert_same(&rt, refusal, Some(Refusal { place, why }));
     Ok(())
 }
 

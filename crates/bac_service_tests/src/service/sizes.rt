@@ -1,6 +1,7 @@
 //! Services of many octets and of long lists are decoded and encoded whole: no clause says that memory is there.
 
 use super::object;
+use crate::expectations::assert_same;
 use bac_data::{Any, Event};
 use bac_service::{
     ErrorCause, Kind, Opaque, PropertyValue, ReadAccessResult, ReadResult, Service, decode_service,
@@ -45,17 +46,17 @@ fn kept(
 ) -> Result<Service, Fail> {
     let (kind, choice) = service;
     let (marked, mark) = decode_service_marked(alloc, kind, choice, octets)?;
-    assert_eq!(rt; mark, None);
+    assert_same(rt, mark, None);
     assert!(rt; encode_service(alloc, &marked)?.as_slice() == octets);
     let found = decode_service(alloc, kind, choice, octets)?;
-    assert_eq!(rt; (found.kind(), found.choice()), service);
+    assert_same(rt, (found.kind(), found.choice()), service);
     assert!(rt; encode_service(alloc, &found)?.as_slice() == octets);
     Ok(found)
 }
 
 /// The value is one octet string.
 fn is_string(rt: &impl Abort, value: &Any, octets: &[u8]) {
-    assert_eq!(rt; value.count(), 1);
+    assert_same(rt, value.count(), 1);
     for event in value.events() {
         assert!(rt; event == Event::App(PrimRef::Octets(octets)));
     }
@@ -66,8 +67,8 @@ fn is_alone(rt: &impl Abort, values: &[PropertyValue], octets: &[u8]) {
     let [value] = values else {
         panic!(rt; "no list of one")
     };
-    assert_eq!(rt; (value.property, value.index), (Enumerated(85), None));
-    assert_eq!(rt; value.priority, None);
+    assert_same(rt, (value.property, value.index), (Enumerated(85), None));
+    assert_same(rt, value.priority, None);
     is_string(rt, &value.value, octets);
 }
 
@@ -76,14 +77,14 @@ fn tells_value(rt: &impl Abort, results: &[ReadAccessResult], octets: &[u8]) -> 
     let [told] = results else {
         panic!(rt; "no list of one")
     };
-    assert_eq!(rt; told.object, object(0, 5)?);
+    assert_same(rt, told.object, object(0, 5)?);
     let Some(results) = &told.results else {
         panic!(rt; "no results")
     };
     let [result] = results.as_slice() else {
         panic!(rt; "no list of one")
     };
-    assert_eq!(rt; (result.property, result.index), (Enumerated(85), None));
+    assert_same(rt, (result.property, result.index), (Enumerated(85), None));
     match &result.result {
         ReadResult::Value(value) => is_string(rt, value, octets),
         ReadResult::Error(cause) => panic!(rt; "{cause:?}"),
@@ -93,10 +94,10 @@ fn tells_value(rt: &impl Abort, results: &[ReadAccessResult], octets: &[u8]) -> 
 
 /// The value is a number.
 fn is_number(rt: &impl Abort, value: &Any, number: u16) {
-    assert_eq!(rt; value.count(), 1);
+    assert_same(rt, value.count(), 1);
     for event in value.events() {
         let wanted = Unsigned(u64::from(number));
-        assert_eq!(rt; event, Event::App(PrimRef::Unsigned(wanted)));
+        assert_same(rt, event, Event::App(PrimRef::Unsigned(wanted)));
     }
 }
 
@@ -108,7 +109,7 @@ fn opaque_octets_of_every_size_are_kept(rt: HostRuntime) -> Result<(), Fail> {
     for (size, _) in SIZES {
         let octets = mixed(alloc, size)?;
         let made = Opaque::new(alloc, Kind::Confirmed, 17, &octets)?;
-        assert_eq!(rt; (made.kind(), made.choice()), service);
+        assert_same(&rt, (made.kind(), made.choice()), service);
         assert!(rt; made.octets() == octets.as_slice(), "{size} octets");
         assert!(rt;
             encode_service(alloc, &Service::Opaque(made))? == octets,
@@ -116,7 +117,7 @@ fn opaque_octets_of_every_size_are_kept(rt: HostRuntime) -> Result<(), Fail> {
         );
         match kept(&rt, alloc, service, &octets)? {
             Service::Opaque(found) => {
-                assert_eq!(rt; (found.kind(), found.choice()), service);
+                assert_same(&rt, (found.kind(), found.choice()), service);
                 assert!(rt; found.octets() == octets.as_slice(), "{size} octets");
             }
             _ => panic!(rt; "{size} octets are not opaque"),
@@ -134,8 +135,12 @@ fn values_of_every_size_are_kept_in_an_answer(rt: HostRuntime) -> Result<(), Fai
         let octets = enclosed(alloc, &PROPERTY, length, &contents, &[0x3F])?;
         match kept(&rt, alloc, (Kind::ComplexAck, 12), &octets)? {
             Service::ReadPropertyAck(ack) => {
-                assert_eq!(rt; (ack.object, ack.property), (object(0, 5)?, Enumerated(85)));
-                assert_eq!(rt; ack.index, None);
+                assert_same(
+                    &rt,
+                    (ack.object, ack.property),
+                    (object(0, 5)?, Enumerated(85)),
+                );
+                assert_same(&rt, ack.index, None);
                 is_string(&rt, &ack.value, &contents);
             }
             _ => panic!(rt; "no answer of {size} octets"),
@@ -152,11 +157,16 @@ fn values_of_every_size_are_kept_in_a_request(rt: HostRuntime) -> Result<(), Fai
         let octets = enclosed(alloc, &PROPERTY, length, &contents, &[0x3F, 0x49, 8])?;
         match kept(&rt, alloc, (Kind::Confirmed, 15), &octets)? {
             Service::WriteProperty(request) => {
-                assert_eq!(rt;
+                assert_same(
+                    &rt,
                     (request.object, request.property),
-                    (object(0, 5)?, Enumerated(85))
+                    (object(0, 5)?, Enumerated(85)),
                 );
-                assert_eq!(rt; (request.index, request.priority), (None, Priority::new(8)));
+                assert_same(
+                    &rt,
+                    (request.index, request.priority),
+                    (None, Priority::new(8)),
+                );
                 is_string(&rt, &request.value, &contents);
             }
             _ => panic!(rt; "no request of {size} octets"),
@@ -204,15 +214,16 @@ fn ten_thousand_objects_are_asked_for(rt: HostRuntime) -> Result<(), Fail> {
     let octets = numbered(alloc, &[0x0C, 0, 0], &[0x1E, 9, 0x55, 0x1F])?;
     match kept(&rt, alloc, (Kind::Confirmed, 14), &octets)? {
         Service::ReadPropertyMultiple(request) => {
-            assert_eq!(rt; request.specs.len(), ITEMS);
+            assert_same(&rt, request.specs.len(), ITEMS);
             for (spec, number) in request.specs.iter().zip(NUMBERS) {
-                assert_eq!(rt; spec.object, object(0, u32::from(number))?);
+                assert_same(&rt, spec.object, object(0, u32::from(number))?);
                 let [reference] = spec.properties.as_slice() else {
                     panic!(rt; "{spec:?}")
                 };
-                assert_eq!(rt;
+                assert_same(
+                    &rt,
                     (reference.property, reference.index),
-                    (Enumerated(85), None)
+                    (Enumerated(85), None),
                 );
             }
         }
@@ -232,11 +243,11 @@ fn ten_thousand_properties_are_asked_for(rt: HostRuntime) -> Result<(), Fail> {
             let [spec] = request.specs.as_slice() else {
                 panic!(rt; "no list of one")
             };
-            assert_eq!(rt; spec.object, object(0, 5)?);
-            assert_eq!(rt; spec.properties.len(), ITEMS);
+            assert_same(&rt, spec.object, object(0, 5)?);
+            assert_same(&rt, spec.properties.len(), ITEMS);
             for (reference, number) in spec.properties.iter().zip(NUMBERS) {
                 let wanted = (Enumerated(u32::from(number)), None);
-                assert_eq!(rt; (reference.property, reference.index), wanted);
+                assert_same(&rt, (reference.property, reference.index), wanted);
             }
         }
         _ => panic!(rt; "no request"),
@@ -246,17 +257,17 @@ fn ten_thousand_properties_are_asked_for(rt: HostRuntime) -> Result<(), Fail> {
 
 /// The object has one result: of its property 85 this error.
 fn tells_error(rt: &impl Abort, told: &ReadAccessResult, wanted: ObjectId) {
-    assert_eq!(rt; told.object, wanted);
+    assert_same(rt, told.object, wanted);
     let Some(results) = &told.results else {
         panic!(rt; "{told:?}")
     };
     let [result] = results.as_slice() else {
         panic!(rt; "{told:?}")
     };
-    assert_eq!(rt; (result.property, result.index), (Enumerated(85), None));
+    assert_same(rt, (result.property, result.index), (Enumerated(85), None));
     let (class, code) = (Enumerated(2), Enumerated(32));
     match &result.result {
-        ReadResult::Error(cause) => assert_eq!(rt; *cause, ErrorCause { class, code }),
+        ReadResult::Error(cause) => assert_same(rt, *cause, ErrorCause { class, code }),
         ReadResult::Value(_) => panic!(rt; "{told:?}"),
     }
 }
@@ -269,7 +280,7 @@ fn ten_thousand_objects_are_answered(rt: HostRuntime) -> Result<(), Fail> {
     let octets = numbered(alloc, &[0x0C, 0, 0], &behind)?;
     match kept(&rt, alloc, (Kind::ComplexAck, 14), &octets)? {
         Service::ReadPropertyMultipleAck(ack) => {
-            assert_eq!(rt; ack.results.len(), ITEMS);
+            assert_same(&rt, ack.results.len(), ITEMS);
             for (told, number) in ack.results.iter().zip(NUMBERS) {
                 tells_error(&rt, told, object(0, u32::from(number))?);
             }
@@ -290,13 +301,13 @@ fn ten_thousand_results_are_told(rt: HostRuntime) -> Result<(), Fail> {
             let [told] = ack.results.as_slice() else {
                 panic!(rt; "no list of one")
             };
-            assert_eq!(rt; told.object, object(0, 5)?);
+            assert_same(&rt, told.object, object(0, 5)?);
             let Some(results) = &told.results else {
                 panic!(rt; "no results")
             };
-            assert_eq!(rt; results.len(), ITEMS);
+            assert_same(&rt, results.len(), ITEMS);
             for (result, number) in results.iter().zip(NUMBERS) {
-                assert_eq!(rt; (result.property, result.index), (Enumerated(85), None));
+                assert_same(&rt, (result.property, result.index), (Enumerated(85), None));
                 match &result.result {
                     ReadResult::Value(value) => is_number(&rt, value, number),
                     ReadResult::Error(cause) => panic!(rt; "{cause:?}"),
@@ -310,10 +321,10 @@ fn ten_thousand_results_are_told(rt: HostRuntime) -> Result<(), Fail> {
 
 /// The values are those of the property 85, one for each number, without priorities.
 fn are_numbered(rt: &impl Abort, values: &[PropertyValue]) {
-    assert_eq!(rt; values.len(), ITEMS);
+    assert_same(rt, values.len(), ITEMS);
     for (value, number) in values.iter().zip(NUMBERS) {
-        assert_eq!(rt; (value.property, value.index), (Enumerated(85), None));
-        assert_eq!(rt; value.priority, None);
+        assert_same(rt, (value.property, value.index), (Enumerated(85), None));
+        assert_same(rt, value.priority, None);
         is_number(rt, &value.value, number);
     }
 }
@@ -330,7 +341,7 @@ fn ten_thousand_values_are_told(rt: HostRuntime) -> Result<(), Fail> {
     for service in [(Kind::Confirmed, 1), (Kind::Unconfirmed, 2)] {
         match kept(&rt, alloc, service, &octets)? {
             Service::CovNotification(notification) => {
-                assert_eq!(rt; notification.object, object(0, 10)?);
+                assert_same(&rt, notification.object, object(0, 10)?);
                 are_numbered(&rt, notification.values.as_slice());
             }
             _ => panic!(rt; "no notification"),
@@ -351,7 +362,7 @@ fn ten_thousand_values_are_written(rt: HostRuntime) -> Result<(), Fail> {
             let [spec] = request.specs.as_slice() else {
                 panic!(rt; "no list of one")
             };
-            assert_eq!(rt; spec.object, object(1, 1)?);
+            assert_same(&rt, spec.object, object(1, 1)?);
             are_numbered(&rt, spec.values.as_slice());
         }
         _ => panic!(rt; "no request"),
@@ -367,14 +378,14 @@ fn values_of_ten_thousand_objects_are_written(rt: HostRuntime) -> Result<(), Fai
     let octets = numbered(alloc, &[0x0C, 0, 0], &behind)?;
     match kept(&rt, alloc, (Kind::Confirmed, 16), &octets)? {
         Service::WritePropertyMultiple(request) => {
-            assert_eq!(rt; request.specs.len(), ITEMS);
+            assert_same(&rt, request.specs.len(), ITEMS);
             for (spec, number) in request.specs.iter().zip(NUMBERS) {
-                assert_eq!(rt; spec.object, object(0, u32::from(number))?);
+                assert_same(&rt, spec.object, object(0, u32::from(number))?);
                 let [value] = spec.values.as_slice() else {
                     panic!(rt; "{spec:?}")
                 };
-                assert_eq!(rt; (value.property, value.index), (Enumerated(85), None));
-                assert_eq!(rt; value.priority, None);
+                assert_same(&rt, (value.property, value.index), (Enumerated(85), None));
+                assert_same(&rt, value.priority, None);
                 is_number(&rt, &value.value, 7);
             }
         }

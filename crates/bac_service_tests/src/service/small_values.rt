@@ -1,6 +1,7 @@
 //! Values that are compared and printed whole.
 
 use super::object;
+use crate::expectations::assert_same;
 use bac_service::{
     ErrorCause, IAm, Kind, OpaqueFault, PropertyReference, ReadProperty, ServiceError,
     SubscribeCov, Unsigned16, Unsigned32, WhoIs,
@@ -25,7 +26,7 @@ fn is_shown<T: Copy + Debug + PartialEq>(
         Ok(shown) => shown,
         Err(_) => format!(in alloc; "{value:?}")?,
     };
-    assert_eq!(rt; shown.as_str(), text);
+    assert_same(rt, shown.as_str(), text);
     Ok(())
 }
 
@@ -185,12 +186,13 @@ fn a_device_has_its_fields(rt: HostRuntime) -> Result<(), Fail> {
 #[test]
 fn faults_and_numbers_are_shown(rt: HostRuntime) -> Result<(), Fail> {
     let fault = OpaqueFault::Typed;
-    assert_eq!(rt;
+    assert_same(
+        &rt,
         format!(in rt.alloc(); "{fault}")?.as_str(),
-        "the kind and the service choice have a production"
+        "the kind and the service choice have a production",
     );
-    assert_eq!(rt; fault as u8, 1);
-    assert_eq!(rt; Unsigned32::from(u32::MAX), Unsigned32(u32::MAX));
+    assert_same(&rt, fault as u8, 1);
+    assert_same(&rt, Unsigned32::from(u32::MAX), Unsigned32(u32::MAX));
     assert!(rt; Unsigned16::from(255) < Unsigned16(256));
     Ok(())
 }

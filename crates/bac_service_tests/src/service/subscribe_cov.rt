@@ -1,6 +1,7 @@
 //! SubscribeCOV.
 
 use super::{canonical, fronts, is_kept, judge, longer_heads, object};
+use crate::expectations::assert_same;
 use bac_service::{Kind, Service, SubscribeCov, Unsigned32};
 use std::test::Fail;
 
@@ -22,7 +23,7 @@ fn a_subscription_without_end_has_lifetime_0(rt: HostRuntime) -> Result<(), Fail
                 confirmed: Some(true),
                 lifetime: Some(Unsigned32(0)),
             };
-            assert_eq!(rt; request, wanted);
+            assert_same(&rt, request, wanted);
         }
         found => panic!(rt; "{found:?}"),
     }
@@ -44,9 +45,10 @@ fn the_last_two_fields_may_be_absent(rt: HostRuntime) -> Result<(), Fail> {
     for (octets, confirmed, lifetime) in table {
         match canonical(&rt, rt.alloc(), SERVICE, octets)? {
             Service::SubscribeCov(request) => {
-                assert_eq!(rt;
+                assert_same(
+                    &rt,
                     (request.confirmed, request.lifetime),
-                    (confirmed, lifetime)
+                    (confirmed, lifetime),
                 );
             }
             found => panic!(rt; "{found:?}"),

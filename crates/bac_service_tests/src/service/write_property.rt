@@ -1,6 +1,7 @@
 //! WriteProperty.
 
 use super::{canonical, fronts, gives, judge, longer_heads, object};
+use crate::expectations::assert_same;
 use bac_data::Event;
 use bac_service::{Kind, Service, Unsigned32};
 use bac_value::{Enumerated, Null, PrimRef, Priority, RealBits};
@@ -26,9 +27,13 @@ fn a_value_is_written_with_a_priority(rt: HostRuntime) -> Result<(), Fail> {
     for (number, octets) in table {
         match canonical(&rt, rt.alloc(), SERVICE, octets)? {
             Service::WriteProperty(request) => {
-                assert_eq!(rt; request.object, object(1, 1)?);
-                assert_eq!(rt; (request.property, request.index), (Enumerated(85), None));
-                assert_eq!(rt; request.priority, Priority::new(number));
+                assert_same(&rt, request.object, object(1, 1)?);
+                assert_same(
+                    &rt,
+                    (request.property, request.index),
+                    (Enumerated(85), None),
+                );
+                assert_same(&rt, request.priority, Priority::new(number));
                 let real = PrimRef::RealBits(RealBits(0x42C8_0000));
                 gives(&rt, &request.value, &[Event::App(real)]);
             }
@@ -45,8 +50,8 @@ fn a_value_is_written_without_a_priority(rt: HostRuntime) -> Result<(), Fail> {
     let octets = "0C 00 40 00 01 19 55 29 03 3E 00 3F";
     match canonical(&rt, rt.alloc(), SERVICE, octets)? {
         Service::WriteProperty(request) => {
-            assert_eq!(rt; request.index, Some(Unsigned32(3)));
-            assert_eq!(rt; request.priority, None);
+            assert_same(&rt, request.index, Some(Unsigned32(3)));
+            assert_same(&rt, request.priority, None);
             gives(&rt, &request.value, &[Event::App(PrimRef::Null(Null))]);
         }
         found => panic!(rt; "{found:?}"),

@@ -1,6 +1,7 @@
 //! WritePropertyMultiple.
 
 use super::{canonical, fronts, gives, judge, longer_heads, object};
+use crate::expectations::assert_same;
 use bac_data::Event;
 use bac_service::{Kind, Service, Unsigned32};
 use bac_value::{Enumerated, PrimRef, Priority, RealBits};
@@ -33,12 +34,12 @@ fn a_value_is_written_with_a_priority(rt: HostRuntime) -> Result<(), Fail> {
             let [spec] = request.specs.as_slice() else {
                 panic!(rt; "{request:?}")
             };
-            assert_eq!(rt; spec.object, object(1, 1)?);
+            assert_same(&rt, spec.object, object(1, 1)?);
             let [value] = spec.values.as_slice() else {
                 panic!(rt; "{request:?}")
             };
-            assert_eq!(rt; (value.property, value.index), (Enumerated(85), None));
-            assert_eq!(rt; value.priority, Priority::new(8));
+            assert_same(&rt, (value.property, value.index), (Enumerated(85), None));
+            assert_same(&rt, value.priority, Priority::new(8));
             let real = PrimRef::RealBits(RealBits(0x42C8_0000));
             gives(&rt, &value.value, &[Event::App(real)]);
         }
@@ -113,11 +114,16 @@ fn an_error_tells_the_first_write_that_failed(rt: HostRuntime) -> Result<(), Fai
     let octets = "0E 91 02 91 20 0F 1E 0C 00 40 00 01 19 55 29 03 1F";
     match canonical(&rt, rt.alloc(), ERROR, octets)? {
         Service::WritePropertyMultipleError(error) => {
-            assert_eq!(rt; (error.class, error.code), (Enumerated(2), Enumerated(32)));
-            assert_eq!(rt; error.object, object(1, 1)?);
-            assert_eq!(rt;
+            assert_same(
+                &rt,
+                (error.class, error.code),
+                (Enumerated(2), Enumerated(32)),
+            );
+            assert_same(&rt, error.object, object(1, 1)?);
+            assert_same(
+                &rt,
                 (error.property, error.index),
-                (Enumerated(85), Some(Unsigned32(3)))
+                (Enumerated(85), Some(Unsigned32(3))),
             );
         }
         found => panic!(rt; "{found:?}"),

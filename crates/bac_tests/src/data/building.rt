@@ -1,6 +1,7 @@
 //! Building open values, and walking over them. Where memory is refused a call is made again, so that each
 //! test can be run with each of its allocations refused in turn (`rt try --test --fail-alloc N`).
 
+use crate::expectations::assert_same;
 use bac_data::{Any, AnyBuilder, BuildFault, Event};
 use bac_tables::{octets_of, rows_of};
 use bac_tag::OutOfMemory;
@@ -54,7 +55,7 @@ fn push(
     match builder.push(prim) {
         Ok(()) => Ok(()),
         Err((prim, fault)) => {
-            assert_eq!(rt; fault, BuildFault::OutOfMemory);
+            assert_same(rt, fault, BuildFault::OutOfMemory);
             builder.push(prim).map_err(|back| back.1)
         }
     }
@@ -113,9 +114,9 @@ fn refuses_contents(rt: &impl Abort, builder: &mut AnyBuilder, beyond: &[u8]) {
 
 /// The value has these events.
 fn gives(rt: &impl Abort, value: &Any, events: &[Event]) {
-    assert_eq!(rt; value.count(), events.len());
+    assert_same(rt, value.count(), events.len());
     for (event, wanted) in value.events().zip(events) {
-        assert_eq!(rt; event, *wanted);
+        assert_same(rt, &event, wanted);
     }
 }
 
@@ -166,7 +167,7 @@ fn a_value_may_be_one_primitive(rt: HostRuntime) -> Result<(), Fail> {
     let mut builder = begun(rt.alloc())?;
     let real = RealBits(0x4290_999A);
     if let Err((prim, fault)) = builder.push(Prim::RealBits(real)) {
-        assert_eq!(rt; fault, BuildFault::OutOfMemory);
+        assert_same(&rt, fault, BuildFault::OutOfMemory);
         builder.push(prim)?;
     }
     let value = builder.finish()?;
@@ -190,7 +191,7 @@ fn thirty_two_groups_nest(rt: HostRuntime) -> Result<(), Fail> {
         takes(&rt, rt.alloc(), &mut builder, "close -> taken")?;
     }
     let value = builder.finish()?;
-    assert_eq!(rt; value.count(), 64);
+    assert_same(&rt, value.count(), 64);
     for (place, event) in value.events().enumerate() {
         let wanted = if place < 32 {
             Event::Open(0)

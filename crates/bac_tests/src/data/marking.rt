@@ -1,5 +1,6 @@
 //! Where octets that are read as an open value differ from the canonical ones.
 
+use crate::expectations::assert_same;
 use bac_data::{Any, read_any_marked};
 use bac_tables::{octets_of, rows_of};
 use bac_tag::{Refusal, Why};
@@ -35,7 +36,7 @@ fn the_first_octet_that_differs_is_told(rt: HostRuntime) -> Result<(), Fail> {
     for row in rows_of(table)?.iter() {
         let octets = octets_of(row.octets)?;
         let (_, taken, found) = read(rt.alloc(), &octets)?;
-        assert_eq!(rt; taken, octets.len());
+        assert_same(&rt, taken, octets.len());
         assert_eq!(rt; found, row.mark()?, "of {}", row.octets);
     }
     Ok(())
@@ -46,12 +47,13 @@ fn the_first_octet_that_differs_is_told(rt: HostRuntime) -> Result<(), Fail> {
 fn a_refusal_is_that_of_read_any(rt: HostRuntime) {
     match read(rt.alloc(), &[0x3E, 0x3E, 0x4F]) {
         Ok(_) => assert!(rt; false),
-        Err(refusal) => assert_eq!(rt;
+        Err(refusal) => assert_same(
+            &rt,
             refusal,
             Refusal {
                 place: 2,
-                why: Why::Tag
-            }
+                why: Why::Tag,
+            },
         ),
     }
 }

@@ -1,6 +1,7 @@
 //! What is read as an open value, and where other octets are refused. Where memory is refused a value is read
 //! again, so that the tests can be run with each allocation refused in turn (`rt try --test --fail-alloc N`).
 
+use crate::expectations::assert_same;
 use bac_data::{Any, read_any, write_any};
 use bac_tables::{Octets, TableFault, joined, octets_of, rows_of};
 use bac_tag::{OutOfMemory, Refusal, Why};
@@ -12,7 +13,7 @@ use std::test::Fail;
 fn read(rt: &impl Abort, alloc: Global, octets: &[u8]) -> Result<(Any, usize), Refusal> {
     match read_any(alloc, octets, 3) {
         Err(refusal) if refusal.why == Why::OutOfMemory => {
-            assert_eq!(rt; refusal.place, 0);
+            assert_same(rt, refusal.place, 0);
             read_any(alloc, octets, 3)
         }
         found => found,
@@ -22,10 +23,10 @@ fn read(rt: &impl Abort, alloc: Global, octets: &[u8]) -> Result<(Any, usize), R
 /// With number 3 the value of these octets takes all of them, and is written so.
 fn reads(rt: &impl Abort, alloc: Global, octets: &[u8], written: &[u8]) -> Result<(), Fail> {
     let (value, taken) = read(rt, alloc, octets)?;
-    assert_eq!(rt; taken, octets.len());
+    assert_same(rt, taken, octets.len());
     let mut out = Vec::new(alloc);
     write_any(&value, 3, &mut out)?;
-    assert_eq!(rt; out.as_slice(), written);
+    assert_same(rt, out.as_slice(), written);
     Ok(())
 }
 
@@ -138,7 +139,7 @@ fn nested(alloc: Global, count: usize) -> Result<Vec<u8>, OutOfMemory> {
 fn thirty_two_groups_nest(rt: HostRuntime) -> Result<(), Fail> {
     let alloc = rt.alloc();
     let octets = nested(alloc, 32)?;
-    assert_eq!(rt; octets.len(), 66);
+    assert_same(&rt, octets.len(), 66);
     reads(&rt, alloc, octets.as_slice(), octets.as_slice())?;
     let octets = nested(alloc, 33)?;
     refuses(&rt, alloc, octets.as_slice(), 33, "Depth");
@@ -222,16 +223,17 @@ fn what_stands_behind_the_value_is_left(rt: HostRuntime) -> Result<(), Fail> {
     let alloc = rt.alloc();
     let octets = [0x3E, 0xF9, 0x0E, 0x55, 0x3F, 0x3E];
     let (value, taken) = read(&rt, alloc, &octets)?;
-    assert_eq!(rt; taken, 5);
-    assert_eq!(rt; value.count(), 1);
+    assert_same(&rt, taken, 5);
+    assert_same(&rt, value.count(), 1);
     match read_any(alloc, &octets, 2) {
         Ok(_) => assert!(rt; false),
-        Err(refusal) => assert_eq!(rt;
+        Err(refusal) => assert_same(
+            &rt,
             refusal,
             Refusal {
                 place: 0,
-                why: Why::Tag
-            }
+                why: Why::Tag,
+            },
         ),
     }
     Ok(())
@@ -244,8 +246,8 @@ fn a_value_is_read_again_where_memory_was_refused(rt: HostRuntime) -> Result<(),
     octets[0] = 0x3E;
     octets[129] = 0x3F;
     let (value, taken) = read(&rt, rt.alloc(), &octets)?;
-    assert_eq!(rt; taken, 130);
-    assert_eq!(rt; value.count(), 64);
+    assert_same(&rt, taken, 130);
+    assert_same(&rt, value.count(), 64);
     Ok(())
 }
 
@@ -273,7 +275,7 @@ fn a_mebibyte_is_read_with_few_allocations(rt: HostRuntime) -> Result<(), Fail> 
     }
     octets.push(0x3F)?;
     let (value, taken) = read_any(alloc, octets.as_slice(), 3)?;
-    assert_eq!(rt; taken, 1 << 20);
-    assert_eq!(rt; value.count(), (1 << 19) - 1);
+    assert_same(&rt, taken, 1 << 20);
+    assert_same(&rt, value.count(), (1 << 19) - 1);
     Ok(())
 }

@@ -1,6 +1,7 @@
 //! Open values of many octets and of many elements are built, read and written whole: no clause says that memory is
 //! there.
 
+use crate::expectations::assert_same;
 use bac_data::{Any, AnyBuilder, Event, read_any, read_any_marked, write_any};
 use bac_tables::{ITEMS, enclosed, mixed, numbered};
 use bac_tag::OutOfMemory;
@@ -21,7 +22,7 @@ const NUMBERS: std::ops::Range<u16> = 1_000..11_000;
 
 /// The value has these events.
 fn gives(rt: &impl Abort, value: &Any, events: &[Event]) {
-    assert_eq!(rt; value.count(), events.len());
+    assert_same(rt, value.count(), events.len());
     for (event, wanted) in value.events().zip(events) {
         assert!(rt; event == *wanted);
     }
@@ -35,9 +36,9 @@ fn kept(rt: &impl Abort, alloc: Global, value: &Any, octets: &[u8]) -> Result<(A
     assert!(rt; out.get(..65_535) == Some(front.as_slice()));
     assert!(rt; out.get(65_535..) == Some(octets));
     let (read, taken) = read_any(alloc, octets, 3)?;
-    assert_eq!(rt; taken, octets.len());
+    assert_same(rt, taken, octets.len());
     let (marked, taken, mark) = read_any_marked(alloc, octets, 3)?;
-    assert_eq!(rt; (taken, mark), (octets.len(), None));
+    assert_same(rt, (taken, mark), (octets.len(), None));
     Ok((read, marked))
 }
 
@@ -150,7 +151,7 @@ fn context_primitives_of_every_size_are_kept(rt: HostRuntime) -> Result<(), Fail
 
 /// The elements are the numbers, as application primitives.
 fn are_numbers(rt: &impl Abort, value: &Any) {
-    assert_eq!(rt; value.count(), ITEMS);
+    assert_same(rt, value.count(), ITEMS);
     for (event, number) in value.events().zip(NUMBERS) {
         let wanted = Unsigned(u64::from(number));
         assert!(rt; event == Event::App(PrimRef::Unsigned(wanted)), "{number}");
@@ -177,14 +178,14 @@ fn ten_thousand_application_primitives_are_kept(rt: HostRuntime) -> Result<(), F
 /// The event is a context primitive with number 1, and the octets of the number.
 fn is_contextual(rt: &impl Abort, event: Event<'_>, number: u16) {
     match event {
-        Event::Ctx(1, octets) => assert_eq!(rt; octets, number.to_be_bytes().as_slice()),
+        Event::Ctx(1, octets) => assert_same(rt, octets, number.to_be_bytes().as_slice()),
         other => panic!(rt; "{other:?} and not {number}"),
     }
 }
 
 /// The elements are the octets of the numbers, as context primitives.
 fn are_contextual(rt: &impl Abort, value: &Any) {
-    assert_eq!(rt; value.count(), ITEMS);
+    assert_same(rt, value.count(), ITEMS);
     for (event, number) in value.events().zip(NUMBERS) {
         is_contextual(rt, event, number);
     }
@@ -209,7 +210,7 @@ fn ten_thousand_context_primitives_are_kept(rt: HostRuntime) -> Result<(), Fail>
 
 /// The elements are groups with number 4, one behind the other and each with nothing in it.
 fn are_groups(rt: &impl Abort, value: &Any) {
-    assert_eq!(rt; value.count(), 2 * ITEMS);
+    assert_same(rt, value.count(), 2 * ITEMS);
     for (place, event) in value.events().enumerate() {
         let wanted = if place % 2 == 0 {
             Event::Open(4)

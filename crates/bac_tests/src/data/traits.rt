@@ -1,5 +1,6 @@
 //! Open values by Rust's own traits.
 
+use crate::expectations::assert_same;
 use bac_data::{Any, AnyBuilder, BuildFault, Event, read_any};
 use bac_value::{Prim, PrimRef, Unsigned};
 use std::alloc::Global;
@@ -21,14 +22,14 @@ fn a_value_is_walked_by_a_loop(rt: HostRuntime) -> Result<(), Fail> {
         Event::App(PrimRef::Unsigned(Unsigned(5))),
         Event::Close(7),
     ];
-    assert_eq!(rt; value.events().size_hint(), (3, Some(3)));
+    assert_same(&rt, value.events().size_hint(), (3, Some(3)));
     let mut place = 0;
     for event in &value {
         assert!(rt; place < 3, "{event:?}");
         assert_eq!(rt; event, wanted[place], "event {place}");
         place += 1;
     }
-    assert_eq!(rt; place, 3);
+    assert_same(&rt, place, 3);
     Ok(())
 }
 
@@ -43,7 +44,7 @@ fn value_of(alloc: Global, octets: &[u8]) -> Result<Any, Fail> {
 fn values_are_compared_by_what_they_say(rt: HostRuntime) -> Result<(), Fail> {
     let value = value_of(rt.alloc(), &[0x3E, 0x7E, 0x21, 0x05, 0x7F, 0x3F])?;
     let longer = [0x3E, 0x7E, 0x22, 0x00, 0x05, 0x7F, 0x3F];
-    assert_eq!(rt; value, value_of(rt.alloc(), &longer)?);
+    assert_same(&rt, &value, &value_of(rt.alloc(), &longer)?);
     let others: [&[u8]; 6] = [
         &[0x3E, 0x3F],
         &[0x3E, 0x21, 0x05, 0x3F],
@@ -55,18 +56,19 @@ fn values_are_compared_by_what_they_say(rt: HostRuntime) -> Result<(), Fail> {
     for other in others {
         assert_ne!(rt; value, value_of(rt.alloc(), other)?, "{other:?}");
     }
-    assert_eq!(rt; value.clone()?, value);
+    assert_same(&rt, value.clone()?, value);
     Ok(())
 }
 
 #[test]
 fn faults_are_shown(rt: HostRuntime) -> Result<(), Fail> {
     let fault = BuildFault::Number;
-    assert_eq!(rt;
+    assert_same(
+        &rt,
         format!(in rt.alloc(); "{fault}")?.as_str(),
-        "255 is no tag number"
+        "255 is no tag number",
     );
-    assert_eq!(rt; fault as u8, 1);
-    assert_eq!(rt; BuildFault::TooLong as u8, 6);
+    assert_same(&rt, fault as u8, 1);
+    assert_same(&rt, BuildFault::TooLong as u8, 6);
     Ok(())
 }

@@ -1,5 +1,6 @@
 //! What is written of open values.
 
+use crate::expectations::assert_same;
 use bac_data::{Any, AnyBuilder, write_any};
 use bac_tables::octets_of;
 use bac_tag::OutOfMemory;
@@ -41,7 +42,7 @@ fn writes(rt: &impl Abort, alloc: Global, value: &Any, inner: &str) -> Result<()
     wanted.push(0x3F)?;
     let mut out = vec![in alloc; 0xAA]?;
     write_any(value, 3, &mut out)?;
-    assert_eq!(rt; out, wanted);
+    assert_same(rt, out, wanted);
     Ok(())
 }
 
@@ -107,8 +108,8 @@ fn refused_memory_leaves_what_was_written_before(rt: HostRuntime) -> Result<(), 
     for _ in 0..16 {
         let before = out.len();
         match write_any(&value, 3, &mut out) {
-            Ok(()) => assert_eq!(rt; out.len(), before + 28),
-            Err(OutOfMemory) => assert_eq!(rt; out.len(), before),
+            Ok(()) => assert_same(&rt, out.len(), before + 28),
+            Err(OutOfMemory) => assert_same(&rt, out.len(), before),
         }
     }
     Ok(())

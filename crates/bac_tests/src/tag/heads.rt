@@ -2,6 +2,7 @@
 
 ghost use Rattle.bac_tag.specs.Expected.{IsSound};
 
+use crate::expectations::assert_same;
 use bac_tables::{Row, octets_of, rows_of};
 use bac_tag::layers::{
     Expected, append_head, first_difference, first_hopeless, mark_head, mark_read_head, number_of,
@@ -155,9 +156,9 @@ fn are_canonical(rt: &impl Abort, alloc: Global, table: &str) -> Result<(), Fail
         let found = read_head(&octets);
         is_told(rt, alloc, row, found)?;
         let (head, taken) = found?;
-        assert_eq!(rt; taken, octets.len());
+        assert_same(rt, taken, octets.len());
         assert!(rt; head.is_valid());
-        assert_eq!(rt; write_head(head).as_slice(), octets.as_slice());
+        assert_same(rt, write_head(head).as_slice(), octets.as_slice());
         assert_eq!(rt; head_len(head), taken, "{head:?}");
     }
     Ok(())
@@ -174,7 +175,7 @@ fn appends_heads(rt: HostRuntime) -> Result<(), Fail> {
     append_head(head, &mut out)?;
     append_head(TagHead::AppBool(true), &mut out)?;
     let octets = [0x3E, 0xFD, 0x0F, 0xFE, 0x01, 0x2C, 0x11];
-    assert_eq!(rt; out.as_slice(), octets.as_slice());
+    assert_same(&rt, out.as_slice(), octets.as_slice());
     Ok(())
 }
 
@@ -232,6 +233,7 @@ fn marks(rt: &impl Abort, head: TagHead, table: &str) -> Result<(), Fail> {
         let octets = octets_of(row.octets)?;
         let wanted = row.mark()?;
         let (read, taken) = read_head(&octets)?;
+        // What mark_read_head requires: assert_eq! tells it to the prover.
         assert_eq!(rt; taken, octets.len());
         assert_eq!(rt;
             mark_read_head(&octets, read, head),
@@ -262,23 +264,24 @@ fn marks_heads_that_were_read(rt: HostRuntime) -> Result<(), Fail> {
 
 #[test]
 fn marks_heads(rt: HostRuntime) {
-    assert_eq!(rt; first_difference(&[1, 2], &[1, 3]), Some(1));
-    assert_eq!(rt; first_difference(&[1, 2], &[1]), Some(1));
-    assert_eq!(rt; first_difference(&[1, 2], &[1, 2]), None);
-    assert_eq!(rt; number_of(&[1, 0]), 256);
-    assert_eq!(rt;
+    assert_same(&rt, first_difference(&[1, 2], &[1, 3]), Some(1));
+    assert_same(&rt, first_difference(&[1, 2], &[1]), Some(1));
+    assert_same(&rt, first_difference(&[1, 2], &[1, 2]), None);
+    assert_same(&rt, number_of(&[1, 0]), 256);
+    assert_same(
+        &rt,
         first_hopeless(&[1, 0, 0, 0, 0], 5, 0, 0xFFFF_FFFF),
-        Some(0)
+        Some(0),
     );
-    assert_eq!(rt; number_within(&[1, 0], 2, 0, 300), Ok(256));
-    assert_eq!(rt; number_within(&[1, 45], 2, 0, 300), Err(1));
+    assert_same(&rt, number_within(&[1, 0], 2, 0, 300), Ok(256));
+    assert_same(&rt, number_within(&[1, 45], 2, 0, 300), Err(1));
 }
 
 #[test]
 fn names_reasons(rt: HostRuntime) {
-    assert_eq!(rt; Why::Short as u8, 1);
-    assert_eq!(rt; Why::OutOfMemory as u8, 12);
-    assert_eq!(rt; Why::PduType.name(), "PduType");
+    assert_same(&rt, Why::Short as u8, 1);
+    assert_same(&rt, Why::OutOfMemory as u8, 12);
+    assert_same(&rt, Why::PduType.name(), "PduType");
     let near = Refusal {
         place: 1,
         why: Why::Tag,
@@ -287,10 +290,10 @@ fn names_reasons(rt: HostRuntime) {
         place: 1,
         why: Why::Length,
     };
-    assert_eq!(rt; near.farther(far), far);
-    assert_eq!(rt; near.behind(2).place, 3);
-    assert_eq!(rt; near.behind(2).why, Why::Tag);
-    assert_eq!(rt; OutOfMemory, OutOfMemory);
+    assert_same(&rt, near.farther(far), far);
+    assert_same(&rt, near.behind(2).place, 3);
+    assert_same(&rt, near.behind(2).why, Why::Tag);
+    assert_same(&rt, OutOfMemory, OutOfMemory);
 }
 
 #[test]

@@ -1,5 +1,6 @@
 //! Refusals as they are shown, and the laws.
 
+use crate::expectations::assert_same;
 use bac_tag::{OutOfMemory, Refusal, Why, laws};
 use std::test::Fail;
 
@@ -10,14 +11,20 @@ fn a_refusal_is_shown_with_its_place(rt: HostRuntime) -> Result<(), Fail> {
         place: 3,
         why: Why::Tag,
     };
-    assert_eq!(rt; format!(in rt.alloc(); "{refusal}")?.as_str(), "Tag at 3");
-    assert_eq!(rt;
-        format!(in rt.alloc(); "{}", Why::NotCanonical)?.as_str(),
-        "NotCanonical"
+    assert_same(
+        &rt,
+        format!(in rt.alloc(); "{refusal}")?.as_str(),
+        "Tag at 3",
     );
-    assert_eq!(rt;
+    assert_same(
+        &rt,
+        format!(in rt.alloc(); "{}", Why::NotCanonical)?.as_str(),
+        "NotCanonical",
+    );
+    assert_same(
+        &rt,
         format!(in rt.alloc(); "{OutOfMemory}")?.as_str(),
-        "out of memory"
+        "out of memory",
     );
     Ok(())
 }

@@ -1,6 +1,7 @@
 //! Heads of one octet (clause 20.2.1): the number, 0 to 14, and the class, with an LVT of 0 to 4 for a length, 6 for an
 //! opening tag and 7 for a closing one. A head that is not the least of its spellings is none of them.
 
+use crate::expectations::assert_same;
 use bac_tables::{octets_of, rows_of};
 use bac_tag::TagHead;
 use bac_tag::layers::{is_short_closing, is_short_opening, short_len};
@@ -54,7 +55,7 @@ fn tells_context(
 /// The heads of context class with this number, one for each LVT, are told by it, whatever stands behind.
 fn lvt_tells_context(rt: &impl Abort, number: u8, heads: &str) -> Result<(), Fail> {
     let heads = octets_of(heads)?;
-    assert_eq!(rt; heads.len(), 8);
+    assert_same(rt, heads.len(), 8);
     for (lvt, (octet, len)) in heads.iter().zip(LENGTHS).enumerate() {
         let wanted = (len, (lvt == 6, lvt == 7));
         tells_context(rt, &[*octet], number, wanted);
@@ -81,7 +82,7 @@ fn tells_application(rt: &impl Abort, octets: &[u8], number: u8, wanted: Option<
 /// The heads of application class with this number, one for each LVT, are told by it, whatever stands behind.
 fn lvt_tells_application(rt: &impl Abort, number: u8, heads: &str) -> Result<(), Fail> {
     let heads = octets_of(heads)?;
-    assert_eq!(rt; heads.len(), 8);
+    assert_same(rt, heads.len(), 8);
     for (octet, len) in heads.iter().zip(LENGTHS) {
         tells_application(rt, &[*octet], number, len);
         tells_application(rt, &[*octet, 0], number, len);

@@ -1,6 +1,7 @@
 //! Contents of a fixed length: each other length from 0 to 9 octets is refused.
 
 use super::{comes_to, judge, refuses_other_lengths};
+use crate::expectations::assert_same;
 use bac_tables::octets_of;
 use bac_value::{Boolean, Date, DoubleBits, Null, ObjectId, Primitive, RealBits, Time};
 use std::test::Fail;
@@ -25,8 +26,8 @@ fn a_boolean_is_one_octet(rt: HostRuntime) -> Result<(), Fail> {
         01 01 -> Length at 0
     ";
     judge::<Boolean>(&rt, rt.alloc(), rows)?;
-    assert_eq!(rt; Boolean::read(rt.alloc(), &[0])?, Boolean(false));
-    assert_eq!(rt; Boolean::read(rt.alloc(), &[1])?, Boolean(true));
+    assert_same(&rt, Boolean::read(rt.alloc(), &[0])?, Boolean(false));
+    assert_same(&rt, Boolean::read(rt.alloc(), &[1])?, Boolean(true));
     Ok(())
 }
 
@@ -44,7 +45,7 @@ fn real_numbers_are_kept_as_bits(rt: HostRuntime) -> Result<(), Fail> {
     ";
     judge::<RealBits>(&rt, rt.alloc(), rows)?;
     let read = RealBits::read(rt.alloc(), &[0x42, 0x90, 0x99, 0x9A])?;
-    assert_eq!(rt; read, RealBits(0x4290_999A));
+    assert_same(&rt, read, RealBits(0x4290_999A));
     Ok(())
 }
 
@@ -62,7 +63,7 @@ fn real_numbers_of_double_precision_are_kept_as_bits(rt: HostRuntime) -> Result<
     ";
     judge::<DoubleBits>(&rt, rt.alloc(), rows)?;
     let read = DoubleBits::read(rt.alloc(), &[0x3F, 0xF0, 0, 0, 0, 0, 0, 0])?;
-    assert_eq!(rt; read, DoubleBits(0x3FF0_0000_0000_0000));
+    assert_same(&rt, read, DoubleBits(0x3FF0_0000_0000_0000));
     Ok(())
 }
 
@@ -78,7 +79,7 @@ fn a_date_is_kept_as_it_is(rt: HostRuntime) -> Result<(), Fail> {
     ";
     judge::<Date>(&rt, rt.alloc(), rows)?;
     let read = Date::read(rt.alloc(), &[0x5B, 0x01, 0x18, 0x04])?;
-    assert_eq!(rt; read, Date([91, 1, 24, 4]));
+    assert_same(&rt, read, Date([91, 1, 24, 4]));
     Ok(())
 }
 
@@ -94,7 +95,7 @@ fn a_time_is_kept_as_it_is(rt: HostRuntime) -> Result<(), Fail> {
     ";
     judge::<Time>(&rt, rt.alloc(), rows)?;
     let read = Time::read(rt.alloc(), &[0x11, 0x23, 0x2D, 0x11])?;
-    assert_eq!(rt; read, Time([17, 35, 45, 17]));
+    assert_same(&rt, read, Time([17, 35, 45, 17]));
     Ok(())
 }
 
@@ -122,7 +123,7 @@ fn an_identifier_has_ten_bits_of_kind(rt: HostRuntime) -> Result<(), Fail> {
         );
         assert_eq!(rt; ObjectId::new(kind, instance), Some(read), "of {text}");
     }
-    assert_eq!(rt; ObjectId::new(1024, 0), None);
-    assert_eq!(rt; ObjectId::new(0, 4_194_304), None);
+    assert_same(&rt, ObjectId::new(1024, 0), None);
+    assert_same(&rt, ObjectId::new(0, 4_194_304), None);
     Ok(())
 }

@@ -1,5 +1,6 @@
 //! Values as keys, and how they are made of numbers.
 
+use crate::expectations::assert_same;
 use bac_value::{Bits, Enumerated, Instance, ObjectId, Priority, RangeFault, Unsigned, ValueFault};
 use std::test::Fail;
 
@@ -32,15 +33,15 @@ fn numbers_in_a_range_are_tried(rt: HostRuntime) -> Result<(), Fail> {
         (RangeFault::Priority, "a priority is 1 to 16"),
         (RangeFault::Instance, "an instance is at most 4194303"),
     ] {
-        assert_eq!(rt; format!(in rt.alloc(); "{fault}")?.as_str(), text);
+        assert_same(&rt, format!(in rt.alloc(); "{fault}")?.as_str(), text);
     }
     Ok(())
 }
 
 #[test]
 fn each_number_is_a_value(rt: HostRuntime) {
-    assert_eq!(rt; Enumerated::from(u32::MAX), Enumerated(u32::MAX));
-    assert_eq!(rt; Unsigned::from(u64::MAX), Unsigned(u64::MAX));
+    assert_same(&rt, Enumerated::from(u32::MAX), Enumerated(u32::MAX));
+    assert_same(&rt, Unsigned::from(u64::MAX), Unsigned(u64::MAX));
 }
 
 // An identifier is its kind, then its instance.
@@ -67,23 +68,24 @@ fn bits_may_be_none(rt: HostRuntime) -> Result<(), Fail> {
 fn bits_are_given_in_their_order(rt: HostRuntime) -> Result<(), Fail> {
     let wanted = [true, false, false, true, true, false, true, false, true];
     let bits = Bits::new(rt.alloc(), &wanted)?;
-    assert_eq!(rt; bits.iter().len(), 9);
-    assert_eq!(rt; bits.iter().size_hint(), (9, Some(9)));
+    assert_same(&rt, bits.iter().len(), 9);
+    assert_same(&rt, bits.iter().size_hint(), (9, Some(9)));
     let mut given = Vec::new(rt.alloc());
     for bit in &bits {
         given.push(bit)?;
     }
-    assert_eq!(rt; given.as_slice(), wanted.as_slice());
+    assert_same(&rt, given.as_slice(), wanted.as_slice());
     Ok(())
 }
 
 #[test]
 fn faults_are_shown(rt: HostRuntime) -> Result<(), Fail> {
     let fault = ValueFault::TooLong;
-    assert_eq!(rt;
+    assert_same(
+        &rt,
         format!(in rt.alloc(); "{fault}")?.as_str(),
-        "the contents would have more than 1048576 octets"
+        "the contents would have more than 1048576 octets",
     );
-    assert_eq!(rt; fault as u8, 1);
+    assert_same(&rt, fault as u8, 1);
     Ok(())
 }

@@ -1,5 +1,6 @@
 //! The tag numbers and the lengths of the types, and the longest values.
 
+use crate::expectations::assert_same;
 use bac_tag::{Refusal, Why};
 use bac_value::{
     Bits, Boolean, Date, DoubleBits, Enumerated, Instance, Null, ObjectId, Octets, Primitive,
@@ -11,7 +12,7 @@ use std::test::Fail;
 
 /// By the bound alone: the number of the application tag, and the least and the largest number of octets.
 fn has<T: Primitive>(rt: &impl Abort, app: u8, shortest: usize, longest: usize) {
-    assert_eq!(rt; T::APP, app);
+    assert_same(rt, T::APP, app);
     assert_eq!(rt; T::SHORTEST, shortest, "of tag {app}");
     assert_eq!(rt; T::LONGEST, longest, "of tag {app}");
 }
@@ -44,18 +45,19 @@ fn ends_at<T: Primitive>(
     beyond: &[u8],
 ) -> Result<(), Fail> {
     let value = T::read(alloc, longest)?;
-    assert_eq!(rt; value.mark(longest), None);
-    assert_eq!(rt; value.written_len(), longest.len());
+    assert_same(rt, value.mark(longest), None);
+    assert_same(rt, value.written_len(), longest.len());
     let mut out = Vec::new(alloc);
     value.write(&mut out)?;
     assert!(rt; out.as_slice() == longest);
     let refusal = T::read(alloc, beyond).err();
-    assert_eq!(rt;
+    assert_same(
+        rt,
         refusal,
         Some(Refusal {
             place: 0,
-            why: Why::Length
-        })
+            why: Why::Length,
+        }),
     );
     Ok(())
 }
@@ -67,9 +69,9 @@ fn contents_have_at_most_1_048_576_octets(rt: HostRuntime) -> Result<(), Fail> {
     ends_at::<Octets>(&rt, rt.alloc(), &longest, &beyond)?;
     ends_at::<Text>(&rt, rt.alloc(), &longest, &beyond)?;
     ends_at::<Bits>(&rt, rt.alloc(), &longest, &beyond)?;
-    assert_eq!(rt; Octets::hopeless(&[0xFF], 1_048_576), None);
-    assert_eq!(rt; Text::hopeless(&[0xFF], 1_048_576), None);
-    assert_eq!(rt; Bits::hopeless(&[7, 0xFF], 1_048_576), None);
+    assert_same(&rt, Octets::hopeless(&[0xFF], 1_048_576), None);
+    assert_same(&rt, Text::hopeless(&[0xFF], 1_048_576), None);
+    assert_same(&rt, Bits::hopeless(&[7, 0xFF], 1_048_576), None);
     Ok(())
 }
 
@@ -77,11 +79,16 @@ fn contents_have_at_most_1_048_576_octets(rt: HostRuntime) -> Result<(), Fail> {
 #[test]
 fn more_octets_than_a_value_may_have_are_refused(rt: HostRuntime) -> Result<(), Fail> {
     let longest = vec![in rt.alloc(); 0u8; 1_048_576]?;
-    assert_eq!(rt; Octets::new(rt.alloc(), &longest)?.written_len(), 1_048_576);
+    assert_same(
+        &rt,
+        Octets::new(rt.alloc(), &longest)?.written_len(),
+        1_048_576,
+    );
     let beyond = vec![in rt.alloc(); 0u8; 1_048_577]?;
-    assert_eq!(rt;
+    assert_same(
+        &rt,
         Octets::new(rt.alloc(), &beyond).err(),
-        Some(ValueFault::TooLong)
+        Some(ValueFault::TooLong),
     );
     Ok(())
 }
@@ -90,14 +97,16 @@ fn more_octets_than_a_value_may_have_are_refused(rt: HostRuntime) -> Result<(), 
 #[test]
 fn the_set_counts_among_the_octets_of_a_text(rt: HostRuntime) -> Result<(), Fail> {
     let longest = vec![in rt.alloc(); 0u8; 1_048_575]?;
-    assert_eq!(rt;
+    assert_same(
+        &rt,
         Text::new(rt.alloc(), 0, &longest)?.written_len(),
-        1_048_576
+        1_048_576,
     );
     let beyond = vec![in rt.alloc(); 0u8; 1_048_576]?;
-    assert_eq!(rt;
+    assert_same(
+        &rt,
         Text::new(rt.alloc(), 0, &beyond).err(),
-        Some(ValueFault::TooLong)
+        Some(ValueFault::TooLong),
     );
     Ok(())
 }
@@ -107,12 +116,13 @@ fn the_set_counts_among_the_octets_of_a_text(rt: HostRuntime) -> Result<(), Fail
 fn the_count_of_unused_bits_counts_among_the_octets_of_bits(rt: HostRuntime) -> Result<(), Fail> {
     let longest = vec![in rt.alloc(); false; 8_388_600]?;
     let value = Bits::new(rt.alloc(), &longest)?;
-    assert_eq!(rt; value.len(), 8_388_600);
-    assert_eq!(rt; value.written_len(), 1_048_576);
+    assert_same(&rt, value.len(), 8_388_600);
+    assert_same(&rt, value.written_len(), 1_048_576);
     let beyond = vec![in rt.alloc(); false; 8_388_601]?;
-    assert_eq!(rt;
+    assert_same(
+        &rt,
         Bits::new(rt.alloc(), &beyond).err(),
-        Some(ValueFault::TooLong)
+        Some(ValueFault::TooLong),
     );
     Ok(())
 }

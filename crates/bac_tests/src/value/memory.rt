@@ -1,6 +1,7 @@
 //! Each refusal of memory reaches the caller as such, and what was there stays. Each test takes both ends, so
 //! that it can be run with each of its allocations refused in turn (`rt try --test --fail-alloc N`).
 
+use crate::expectations::assert_same;
 use bac_tag::{OutOfMemory, Refusal, Why};
 use bac_value::{
     Bits, Boolean, Date, DoubleBits, Enumerated, Instance, ObjectId, Octets, Primitive, Priority,
@@ -16,11 +17,11 @@ fn appends<T: Primitive>(rt: &impl Abort, alloc: Global, value: &T, written: &[u
     for _ in 0..40 {
         let before = out.len();
         match value.write(&mut out) {
-            Ok(()) => assert_eq!(rt; out.get(before..), Some(written)),
-            Err(OutOfMemory) => assert_eq!(rt; out.len(), before),
+            Ok(()) => assert_same(rt, out.get(before..), Some(written)),
+            Err(OutOfMemory) => assert_same(rt, out.len(), before),
         }
         for piece in out.chunks(written.len()) {
-            assert_eq!(rt; piece, written);
+            assert_same(rt, piece, written);
         }
     }
 }
@@ -34,7 +35,7 @@ fn is_made<T: Primitive>(
 ) {
     match made {
         Ok(value) => appends(rt, alloc, &value, written),
-        Err(fault) => assert_eq!(rt; fault, ValueFault::OutOfMemory),
+        Err(fault) => assert_same(rt, fault, ValueFault::OutOfMemory),
     }
 }
 
@@ -42,12 +43,13 @@ fn is_made<T: Primitive>(
 fn is_read<T: Primitive>(rt: &impl Abort, alloc: Global, octets: &[u8]) {
     match T::read(alloc, octets) {
         Ok(value) => appends(rt, alloc, &value, octets),
-        Err(refusal) => assert_eq!(rt;
+        Err(refusal) => assert_same(
+            rt,
             refusal,
             Refusal {
                 place: 0,
-                why: Why::OutOfMemory
-            }
+                why: Why::OutOfMemory,
+            },
         ),
     }
 }

@@ -3,6 +3,7 @@
 ghost use Rattle.std.specs.Prelude.{◌≤◌, ◌<◌};
 
 use super::judge;
+use crate::expectations::assert_same;
 use bac_tables::{octets_of, rows_of};
 use bac_value::layers::{
     hopeless_number, mark_number, read_number, write_number, written_number_len,
@@ -283,15 +284,15 @@ fn the_first_octet_that_leaves_the_range_is_told(rt: HostRuntime) -> Result<(), 
 // Of example 62 of docs/EXAMPLES.md.
 #[test]
 fn a_number_has_its_fewest_octets(rt: HostRuntime) -> Result<(), Fail> {
-    assert_eq!(rt; written_number_len(85), 1);
-    assert_eq!(rt; mark_number(85, &[0, 0x55]), Some(0));
-    assert_eq!(rt; mark_number(0, &[0, 0]), Some(1));
-    assert_eq!(rt; mark_number(85, &[0x55]), None);
-    assert_eq!(rt; hopeless_number(&[0, 1], 4, 0, 0xFFFF), Some(1));
-    assert_eq!(rt; hopeless_number(&[0, 0], 4, 0, 0xFFFF), None);
+    assert_same(&rt, written_number_len(85), 1);
+    assert_same(&rt, mark_number(85, &[0, 0x55]), Some(0));
+    assert_same(&rt, mark_number(0, &[0, 0]), Some(1));
+    assert_same(&rt, mark_number(85, &[0x55]), None);
+    assert_same(&rt, hopeless_number(&[0, 1], 4, 0, 0xFFFF), Some(1));
+    assert_same(&rt, hopeless_number(&[0, 0], 4, 0, 0xFFFF), None);
     let mut out = Vec::new(rt.alloc());
     write_number(85, &mut out)?;
     write_number(0, &mut out)?;
-    assert_eq!(rt; out.as_slice(), [0x55, 0].as_slice());
+    assert_same(&rt, out.as_slice(), [0x55, 0].as_slice());
     Ok(())
 }

@@ -2,6 +2,7 @@
 
 ghost use Rattle.std.specs.Prelude.{◌≤◌};
 
+use crate::expectations::assert_same;
 use bac_tables::octets_of;
 use bac_tag::{OutOfMemory, Refusal, Why};
 use bac_value::{
@@ -25,13 +26,13 @@ fn rewrites(
 {
     let (octets, written) = (octets_of(octets)?, octets_of(written)?);
     let prim = Prim::read(alloc, number, &octets)?;
-    assert_eq!(rt; prim.number(), number);
+    assert_same(rt, prim.number(), number);
     assert_eq!(rt; prim.mark(&octets), mark, "of tag {number}");
     assert_eq!(rt; prim.written_len(), written.len(), "of tag {number}");
     let mut out = Vec::new(alloc);
     prim.write(&mut out)?;
     assert_eq!(rt; out.as_slice(), written.as_slice(), "of tag {number}");
-    assert_eq!(rt; prim.as_prim_ref().number(), number);
+    assert_same(rt, prim.as_prim_ref().number(), number);
     assert!(rt; is_borrowed_again(alloc, &prim)?, "of tag {number}");
     Ok(())
 }
@@ -84,9 +85,10 @@ fn a_refusal_is_that_of_the_type(rt: HostRuntime) -> Result<(), Fail> {
     refuses(&rt, rt.alloc(), 8, "03", 0, Why::Content)?;
     refuses(&rt, rt.alloc(), 9, "00 01 00 00 00 00", 1, Why::Content)?;
     refuses(&rt, rt.alloc(), 12, "00 00 05", 0, Why::Length)?;
+    // What Prim::hopeless requires: assert_eq! tells it to the prover.
     assert_eq!(rt; Prim::lengths(9), (1, 8));
-    assert_eq!(rt; Prim::hopeless(9, &[1], 5), Some(0));
-    assert_eq!(rt; Prim::hopeless(9, &[0], 5), None);
+    assert_same(&rt, Prim::hopeless(9, &[1], 5), Some(0));
+    assert_same(&rt, Prim::hopeless(9, &[0], 5), None);
     Ok(())
 }
 
@@ -94,26 +96,29 @@ fn a_refusal_is_that_of_the_type(rt: HostRuntime) -> Result<(), Fail> {
 fn a_value_is_borrowed_as_it_is(rt: HostRuntime) -> Result<(), Fail> {
     let alloc = rt.alloc();
     let octets = Prim::Octets(Octets::new(alloc, &[0xAB])?);
-    assert_eq!(rt; octets.as_prim_ref(), PrimRef::Octets(&[0xAB]));
+    assert_same(&rt, octets.as_prim_ref(), PrimRef::Octets(&[0xAB]));
     let text = Prim::Text(Text::new(alloc, 5, &[0xE9])?);
-    assert_eq!(rt;
+    assert_same(
+        &rt,
         text.as_prim_ref(),
         PrimRef::Text {
             set: 5,
-            octets: &[0xE9]
-        }
+            octets: &[0xE9],
+        },
     );
     let bits = Prim::Bits(Bits::read(alloc, &[4, 0x5F])?);
-    assert_eq!(rt;
+    assert_same(
+        &rt,
         bits.as_prim_ref(),
         PrimRef::Bits {
             count: 4,
-            packed: &[0x50]
-        }
+            packed: &[0x50],
+        },
     );
-    assert_eq!(rt;
+    assert_same(
+        &rt,
         Prim::RealBits(RealBits(0x4290_999A)).as_prim_ref(),
-        PrimRef::RealBits(RealBits(0x4290_999A))
+        PrimRef::RealBits(RealBits(0x4290_999A)),
     );
     assert_ne!(rt; Prim::Null(Null), Prim::Unsigned(Unsigned(0)));
     Ok(())
@@ -122,17 +127,23 @@ fn a_value_is_borrowed_as_it_is(rt: HostRuntime) -> Result<(), Fail> {
 // Of examples 5, 17 and 42 of docs/EXAMPLES.md.
 #[test]
 fn numbers_in_a_range_are_made_of_no_others(rt: HostRuntime) {
-    assert_eq!(rt; Priority::new(0), None);
-    assert_eq!(rt; Priority::new(17), None);
-    assert_eq!(rt; Priority::new(1).map(|priority| priority.number()), Some(1));
-    assert_eq!(rt;
+    assert_same(&rt, Priority::new(0), None);
+    assert_same(&rt, Priority::new(17), None);
+    assert_same(
+        &rt,
+        Priority::new(1).map(|priority| priority.number()),
+        Some(1),
+    );
+    assert_same(
+        &rt,
         Priority::new(16).map(|priority| priority.number()),
-        Some(16)
+        Some(16),
     );
-    assert_eq!(rt; Instance::new(4_194_304), None);
-    assert_eq!(rt;
+    assert_same(&rt, Instance::new(4_194_304), None);
+    assert_same(
+        &rt,
         Instance::new(4_194_303).map(|instance| instance.number()),
-        Some(4_194_303)
+        Some(4_194_303),
     );
-    assert_eq!(rt; ObjectId::new(1024, 0), None);
+    assert_same(&rt, ObjectId::new(1024, 0), None);
 }

@@ -2,6 +2,7 @@
 
 ghost use Rattle.std.specs.Prelude.{◌≤◌, ◌<◌};
 
+use crate::expectations::assert_same;
 use bac_tables::{mixed, octets_of};
 use bac_value::layers::{append_written, mark_contents, write_number, written_len_of};
 use bac_value::{Bits, Octets, Prim, PrimRef, Primitive, Text};
@@ -14,7 +15,7 @@ const SIZES: [usize; 3] = [1_497, 65_535, 1_048_576];
 
 /// What is there has these octets, and those behind them.
 fn are_joined(rt: &impl Abort, out: &[u8], front: &[u8], behind: &[u8]) {
-    assert_eq!(rt; out.len(), front.len() + behind.len());
+    assert_same(rt, out.len(), front.len() + behind.len());
     assert!(rt; out.get(..front.len()) == Some(front));
     assert!(rt; out.get(front.len()..) == Some(behind));
 }
@@ -22,8 +23,8 @@ fn are_joined(rt: &impl Abort, out: &[u8], front: &[u8], behind: &[u8]) {
 /// By the bound alone: canonical contents are read, and are written behind as many octets.
 fn is_kept<T: Primitive>(rt: &impl Abort, alloc: Global, contents: &[u8]) -> Result<T, Fail> {
     let value = T::read(alloc, contents)?;
-    assert_eq!(rt; value.written_len(), contents.len());
-    assert_eq!(rt; value.mark(contents), None);
+    assert_same(rt, value.written_len(), contents.len());
+    assert_same(rt, value.mark(contents), None);
     let mut out = Vec::from_slice(alloc, contents)?;
     value.write(&mut out)?;
     are_joined(rt, &out, contents, contents);
@@ -35,14 +36,14 @@ fn kept_under(rt: &impl Abort, alloc: Global, number: u8, contents: &[u8]) -> Re
     requires { number ≤ 12 }
 {
     let prim = Prim::read(alloc, number, contents)?;
-    assert_eq!(rt; prim.number(), number);
-    assert_eq!(rt; prim.written_len(), contents.len());
-    assert_eq!(rt; prim.mark(contents), None);
+    assert_same(rt, prim.number(), number);
+    assert_same(rt, prim.written_len(), contents.len());
+    assert_same(rt, prim.mark(contents), None);
     let mut out = Vec::from_slice(alloc, contents)?;
     prim.write(&mut out)?;
     are_joined(rt, &out, contents, contents);
-    assert_eq!(rt; written_len_of(number, contents), contents.len());
-    assert_eq!(rt; mark_contents(number, contents), None);
+    assert_same(rt, written_len_of(number, contents), contents.len());
+    assert_same(rt, mark_contents(number, contents), None);
     let mut out = Vec::from_slice(alloc, contents)?;
     append_written(number, contents, &mut out)?;
     are_joined(rt, &out, contents, contents);
@@ -89,7 +90,7 @@ fn texts_of_every_size_are_kept(rt: HostRuntime) -> Result<(), Fail> {
         };
         let set = *set;
         let made = Text::new(alloc, set, octets)?;
-        assert_eq!(rt; made.set(), set);
+        assert_same(&rt, made.set(), set);
         assert!(rt; made.octets() == octets, "{size} octets");
         let read = is_kept::<Text>(&rt, alloc, &contents)?;
         assert!(rt; read == made, "{size} octets");
@@ -149,7 +150,7 @@ fn bits_of_every_size_are_kept(rt: HostRuntime) -> Result<(), Fail> {
             let count = bits.len().saturating_sub(usize::from(unused));
             let bits = &bits[..count];
             let made = Bits::new(alloc, bits)?;
-            assert_eq!(rt; made.len(), count);
+            assert_same(&rt, made.len(), count);
             assert!(rt; contents.get(1..) == Some(made.packed()), "{count} bits");
             let read = is_kept::<Bits>(&rt, alloc, &contents)?;
             assert!(rt; read == made, "{count} bits");

@@ -1,6 +1,7 @@
 //! The contents of strings, of every length from 0 to 9 octets.
 
 use super::judge;
+use crate::expectations::assert_same;
 use bac_tables::octets_of;
 use bac_value::{Bits, Octets, Primitive, Text};
 use std::test::Fail;
@@ -22,10 +23,10 @@ fn octets_are_their_own_contents(rt: HostRuntime) -> Result<(), Fail> {
     ";
     judge::<Octets>(&rt, rt.alloc(), rows)?;
     let value = Octets::new(rt.alloc(), &[0xAB])?;
-    assert_eq!(rt; value.octets(), [0xAB].as_slice());
+    assert_same(&rt, value.octets(), [0xAB].as_slice());
     let mut out = Vec::new(rt.alloc());
     value.write(&mut out)?;
-    assert_eq!(rt; out.as_slice(), [0xAB].as_slice());
+    assert_same(&rt, out.as_slice(), [0xAB].as_slice());
     Ok(())
 }
 
@@ -49,7 +50,7 @@ fn a_text_has_its_set_in_front(rt: HostRuntime) -> Result<(), Fail> {
     judge::<Text>(&rt, rt.alloc(), rows)?;
     let mut out = Vec::new(rt.alloc());
     Text::new(rt.alloc(), 5, &[0xE9])?.write(&mut out)?;
-    assert_eq!(rt; out.as_slice(), [5, 0xE9].as_slice());
+    assert_same(&rt, out.as_slice(), [5, 0xE9].as_slice());
     Ok(())
 }
 
@@ -66,8 +67,8 @@ fn only_a_text_of_set_0_is_utf_8(rt: HostRuntime) -> Result<(), Fail> {
     for (octets, wanted) in table {
         let octets = octets_of(octets)?;
         let text = Text::read(rt.alloc(), &octets)?;
-        assert_eq!(rt; Some(&text.set()), octets.first());
-        assert_eq!(rt; Some(text.octets()), octets.get(1..));
+        assert_same(&rt, Some(&text.set()), octets.first());
+        assert_same(&rt, Some(text.octets()), octets.get(1..));
         assert_eq!(rt; text.as_utf8(), wanted, "of {octets:?}");
     }
     Ok(())
@@ -158,18 +159,22 @@ fn bits_are_packed_from_the_highest_downwards(rt: HostRuntime) -> Result<(), Fai
 #[test]
 fn values_are_compared_by_what_they_say(rt: HostRuntime) -> Result<(), Fail> {
     let read = Bits::read(rt.alloc(), &[4, 0xFF])?;
-    assert_eq!(rt; read, Bits::new(rt.alloc(), &[true; 4])?);
+    assert_same(&rt, read, Bits::new(rt.alloc(), &[true; 4])?);
     let read = Bits::read(rt.alloc(), &[4, 0x5F])?;
-    assert_eq!(rt; read, Bits::new(rt.alloc(), &[false, true, false, true])?);
+    assert_same(
+        &rt,
+        &read,
+        &Bits::new(rt.alloc(), &[false, true, false, true])?,
+    );
     assert_ne!(rt;
         read,
         Bits::new(rt.alloc(), &[false, true, false, true, false])?
     );
     let read = Octets::read(rt.alloc(), &[1, 2])?;
-    assert_eq!(rt; read, Octets::new(rt.alloc(), &[1, 2])?);
+    assert_same(&rt, &read, &Octets::new(rt.alloc(), &[1, 2])?);
     assert_ne!(rt; read, Octets::new(rt.alloc(), &[1])?);
     let read = Text::read(rt.alloc(), &[1, 2])?;
-    assert_eq!(rt; read, Text::new(rt.alloc(), 1, &[2])?);
+    assert_same(&rt, &read, &Text::new(rt.alloc(), 1, &[2])?);
     assert_ne!(rt; read, Text::new(rt.alloc(), 0, &[2])?);
     Ok(())
 }
