@@ -1,6 +1,6 @@
 -- Marks of what was read.
 use Rattle.std.proofs.Common.{◌≡◌, ◌≢◌, ℕ, ◌+◌, ◌<◌, ◌≤◌, Bool, List, [], ◌∷◌, ◌++◌, Option, None, Some, take, drop, length, refl, sym, ◌∙◌, ap, subst, arith, Bor, append-nil, length-take, length-drop, take-add}
-use Rattle.std.specs.Prelude.{IfNone, IfSome}
+use Rattle.std.specs.Prelude.{false, true, is_some, IfNone, IfSome}
 use Rattle.bac_tag.specs.declared.heads.TagHead.{TagHead}
 use Rattle.bac_tag.specs.declared.heads.TagHead.TheVariants.{App, AppBool, Ctx, Open, Close}
 use Rattle.bac_tag.specs.Octets.{FirstDifference, IsMark, joined_mark}
@@ -173,6 +173,19 @@ module _ (input : List ℕ) (place start taken : ℕ) (i : Item) (o : Option ℕ
 
   place_inside : (k : ℕ) → IsMark (take start (drop place input) ++ item_contents i) (least_item i is).0 (Some k) → place + k < length input
   place_inside k h = omega (arith, within, h.0, ap length lies.octets_are, length-take taken (drop place input), length-drop place input)
+
+-- an item behind a difference changes no mark
+pub marked_already : (input : List ℕ) (place taken : ℕ) (i : Item) (n : ℕ) (es fs : List Event) (m : Option ℕ) → IsItem i → is_some m ≡ true
+    → HasMark n input place es m → fs ≡ es ++ item_event i ∷ [] → HasMark n input (place + taken) fs m
+marked_already input place taken i n es fs None is some h f = absurd (let e : false ≡ true = some in cc)
+marked_already input place taken i n es fs (Some p) is some h f =
+    let l = least_item i is in
+    let octets : take (place + taken) input ≡ take place input ++ take taken (drop place input) = take-add place taken input in
+    record {
+      least = h.least ++ l.0;
+      is_least = rw f (least_more (opening n ∷ es) (item_event i) h.least l.0 h.is_least l.1);
+      is_mark = rw octets (mark_first (take place input) (take taken (drop place input)) h.least l.0 p h.is_mark);
+    }
 
 pub mark_inside : (input : List ℕ) (place start taken : ℕ) (i : Item) (o : Option ℕ) → place ≤ length input → IsItem i → LiesInFront i start taken (drop place input)
     → ((b : List ℕ) → IsLeast (SpellsEvent (item_event i)) b → IsMark (take start (drop place input) ++ item_contents i) b o) → IfSome o (λ k. place + k < length input)

@@ -55,7 +55,8 @@ fn read_value(
             Ok(found) => found,
             Err(refusal) => return Err(refusal.behind(place)),
         };
-        if marks {
+        // Behind the first difference none is looked for.
+        if marks && mark.is_none() {
             mark = joined_marks(mark, place, mark_item(&octets[place..place + start], item));
         }
         place += taken;

@@ -1,6 +1,6 @@
 //! Writing an open value.
 
-ghost use Rattle.std.specs.Prelude.{◌≡◌, ◌≤◌, length, OnOk, OnErr};
+ghost use Rattle.std.specs.Prelude.{◌≡◌, ◌≤◌, ◌++◌, length, OnOk, OnErr};
 ghost use Rattle.std.specs.List.{AllByRecursion};
 ghost use Rattle.bac_tag.specs.Spelling.{AppendsLeast};
 ghost use Rattle.bac_value.specs.PrimContents.{IsWrittenOf};
@@ -14,6 +14,22 @@ use crate::nodes::Node;
 use crate::open_value::Any;
 use bac_tag::layers::append_head;
 use bac_tag::{OutOfMemory, TagHead};
+
+/// Appends contents. Most have one octet to four, which are copied where they stand, without a call.
+#[inline(always)]
+fn append_contents(contents: &[u8], out: &mut Vec<u8>) -> Result<(), OutOfMemory>
+    ensures ok { OnOk result (out.new.items ≡ out.old.items ++ contents.now) }
+    ensures err { OnErr result (out.new.items ≡ out.old.items) }
+{
+    match contents {
+        [a] => out.push(*a)?,
+        [a, b] => out.extend_from_slice(&[*a, *b])?,
+        [a, b, c] => out.extend_from_slice(&[*a, *b, *c])?,
+        [a, b, c, d] => out.extend_from_slice(&[*a, *b, *c, *d])?,
+        _ => out.extend_from_slice(contents)?,
+    }
+    Ok(())
+}
 
 /// Appends an application primitive by its number and its written contents. Where memory is refused some
 /// octets may be there.
@@ -29,8 +45,7 @@ fn append_primitive(number: u8, contents: &[u8], out: &mut Vec<u8>) -> Result<()
     }
     let len = contents.len() as u32;
     append_head(TagHead::App { number, len }, out)?;
-    out.extend_from_slice(contents)?;
-    Ok(())
+    append_contents(contents, out)
 }
 
 /// Appends an event. Where memory is refused some octets may be there.
@@ -49,8 +64,7 @@ fn append_node(octets: &[u8], node: Node, out: &mut Vec<u8>) -> Result<(), OutOf
             let contents = &octets[start..end];
             let len = contents.len() as u32;
             append_head(TagHead::Ctx { number, len }, out)?;
-            out.extend_from_slice(contents)?;
-            Ok(())
+            append_contents(contents, out)
         }
         Node::Open { number, .. } => append_head(TagHead::Open(number), out),
         Node::Close(number) => append_head(TagHead::Close(number), out),

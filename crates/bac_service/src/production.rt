@@ -1,7 +1,7 @@
 //! The parts of a production (clause 21): what each is spelled by, how it is read and how it is written.
 
-ghost use Rattle.std.specs.Prelude.{◌≡◌, ◌↔◌, ℕ, Bool, List, take, length, IsTrue, IfOk, IfErr, OnOk, Err};
-ghost use Rattle.bac_tag.specs.Spelling.{IsRefusal, HasMark, AppendsLeast};
+ghost use Rattle.std.specs.Prelude.{◌≡◌, ◌↔◌, ℕ, Bool, List, take, length, IsTrue, IfSome, IfOk, IfErr, OnOk, Err};
+ghost use Rattle.bac_tag.specs.Spelling.{IsRefusal, Takes, HasMark, AppendsLeast};
 ghost use Rattle.bac_tag.specs.Octets.{Extends};
 ghost use Rattle.bac_service.specs.Leads.{Lead};
 ghost use Rattle.bac_service.specs.Productions.{Lawful, IsInhabited, HasLeast, IsLongest, IsReach};
@@ -41,7 +41,18 @@ impl<T: Drop> From<AllocFailed<T>> for ReadFault {
     }
 }
 
-/// What stands at the front of octets.
+/// A spelling at the front of octets.
+#[derive(Drop)]
+pub(crate) struct Spelling<T> {
+    /// What the octets spell.
+    pub(crate) value: T,
+    /// How many octets it takes.
+    pub(crate) taken: usize,
+    /// The first of them that differs from the canonical ones.
+    pub(crate) mark: Option<usize>,
+}
+
+/// The longest spelling at the front of octets, and how far they may be spelled.
 #[derive(Drop)]
 pub(crate) struct Front<T> {
     /// What the octets spell.
@@ -52,6 +63,20 @@ pub(crate) struct Front<T> {
     pub(crate) mark: Option<usize>,
     /// The place of the first octet with which no spelling begins, and why.
     pub(crate) reach: Refusal,
+}
+
+impl<T: Drop> Front<T> {
+    /// The spelling alone.
+    #[inline(always)]
+    pub(crate) fn into_spelling(self) -> Spelling<T>
+        ensures { result ≡ record { value = self.value; taken = self.taken; mark = self.mark } }
+    {
+        Spelling {
+            value: self.value,
+            taken: self.taken,
+            mark: self.mark,
+        }
+    }
 }
 
 /// How far octets may be spelled of which so many are a whole spelling, and no more can be: the rest trails.
@@ -93,6 +118,15 @@ pub(crate) trait Production: Drop {
 
     /// Reading may want memory.
     ghost wants_memory: { Bool };
+
+    /// Reads a front of the octets that spells a value, if one is found at once. None tells nothing of the octets.
+    ///
+    /// Nothing is kept for a refusal, so this is the fast way where the octets spell a value; [`Production::read`] tells
+    /// why they spell none.
+    fn read_spelling(alloc: Global, octets: &[u8]) -> Option<Spelling<Self>>
+        requires { IsTrue is_sound }
+        ensures found { IfSome result (λ found. Takes spells octets.now (view found.value, found.taken)) }
+        ensures mark { IfSome result (λ found. HasMark (spells (view found.value)) (take found.taken octets.now) found.mark) };
 
     /// Reads the longest front of the octets that spells a value.
     fn read(alloc: Global, octets: &[u8]) -> Result<Front<Self>, ReadFault>

@@ -85,10 +85,20 @@ pair_none {S} {T} {os} {cs} {ot} {ct} {es} {et} a b LS LT h {input} {v} {n} L no
     let p = sound_parts a b (disjoint ot cs) h in
     none_second S T os cs ot ct es et (LS p.0) (LT p.1) p.2 input v n L none
 
+-- two parts, each at its front
+pub takes_both : {V W : Type 0} {S : V → List ℕ → Type 0} {T : W → List ℕ → Type 0} {input : List ℕ} {v : V} {n : ℕ} {w : W} {m : ℕ} → Takes S input (v, n) → Takes T (drop n input) (w, m) → Takes (Joined S T) input ((v, w), n + m)
+takes_both {input = input} {n = n} {m = m} L M = record {
+  within = let h : m ≤ length (drop n input) = M.within in let k : n ≤ length input = L.within in omega (arith, length-drop n input);
+  spelled = record { front = take n input; back = take m (drop n input); first = L.spelled; second = M.spelled; octets = take_add n m input L.within };
+}
+
 -- what may not be empty takes some octets
+pub some_spelled : {V : Type 0} (S : V → List ℕ → Type 0) (os cs : List Lead) → Lawful S os cs false → (input : List ℕ) (v : V) (n : ℕ) → S v (take n input) → 0 < n
+some_spelled S os cs L input v zero s = absurd (begins_not_nil os (begun S os cs L v [] s))
+some_spelled S os cs L input v (suc n) s = omega arith
+
 pub some_taken : {V : Type 0} (S : V → List ℕ → Type 0) (os cs : List Lead) → Lawful S os cs false → (input : List ℕ) (v : V) (n : ℕ) → IsLongest S input v n → 0 < n
-some_taken S os cs L input v zero M = absurd (begins_not_nil os (begun S os cs L v [] M.spelled))
-some_taken S os cs L input v (suc n) M = omega arith
+some_taken S os cs L input v n M = some_spelled S os cs L input v n M.spelled
 
 -- the items so far, and where each front goes on after them
 pub record IsSoFar {V : Type 0} (S : V → List ℕ → Type 0) (input : List ℕ) (vs : List V) (p : ℕ) : Type 0 where

@@ -7,7 +7,7 @@ ghost use Rattle.bac_service.specs.Laws.Longest.{either_lawful};
 ghost use Rattle.bac_service.specs.Laws.Choice.{either_of, either_inhabited};
 ghost use Rattle.bac_service.specs.Laws.HasLeast.{choice_least};
 
-use crate::production::{Front, Production, ReadFault};
+use crate::production::{Front, Production, ReadFault, Spelling};
 use bac_tag::OutOfMemory;
 use std::alloc::Global;
 
@@ -36,6 +36,22 @@ impl<A: Production, B: Production> Production for Choice<A, B> {
     ghost is_sound = { (A.is_sound && not A.may_be_empty) && ((B.is_sound && not B.may_be_empty) && disjoint A.openers B.openers) };
 
     ghost wants_memory = { A.wants_memory || B.wants_memory };
+
+    fn read_spelling(alloc: Global, octets: &[u8]) -> Option<Spelling<Choice<A, B>>> {
+        if let Some(found) = A::read_spelling(alloc, octets) {
+            return Some(Spelling {
+                value: Choice::First(found.value),
+                taken: found.taken,
+                mark: found.mark,
+            });
+        }
+        let found = B::read_spelling(alloc, octets)?;
+        Some(Spelling {
+            value: Choice::Second(found.value),
+            taken: found.taken,
+            mark: found.mark,
+        })
+    }
 
     fn read(alloc: Global, octets: &[u8]) -> Result<Front<Choice<A, B>>, ReadFault> {
         let refused = match A::read(alloc, octets) {

@@ -8,13 +8,13 @@ use crate::production::{Production, ReadFault};
 use bac_tag::{Refusal, Why};
 use std::alloc::Global;
 
-/// The value that all the octets spell, and the first of them that differs from the canonical ones.
+/// The value that all the octets spell, and the first of them that differs from the canonical ones, part by part with
+/// how far each may be spelled.
 ///
 /// # Errors
-/// At the first octet with which no spelling begins; `Trailing` where those in front of it are one; `Short` where
-/// all of them begin one. `OutOfMemory` at 0 where memory is refused.
-#[inline(always)]
-pub(crate) fn decode<P: Production>(
+/// As those of [`decode`].
+#[inline(never)]
+fn decode_part_by_part<P: Production>(
     alloc: Global,
     octets: &[u8],
 ) -> Result<(P, Option<usize>), Refusal>
@@ -39,4 +39,29 @@ pub(crate) fn decode<P: Production>(
         return Err(Why::Trailing.at(front.taken));
     }
     Err(front.reach)
+}
+
+/// The value that all the octets spell, and the first of them that differs from the canonical ones.
+///
+/// # Errors
+/// At the first octet with which no spelling begins; `Trailing` where those in front of it are one; `Short` where
+/// all of them begin one. `OutOfMemory` at 0 where memory is refused.
+#[inline(always)]
+pub(crate) fn decode<P: Production>(
+    alloc: Global,
+    octets: &[u8],
+) -> Result<(P, Option<usize>), Refusal>
+    requires { IsTrue P.is_sound }
+    ensures found { IfOk result (λ found. P.spells (P.view found.0) octets.now) }
+    ensures mark { IfOk result (λ found. HasMark (P.spells (P.view found.0)) octets.now found.1) }
+    ensures refused { IfErr result (λ refusal. refusal.why ≢ Why.OutOfMemory → IsWholeRefusal P.spells octets.now refusal) }
+    ensures memory { IfErr result (λ refusal. refusal.why ≡ Why.OutOfMemory → (refusal.place ≡ 0) × IsTrue P.wants_memory) }
+    ensures reasons { IfErr result (λ refusal. IsServiceReason refusal.why) }
+{
+    if let Some(found) = P::read_spelling(alloc, octets) {
+        if found.taken == octets.len() {
+            return Ok((found.value, found.mark));
+        }
+    }
+    decode_part_by_part(alloc, octets)
 }

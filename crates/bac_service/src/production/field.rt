@@ -14,7 +14,7 @@ ghost use Rattle.bac_service.specs.Reasons.{IsPartReason};
 ghost use Rattle.bac_service.specs.ReadFaults.{IfRefused, EndsOrGoesOn};
 ghost use Rattle.bac_service.specs.Laws.HasLeast.{field_least};
 
-use crate::production::{Front, Production, ReadFault, complete_at};
+use crate::production::{Front, Production, ReadFault, Spelling, complete_at};
 use bac_tag::layers::{
     Expected, append_head, joined_marks, mark_read_head, read_expected, short_len,
 };
@@ -240,6 +240,11 @@ impl<T: Primitive, const N: u8> Production for Field<T, N> {
     ghost wants_memory = { T.wants_memory };
 
     #[inline(always)]
+    fn read_spelling(alloc: Global, octets: &[u8]) -> Option<Spelling<Field<T, N>>> {
+        Some(Self::read(alloc, octets).ok()?.into_spelling())
+    }
+
+    #[inline(always)]
     fn read(alloc: Global, octets: &[u8]) -> Result<Front<Field<T, N>>, ReadFault> {
         let front = read_field::<T>(alloc, octets, Some(N))?;
         Ok(Front {
@@ -278,6 +283,11 @@ impl<T: Primitive> Production for ApplicationField<T> {
     ghost is_sound = { nat_le T.APP 12 && not (nat_eq T.APP 1) };
 
     ghost wants_memory = { T.wants_memory };
+
+    #[inline(always)]
+    fn read_spelling(alloc: Global, octets: &[u8]) -> Option<Spelling<ApplicationField<T>>> {
+        Some(Self::read(alloc, octets).ok()?.into_spelling())
+    }
 
     #[inline(always)]
     fn read(alloc: Global, octets: &[u8]) -> Result<Front<ApplicationField<T>>, ReadFault> {

@@ -10,7 +10,7 @@ ghost use Rattle.bac_service.specs.Laws.Group.{group_inhabited};
 ghost use Rattle.bac_service.specs.Laws.HasLeast.{group_least};
 
 use crate::production::tag::{Closing, Opening};
-use crate::production::{Front, Production, ReadFault};
+use crate::production::{Front, Production, ReadFault, Spelling};
 use bac_tag::OutOfMemory;
 use std::alloc::Global;
 
@@ -50,6 +50,17 @@ impl<P: Production, const N: u8> Production for Group<P, N> {
     ghost is_sound = { nat_le N 254 && (P.is_sound && disjoint (closing N ∷ []) P.continuers) };
 
     ghost wants_memory = { P.wants_memory };
+
+    #[inline(always)]
+    fn read_spelling(alloc: Global, octets: &[u8]) -> Option<Spelling<Group<P, N>>> {
+        let found = <(Opening<N>, (P, Closing<N>))>::read_spelling(alloc, octets)?;
+        let (_, (part, _)) = found.value;
+        Some(Spelling {
+            value: Group(part),
+            taken: found.taken,
+            mark: found.mark,
+        })
+    }
 
     #[inline(always)]
     fn read(alloc: Global, octets: &[u8]) -> Result<Front<Group<P, N>>, ReadFault> {

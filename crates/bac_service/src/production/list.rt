@@ -8,7 +8,7 @@ ghost use Rattle.bac_service.specs.Laws.List.{items_inhabited};
 ghost use Rattle.bac_service.specs.Laws.HasLeast.{items_least, record_least};
 
 use crate::production::record::{Fields, Record};
-use crate::production::{Front, Production, ReadFault, complete_at};
+use crate::production::{Front, Production, ReadFault, Spelling, complete_at};
 use bac_tag::OutOfMemory;
 use bac_tag::layers::joined_marks;
 use std::alloc::Global;
@@ -30,6 +30,24 @@ impl<R: Record> Production for Vec<R> {
     ghost is_sound = { R.Parts.is_sound && (not R.Parts.may_be_empty && disjoint R.Parts.openers R.Parts.continuers) };
 
     ghost wants_memory = { true };
+
+    fn read_spelling(alloc: Global, octets: &[u8]) -> Option<Spelling<Vec<R>>> {
+        let mut items = Vec::new(alloc);
+        let mut taken = 0;
+        let mut mark = None;
+        while let Some(item) = Fields::<R>::read_spelling(alloc, &octets[taken..]) {
+            mark = joined_marks(mark, taken, item.mark);
+            taken += item.taken;
+            let Ok(()) = items.push(item.value.0) else {
+                return None;
+            };
+        }
+        Some(Spelling {
+            value: items,
+            taken,
+            mark,
+        })
+    }
 
     fn read(alloc: Global, octets: &[u8]) -> Result<Front<Vec<R>>, ReadFault> {
         let mut items = Vec::new(alloc);

@@ -9,7 +9,7 @@ ghost use Rattle.bac_service.specs.Leads.{opening};
 ghost use Rattle.bac_service.specs.Laws.OpenValue.{open_lawful, open_inhabited};
 ghost use Rattle.bac_service.specs.Laws.HasLeast.{open_value_least};
 
-use crate::production::{Front, Production, ReadFault, complete_at};
+use crate::production::{Front, Production, ReadFault, Spelling, complete_at};
 use bac_data::{Any, read_any_marked, write_any};
 use bac_tag::{OutOfMemory, Why};
 use std::alloc::Global;
@@ -45,6 +45,17 @@ impl<const N: u8> Production for OpenValue<N> {
     ghost is_sound = { nat_le N 254 };
 
     ghost wants_memory = { true };
+
+    fn read_spelling(alloc: Global, octets: &[u8]) -> Option<Spelling<OpenValue<N>>> {
+        let Ok((value, taken, mark)) = read_any_marked(alloc, octets, N) else {
+            return None;
+        };
+        Some(Spelling {
+            value: OpenValue(value),
+            taken,
+            mark,
+        })
+    }
 
     fn read(alloc: Global, octets: &[u8]) -> Result<Front<OpenValue<N>>, ReadFault> {
         match read_any_marked(alloc, octets, N) {

@@ -8,7 +8,7 @@ ghost use Rattle.bac_service.specs.Laws.Reach.{option_inhabited};
 ghost use Rattle.bac_service.specs.Laws.HasLeast.{option_least};
 
 use crate::production::field::Field;
-use crate::production::{Front, Production, ReadFault};
+use crate::production::{Front, Production, ReadFault, Spelling};
 use bac_tag::OutOfMemory;
 use bac_value::{Boolean, Primitive};
 use std::alloc::Global;
@@ -30,6 +30,22 @@ impl<P: Production> Production for Option<P> {
     ghost is_sound = { P.is_sound && not P.may_be_empty };
 
     ghost wants_memory = { P.wants_memory };
+
+    #[inline(always)]
+    fn read_spelling(alloc: Global, octets: &[u8]) -> Option<Spelling<Option<P>>> {
+        Some(match P::read_spelling(alloc, octets) {
+            Some(found) => Spelling {
+                value: Some(found.value),
+                taken: found.taken,
+                mark: found.mark,
+            },
+            None => Spelling {
+                value: None,
+                taken: 0,
+                mark: None,
+            },
+        })
+    }
 
     #[inline(always)]
     fn read(alloc: Global, octets: &[u8]) -> Result<Front<Option<P>>, ReadFault> {

@@ -7,7 +7,7 @@ ghost use Rattle.bac_service.specs.Laws.Production.{pair_lawful};
 ghost use Rattle.bac_service.specs.Laws.Refusal.{sound_inhabited};
 ghost use Rattle.bac_service.specs.Laws.HasLeast.{pair_least};
 
-use crate::production::{Front, Production, ReadFault};
+use crate::production::{Front, Production, ReadFault, Spelling};
 use bac_tag::OutOfMemory;
 use bac_tag::layers::joined_marks;
 use std::alloc::Global;
@@ -28,6 +28,18 @@ impl<A: Production, B: Production> Production for (A, B) {
     ghost is_sound = { A.is_sound && (B.is_sound && disjoint B.openers A.continuers) };
 
     ghost wants_memory = { A.wants_memory || B.wants_memory };
+
+    #[inline(always)]
+    fn read_spelling(alloc: Global, octets: &[u8]) -> Option<Spelling<(A, B)>> {
+        let first = A::read_spelling(alloc, octets)?;
+        let taken = first.taken;
+        let second = B::read_spelling(alloc, &octets[taken..])?;
+        Some(Spelling {
+            value: (first.value, second.value),
+            taken: taken + second.taken,
+            mark: joined_marks(first.mark, taken, second.mark),
+        })
+    }
 
     #[inline(always)]
     fn read(alloc: Global, octets: &[u8]) -> Result<Front<(A, B)>, ReadFault> {

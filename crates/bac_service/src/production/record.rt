@@ -8,7 +8,7 @@ ghost use Rattle.bac_service.specs.Laws.Production.{record_lawful};
 ghost use Rattle.bac_service.specs.Laws.Record.{record_inhabited};
 ghost use Rattle.bac_service.specs.Laws.HasLeast.{record_least};
 
-use crate::production::{Front, Production, ReadFault};
+use crate::production::{Front, Production, ReadFault, Spelling};
 use bac_tag::OutOfMemory;
 use std::alloc::Global;
 
@@ -59,6 +59,15 @@ impl<R: Record> Production for Fields<R> {
     ghost is_sound = { R.Parts.is_sound };
 
     ghost wants_memory = { R.Parts.wants_memory };
+
+    fn read_spelling(alloc: Global, octets: &[u8]) -> Option<Spelling<Fields<R>>> {
+        let found = R::Parts::read_spelling(alloc, octets)?;
+        Some(Spelling {
+            value: Fields(R::from_parts(found.value)),
+            taken: found.taken,
+            mark: found.mark,
+        })
+    }
 
     fn read(alloc: Global, octets: &[u8]) -> Result<Front<Fields<R>>, ReadFault> {
         let front = R::Parts::read(alloc, octets)?;

@@ -7,7 +7,7 @@ ghost use Rattle.bac_service.specs.Laws.Production.{Head, head_lawful};
 ghost use Rattle.bac_service.specs.Laws.Tag.{opening_inhabited, closing_inhabited};
 ghost use Rattle.bac_service.specs.Laws.HasLeast.{tag_least};
 
-use crate::production::{Front, Production, ReadFault, complete_at};
+use crate::production::{Front, Production, ReadFault, Spelling, complete_at};
 use bac_tag::layers::{
     Expected, append_head, is_short_closing, is_short_opening, mark_read_head, read_expected,
 };
@@ -38,6 +38,11 @@ impl<const N: u8> Production for Opening<N> {
     ghost is_sound = { nat_le N 254 };
 
     ghost wants_memory = { false };
+
+    #[inline(always)]
+    fn read_spelling(alloc: Global, octets: &[u8]) -> Option<Spelling<Opening<N>>> {
+        Some(Self::read(alloc, octets).ok()?.into_spelling())
+    }
 
     #[inline(always)]
     fn read(_alloc: Global, octets: &[u8]) -> Result<Front<Opening<N>>, ReadFault> {
@@ -88,6 +93,11 @@ impl<const N: u8> Production for Closing<N> {
     ghost is_sound = { nat_le N 254 };
 
     ghost wants_memory = { false };
+
+    #[inline(always)]
+    fn read_spelling(alloc: Global, octets: &[u8]) -> Option<Spelling<Closing<N>>> {
+        Some(Self::read(alloc, octets).ok()?.into_spelling())
+    }
 
     #[inline(always)]
     fn read(_alloc: Global, octets: &[u8]) -> Result<Front<Closing<N>>, ReadFault> {

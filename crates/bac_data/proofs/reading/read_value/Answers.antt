@@ -1,15 +1,17 @@
-use Rattle.std.proofs.Common.{◌≡◌, ◌+◌, ◌-◌, ◌++◌, ◌∷◌, [], ℕ, false, true, take, drop, sym, ◌∙◌, subst, arith}
+use Rattle.std.proofs.Common.{◌≡◌, ◌+◌, ◌-◌, ◌++◌, ◌∷◌, [], ℕ, false, true, take, drop, sym, ap, ◌∙◌, subst, arith}
+use Rattle.std.specs.Prelude.{not}
 use Rattle.std.proofs.lemmas.Option.{IfSome_then}
 use Rattle.bac_tag.specs.Heads.{Heads}
 use Rattle.std.proofs.lemmas.List.{take_rest}
 use Rattle.std.proofs.lemmas.Result.{err_from_is_err_and}
 use Rattle.bac_data.specs.Events.{events, closing}
 use Rattle.bac_data.specs.Reading.{item_event, item_head}
-use Rattle.bac_data.proofs.MarkLemmas.{ItemMark, mark_inside, marked_opening, marked_more, value_marked, ended_events}
+use Rattle.bac_data.specs.Marks.{HasMark}
+use Rattle.bac_data.proofs.MarkLemmas.{ItemMark, mark_inside, marked_opening, marked_more, marked_already, value_marked, ended_events}
 use Rattle.bac_data.proofs.AnyLemmas.{has_read_opening, refused_opening, has_read_more, refused_behind_events, may_follow, value_read, where_ok}
 use Rattle.bac_data.proofs.DepthLemmas.{too_deep_behind}
 use Rattle.bac_data.proofs.ReasonLemmas.{item_memory}
-use Rattle.bac_data.proofs.reading.read_value.Goals.{then-marks, else-marks, then-marks-2, else-marks-2, in-Ok-finish, in-Err-finish, else-is_complete-via-then-is_complete+else-ends, else-is_complete-via-else-is_complete}
+use Rattle.bac_data.proofs.reading.read_value.Goals.{then-marks, else-marks, then-marks-2+then-is_none, else-marks-2-via-then-marks-2+else-is_none, else-marks-2-via-else-marks-2, else-marks-2, in-Ok-finish, in-Err-finish, else-is_complete-via-then-is_complete+else-ends, else-is_complete-via-else-is_complete}
 use Rattle.bac_data.proofs.reading.read_value.Goals as goal
 
 pub returns-in_err-opening-clause-refused : goal.returns-in_err-opening-clause-refused
@@ -81,16 +83,22 @@ returns-then-ends-clause-mark c =
       | in-Ok-finish w ↦ rw w.result-is (λ marks.
           let read = value_read c.args.number c.args.octets.now c.loop-found.place c.in-Ok-read_item.found.2 c.loop-found.builder w.in-Ok-finish.value (item_event c.in-Ok-read_item.found.0) c.loop-found.invariant.0 stand.within stand.spelled.spelled
           (c.ends.ensures.0 c.if-ends.true) (c.is_complete.ensures.0 c.if-is_complete.true) w.in-Ok-finish.ensures.value in
+          let ended = ended_events c.loop-found.builder w.in-Ok-finish.value (item_event c.in-Ok-read_item.found.0) c.args.number w.in-Ok-finish.ensures.value (c.ends.ensures.0 c.if-ends.true) in
+          let told : HasMark c.args.number c.args.octets.now (c.loop-found.place + c.in-Ok-read_item.found.2) (events w.in-Ok-finish.value ++ closing c.args.number ∷ []) c.if-marks-2.mark =
           elim c.if-marks-2.branch [
-            | then-marks-2 u ↦
+            | then-marks-2+then-is_none u ↦
                 (let start : c.loop-found.place + c.in-Ok-read_item.found.1 - c.loop-found.place ≡ c.in-Ok-read_item.found.1 = omega arith in
-                let more = marked_more c.args.octets.now c.loop-found.place c.in-Ok-read_item.found.1 c.in-Ok-read_item.found.2 c.in-Ok-read_item.found.0 u.mark_item.result c.loop-found.invariant.0.within c.in-Ok-read_item.ensures.item lies
+                marked_more c.args.octets.now c.loop-found.place c.in-Ok-read_item.found.1 c.in-Ok-read_item.found.2 c.in-Ok-read_item.found.0 u.mark_item.result c.loop-found.invariant.0.within c.in-Ok-read_item.ensures.item lies
                 (subst (λ (k : ℕ). ItemMark (take k (drop c.loop-found.place c.args.octets.now)) c.in-Ok-read_item.found.0 u.mark_item.result) start u.mark_item.ensures)
-                c.args.number c.loop-found.builder (events w.in-Ok-finish.value ++ closing c.args.number ∷ []) c.loop-found.mark c.if-marks-2.mark (c.loop-found.invariant.1 marks) (u.mark-is ∙ u.joined_marks-mark.ensures)
-                (ended_events c.loop-found.builder w.in-Ok-finish.value (item_event c.in-Ok-read_item.found.0) c.args.number w.in-Ok-finish.ensures.value (c.ends.ensures.0 c.if-ends.true)) in
-                value_marked c.args.number c.args.octets.now (c.loop-found.place + c.in-Ok-read_item.found.2) w.in-Ok-finish.value c.if-marks-2.mark read.spelled.nested more)
-            | else-marks-2 u ↦ absurd (let i : false ≡ true = sym u.if-marks-2.false ∙ marks in cc)
-          ])
+                c.args.number c.loop-found.builder (events w.in-Ok-finish.value ++ closing c.args.number ∷ []) c.loop-found.mark c.if-marks-2.mark (c.loop-found.invariant.1 marks) (u.mark-is ∙ u.joined_marks-mark.ensures) ended)
+            | else-marks-2 u ↦ elim u.else-marks-2.branch [
+              | else-marks-2-via-then-marks-2+else-is_none v ↦
+                  rw u.mark-is (marked_already c.args.octets.now c.loop-found.place c.in-Ok-read_item.found.2 c.in-Ok-read_item.found.0 c.args.number c.loop-found.builder (events w.in-Ok-finish.value ++ closing c.args.number ∷ []) c.loop-found.mark
+                  c.in-Ok-read_item.ensures.item (v.is_none.ensures ∙ ap not v.if-is_none.false) (c.loop-found.invariant.1 marks) ended)
+              | else-marks-2-via-else-marks-2 v ↦ absurd (let i : false ≡ true = sym v.if-marks-2.false ∙ marks in cc)
+            ]
+          ] in
+          value_marked c.args.number c.args.octets.now (c.loop-found.place + c.in-Ok-read_item.found.2) w.in-Ok-finish.value c.if-marks-2.mark read.spelled.nested told)
       | in-Err-finish w ↦ rw w.result-is tt
     ]
 
@@ -101,11 +109,16 @@ loop-found-preserved c =
     let taken = where_ok c.take.result c.is_err.result c.is_err.ensures.value c.if-is_err.false c.take.ensures.ok in (
       has_read_more c.args.number c.args.octets.now c.loop-found.place c.in-Ok-read_item.found.2 c.loop-found.builder c.take.new.self (item_event c.in-Ok-read_item.found.0) c.loop-found.invariant.0 stand.within stand.spelled.spelled taken,
       λ marks. elim c.if-marks-2.branch [
-        | then-marks-2 u ↦
+        | then-marks-2+then-is_none u ↦
             (let start : c.loop-found.place + c.in-Ok-read_item.found.1 - c.loop-found.place ≡ c.in-Ok-read_item.found.1 = omega arith in
             marked_more c.args.octets.now c.loop-found.place c.in-Ok-read_item.found.1 c.in-Ok-read_item.found.2 c.in-Ok-read_item.found.0 u.mark_item.result c.loop-found.invariant.0.within c.in-Ok-read_item.ensures.item lies
             (subst (λ (k : ℕ). ItemMark (take k (drop c.loop-found.place c.args.octets.now)) c.in-Ok-read_item.found.0 u.mark_item.result) start u.mark_item.ensures)
             c.args.number c.loop-found.builder c.take.new.self c.loop-found.mark c.if-marks-2.mark (c.loop-found.invariant.1 marks) (u.mark-is ∙ u.joined_marks-mark.ensures) taken)
-        | else-marks-2 u ↦ absurd (let i : false ≡ true = sym u.if-marks-2.false ∙ marks in cc)
+        | else-marks-2 u ↦ elim u.else-marks-2.branch [
+          | else-marks-2-via-then-marks-2+else-is_none v ↦
+              rw u.mark-is (marked_already c.args.octets.now c.loop-found.place c.in-Ok-read_item.found.2 c.in-Ok-read_item.found.0 c.args.number c.loop-found.builder c.take.new.self c.loop-found.mark
+              c.in-Ok-read_item.ensures.item (v.is_none.ensures ∙ ap not v.if-is_none.false) (c.loop-found.invariant.1 marks) taken)
+          | else-marks-2-via-else-marks-2 v ↦ absurd (let i : false ≡ true = sym v.if-marks-2.false ∙ marks in cc)
+        ]
       ],
     )

@@ -3,7 +3,7 @@ use Rattle.bac_tag.specs.Spelling.{IsLeast}
 use Rattle.bac_value.specs.PrimContents.{IsWrittenOf}
 use Rattle.bac_value.specs.PrimOfContents.{prim_of_contents}
 use Rattle.bac_data.specs.Spells.{SpellsPrimitive}
-use Rattle.bac_data.proofs.BuildingLemmas.{on_ok}
+use Rattle.bac_data.proofs.BuildingLemmas.{on_ok, on_err_then}
 use Rattle.bac_data.proofs.EventLeastLemmas.{least_boolean, least_application, written_limit}
 use Rattle.bac_data.proofs.writing.append_primitive.Goals as goal
 
@@ -22,8 +22,11 @@ overflow_cast-len c = let limit = written_limit c.args.number c.args.contents.no
 pub returns-clause-ok : goal.returns-clause-ok
 returns-clause-ok c =
     let a = c.in_ok-append_head.ensures.ok in
-    record {
+    on_ok c.append_contents.result c.append_contents.ensures.ok (λ written. record {
       more = a.more ++ c.args.contents.now;
       is_least = least_application c.args.number c.args.contents.now a.more c.if-number-eq1.false c.requires.contents a.is_least;
-      new_is = c.in_ok-extend_from_slice.ensures.items ∙ ap (λ (l : List ℕ). l ++ c.args.contents.now) a.new_is ∙ append_assoc c.args.out.now.items a.more c.args.contents.now;
-    }
+      new_is = written ∙ ap (λ (l : List ℕ). l ++ c.args.contents.now) a.new_is ∙ append_assoc c.args.out.now.items a.more c.args.contents.now;
+    })
+
+pub returns-clause-err : goal.returns-clause-err
+returns-clause-err c = on_err_then c.append_contents.result c.append_contents.ensures.err (λ kept. let a = c.in_ok-append_head.ensures.ok in (a.more, kept ∙ a.new_is))

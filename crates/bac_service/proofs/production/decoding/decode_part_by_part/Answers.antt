@@ -2,7 +2,7 @@ use Rattle.std.specs.Prelude.{◌≢◌, length}
 use Rattle.std.proofs.Common.{arith}
 use Rattle.bac_service.specs.Reasons.{part_trails}
 use Rattle.bac_service.specs.Laws.Whole.{whole_refused, whole_trails, whole_reaches}
-use Rattle.bac_service.proofs.production.decoding.decode.Goals as goal
+use Rattle.bac_service.proofs.production.decoding.decode_part_by_part.Goals as goal
 
 pub returns-in-Err-Refused-clause-refused : goal.returns-in-Err-Refused-clause-refused
 returns-in-Err-Refused-clause-refused g c = λ memory.
