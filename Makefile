@@ -1,6 +1,7 @@
 # The commands of this repository, one line each:
 #   make         proves and builds the program, and leaves it in bin/bactool
-#   make test    the checks of the documents, then the merge gate: every proof from nothing, every test
+#   make test    the checks of the documents, then the merge gate: every proof from nothing, every test, and the
+#                examples in C, Python and Rust on the library of what was proved
 #   make check   proves what changed since the last check, while editing
 #   make bench   measures the program on a million records, the calls from C on the same, and values, services and APDUs
 #                of the library
@@ -24,6 +25,7 @@ build: need-rt
 test: need-rt
 	@.ci/docs
 	@rt ci
+	@scripts/gate-library
 
 check: need-rt
 	@rt all check
@@ -47,19 +49,11 @@ TO = $(DESTDIR)$(PREFIX)
 INSTALLED = bin/bactool include/bactool.h lib/libbactool.a lib/libbactool.so lib/libbactool.so.0 \
 	lib/pkgconfig/bactool.pc share/man/man1/bactool.1
 
-# The archive has one object, in which the calls of include/bactool.h alone are visible. It holds what the kit's compiler
-# made of crates/bac_c, and the kit's few lines of C by which it takes memory from malloc.
 lib: need-rt
 	@echo "bactool: proving and building the library into lib/ (minutes the first time, seconds after that)"
 	@mkdir -p crates/bac_c/out
 	@cd crates/bac_c && rt lib > out/lib.log || { cat out/lib.log >&2; exit 1; }
-	@rm -rf lib && mkdir -p lib
-	@ld -r -o lib/bactool.o --whole-archive crates/bac_c/out/libbac_c.a "$$(dirname "$$(rt doc)")/c/liblibc_c.a"
-	@objcopy --wildcard --keep-global-symbol='bactool_*' lib/bactool.o
-	@ar rcs lib/libbactool.a lib/bactool.o
-	@$(CC) -shared -Wl,-soname,libbactool.so.0 -o lib/libbactool.so.0 lib/bactool.o
-	@ln -s libbactool.so.0 lib/libbactool.so
-	@rm lib/bactool.o
+	@scripts/link-library
 
 try-library: lib
 	@scripts/try-library
