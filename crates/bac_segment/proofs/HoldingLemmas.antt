@@ -69,6 +69,12 @@ spans-set (suc n) (x ∷ m) e = ap (λ (ss : List (Option Span)). option_map spa
 
 -- ---- nothing is held above a last piece
 
+none_at : (n : ℕ) (m : Table) → list_any is_some (drop n m) ≡ false → get_or m n None ≡ None
+none_at n [] h = refl
+none_at zero (None ∷ m) h = refl
+none_at zero (Some e ∷ m) h = absurd (let j : true ≡ false = h in cc)
+none_at (suc n) (o ∷ m) h = none_at n m h
+
 pub joined_none : (m : Table) → list_any is_some m ≡ false → joined m ≡ []
 joined_none [] h = refl
 joined_none (None ∷ m) h = joined_none m h
@@ -354,6 +360,10 @@ module _ {octets : List ℕ} {spans : List (Option Span)} {count end : ℕ} {end
 
   pub span_at : (n k : ℕ) (span : Option Span) → n ≡ k → k < 256 → span ≡ get_or spans n span → get_or spans n None ≡ span
   span_at n k span e l is = get_or_default spans n None span (omega (arith, e, l, h.places)) ∙ sym is
+
+  -- behind the end nothing is held
+  pub free_behind : (n : ℕ) → end ≤ n → get_or spans n None ≡ None
+  free_behind n l = ap (λ (ss : List (Option Span)). get_or ss n None) h.spans_are ∙ entry-spans n h.table ∙ ap (λ (o : Option Entry). option_map span_of o) (none_at n h.table (held_from n h.table ∙ le-ltb n (end_of h.table) (omega (arith, h.end_is, l))))
 
   pub room_at : length (joined h.table) ≡ length octets
   room_at = ap (λ (o : List ℕ). length o) (sym h.octets_are)

@@ -1,6 +1,6 @@
 //! How pieces are held: joined in order of number, and a span for each number that is held.
 
-ghost use Rattle.std.specs.Prelude.{◌≡◌, ◌≤◌, ◌<◌, ◌+◌, ◌==◌, ◌&&◌, ◌||◌, nat_lt, nat_le, not, if◌then◌else◌, ◌++◌, None, Some, Ok, slice_set, max, take, drop, length, IfOk, OnOk, OnErr, sum_by};
+ghost use Rattle.std.specs.Prelude.{◌≡◌, ◌≤◌, ◌<◌, ◌+◌, ◌==◌, ◌&&◌, ◌||◌, nat_lt, nat_le, not, true, false, if◌then◌else◌, ◌++◌, None, Some, Ok, Err, slice_index_or, slice_set, max, take, drop, length, IfErr, IfOk, OnOk, OnErr, sum_by};
 ghost use Rattle.bac_segment.specs.Deliveries.{delivery};
 ghost use Rattle.bac_segment.specs.Tables.{empty_table};
 ghost use Rattle.bac_segment.specs.Taking.{Keeps, Judges, same_entry};
@@ -194,16 +194,39 @@ impl Held {
         octets_in(&self.spans[..number])
     }
 
-    /// Whether a segment is new, or else repeated.
+    /// Whether a segment fits behind what is held, where its number is free and it does not end too early.
+    ///
+    /// # Errors
+    /// `PastEnd` and `TooLarge`.
+    #[inline(always)]
+    fn judge_free(&self, number: usize, segment: &Segment) -> Result<(), TakeFault>
+        requires held { IsHeld self.now }
+        requires number { number ≡ segment.now.seq }
+        requires free { slice_index_or self.now.spans.items number None ≡ None }
+        requires early { (not segment.now.more && nat_lt (number + 1) self.now.end) ≡ false }
+        ensures ok { IfOk result (λ _. Judges (table_in self.now) (delivery segment.now) (Ok true)) }
+        ensures err { IfErr result (λ fault. Judges (table_in self.now) (delivery segment.now) (Err fault)) }
+    {
+        if self.is_past_end(number, segment.more) {
+            return Err(TakeFault::PastEnd);
+        }
+        if segment.piece.as_slice().len() > MOST_OCTETS - self.octets().len() {
+            return Err(TakeFault::TooLarge);
+        }
+        Ok(())
+    }
+
+    /// Whether a segment below the end is new, or else repeated.
     ///
     /// # Errors
     /// `Conflict`, `PastEnd` and `TooLarge`.
     #[inline(always)]
-    fn judge(&self, segment: &Segment) -> Result<bool, TakeFault>
-        requires { IsHeld self.now }
+    fn judge(&self, number: usize, segment: &Segment) -> Result<bool, TakeFault>
+        requires held { IsHeld self.now }
+        requires number { number ≡ segment.now.seq }
+        requires small { number < 256 }
         ensures { Judges (table_in self.now) (delivery segment.now) result }
     {
-        let number = usize::from(segment.seq);
         if let Some(span) = self.spans[number] {
             let start = self.start(number);
             if is_repeat(
@@ -218,12 +241,7 @@ impl Held {
         if self.ends_too_early(number, segment.more) {
             return Err(TakeFault::Conflict);
         }
-        if self.is_past_end(number, segment.more) {
-            return Err(TakeFault::PastEnd);
-        }
-        if segment.piece.as_slice().len() > MOST_OCTETS - self.octets().len() {
-            return Err(TakeFault::TooLarge);
-        }
+        self.judge_free(number, segment)?;
         Ok(true)
     }
 
@@ -245,22 +263,22 @@ impl Held {
         self.ended |= !span.more;
     }
 
-    /// Keeps a segment where it is new and fits. After each fault all is as it was.
+    /// Keeps a segment that is new and fits, with so many octets in front of its own. After each fault all is as it was.
+    ///
+    /// # Errors
+    /// `OutOfMemory`, where memory is refused.
     #[inline(always)]
-    pub(crate) fn keep(&mut self, segment: &Segment) -> Result<Taken, TakeFault>
-        requires { IsHeld self.old }
+    fn add(&mut self, number: usize, start: usize, segment: &Segment) -> Result<Taken, TakeFault>
+        requires held { IsHeld self.old }
+        requires number { number ≡ segment.now.seq }
+        requires small { number < 256 }
+        requires start { start ≡ sum_by span_len (take number self.old.spans.items) }
+        requires new { Judges (table_in self.old) (delivery segment.now) (Ok true) }
         ensures held { IsHeld self.new }
         ensures step { Keeps (table_in self.old) (delivery segment.now) result (table_in self.new) }
         ensures err { OnErr result (table_in self.new ≡ table_in self.old) }
     {
-        match self.judge(segment) {
-            Err(fault) => return Err(fault),
-            Ok(false) => return Ok(Taken::Repeat),
-            Ok(true) => {}
-        }
-        let number = usize::from(segment.seq);
         let piece = segment.piece.as_slice();
-        let start = self.start(number);
         if put(&mut self.octets, start, piece).is_err() {
             return Err(TakeFault::OutOfMemory);
         }
@@ -272,5 +290,39 @@ impl Held {
             },
         );
         Ok(self.kept())
+    }
+
+    /// Keeps a segment below the end, where it is new and fits. After each fault all is as it was.
+    #[inline(never)]
+    fn keep_below(&mut self, number: usize, segment: &Segment) -> Result<Taken, TakeFault>
+        requires held { IsHeld self.old }
+        requires number { number ≡ segment.now.seq }
+        requires small { number < 256 }
+        ensures held { IsHeld self.new }
+        ensures step { Keeps (table_in self.old) (delivery segment.now) result (table_in self.new) }
+        ensures err { OnErr result (table_in self.new ≡ table_in self.old) }
+    {
+        match self.judge(number, segment) {
+            Err(fault) => Err(fault),
+            Ok(false) => Ok(Taken::Repeat),
+            Ok(true) => self.add(number, self.start(number), segment),
+        }
+    }
+
+    /// Keeps a segment where it is new and fits. After each fault all is as it was.
+    #[inline(always)]
+    pub(crate) fn keep(&mut self, segment: &Segment) -> Result<Taken, TakeFault>
+        requires { IsHeld self.old }
+        ensures held { IsHeld self.new }
+        ensures step { Keeps (table_in self.old) (delivery segment.now) result (table_in self.new) }
+        ensures err { OnErr result (table_in self.new ≡ table_in self.old) }
+    {
+        let number = usize::from(segment.seq);
+        if number < self.end {
+            return self.keep_below(number, segment);
+        }
+        // In order nothing stands under its number or above it.
+        self.judge_free(number, segment)?;
+        self.add(number, self.octets().len(), segment)
     }
 }
