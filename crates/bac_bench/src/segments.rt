@@ -8,6 +8,7 @@ use bac_apdu::{SegHead, Segment};
 use bac_segment::{CutPlan, Key, Reassembly, cut};
 use std::alloc::Global;
 use std::io;
+use std::num::nearest_usize_to_f64;
 use std::rt::Clock;
 use std::time::Duration;
 
@@ -78,21 +79,25 @@ pub fn run(
             println!(rt;
                 "a message of {size} octets in {count} segments; the best of {repetitions} repetitions each"
             )?;
-            println!(rt; "{:<18} {:>10} {:>7}", "work", "us", "x copy")?;
-            add(rt, "copy", copy, copy)?;
-            add(rt, "cut", cutting, copy)?;
-            add(rt, "in order", joining, copy)?;
-            add(rt, "backwards", joining_backwards, copy)?;
+            println!(rt;
+                "{:<18} {:>10} {:>10} {:>7}",
+                "work", "us", "MB/s", "x copy"
+            )?;
+            add(rt, "copy", size, copy, copy)?;
+            add(rt, "cut", size, cutting, copy)?;
+            add(rt, "in order", size, joining, copy)?;
+            add(rt, "backwards", size, joining_backwards, copy)?;
         }
     }
     Ok(())
 }
 
-/// The line of a piece of work.
-fn add(rt: &impl Print, name: &str, took: Duration, copy: Duration) -> io::Result<()> {
+/// The line of a piece of work on so many octets.
+fn add(rt: &impl Print, name: &str, size: usize, took: Duration, copy: Duration) -> io::Result<()> {
     let microseconds = took.as_secs_f64() * 1e6;
     println!(rt;
-        "{name:<18} {microseconds:>10.1} {:>7.2}",
+        "{name:<18} {microseconds:>10.1} {:>10.0} {:>7.2}",
+        nearest_usize_to_f64(size) / microseconds,
         took.div_duration_f64(copy)
     )
 }
