@@ -24,16 +24,28 @@ static _Atomic unsigned long faults;
             printf("try-library: line %d: %s\n", __LINE__, #holds);                  \
     } while (0)
 
-/* ---- memory that is refused: the call that makes `left` 0 */
+/* ---- memory that is refused: the allocation before which `left` is 0, alone or with all behind it */
 
 static _Thread_local long left = -1;
+static _Thread_local bool alone, was_refused;
 static unsigned long refusals;
 
 void *__real_malloc(size_t size);
 void *__real_realloc(void *old, size_t size);
 
-void *__wrap_malloc(size_t size) { return left >= 0 && left-- == 0 ? NULL : __real_malloc(size); }
-void *__wrap_realloc(void *old, size_t size) { return left >= 0 && left-- == 0 ? NULL : __real_realloc(old, size); }
+static bool is_refused(void)
+{
+    if (left != 0) {
+        left -= left > 0;
+        return false;
+    }
+    was_refused = true;
+    left = alone ? -1 : 0;
+    return true;
+}
+
+void *__wrap_malloc(size_t size) { return is_refused() ? NULL : __real_malloc(size); }
+void *__wrap_realloc(void *old, size_t size) { return is_refused() ? NULL : __real_realloc(old, size); }
 
 /* ---- memory in front of a page that must not be touched */
 
@@ -253,29 +265,42 @@ static void try_reasons(struct bench bench)
     EXPECT(bactool_reason(UINT32_MAX, NULL, 0) == 0);
 }
 
-/* Each allocation refused in turn, till a call ends well: until then it tells so, and writes nothing. */
+static uint32_t call(int job, struct bench bench, const uint8_t *octets, size_t length, struct bactool_outcome *told)
+{
+    uint8_t *out = cleared(bench.out, TEXT / 2);
+    return job == 0   ? bactool_check(octets, length, false, told)
+           : job == 1 ? normalise(octets, length, out, TEXT / 2, told)
+           : job == 2 ? show(octets, length, out, TEXT / 2, told)
+                      : bactool_same_meaning(octets, length, octets, length, told);
+}
+
+/* Each allocation refused in turn, with all behind it or alone, till none is met. Until then a call tells so and writes
+   nothing; where others are granted it may also do without, and then it ends as with all of them. */
 static void try_without_memory(struct bench bench, const uint8_t *input, size_t length)
 {
+    static uint8_t whole[TEXT / 2];
     const uint8_t *octets = placed(bench.left, input, length);
-    for (int job = 0; job < 4; job++) {
-        for (long refused = 0;; refused++) {
+    for (int job = 0; job < 8; job++) {
+        struct bactool_outcome wanted = {77, 77, 77};
+        uint32_t ends = call(job % 4, bench, octets, length, &wanted);
+        EXPECT(ends == BACTOOL_OK || ends == BACTOOL_TOLERATED || ends == BACTOOL_REFUSED || ends == BACTOOL_LEFT_REFUSED);
+        memcpy(whole, bench.out.end - sizeof whole, sizeof whole);
+        alone = job < 4;
+        was_refused = true;
+        for (long refused = 0; was_refused; refused++) {
             struct bactool_outcome told = {77, 77, 77};
-            uint8_t *out = cleared(bench.out, TEXT / 2);
+            was_refused = false;
             left = refused;
-            uint32_t code = job == 0   ? bactool_check(octets, length, false, &told)
-                            : job == 1 ? normalise(octets, length, out, TEXT / 2, &told)
-                            : job == 2 ? show(octets, length, out, TEXT / 2, &told)
-                                       : bactool_same_meaning(octets, length, octets, length, &told);
-            bool was_refused = left < 0;
+            uint32_t code = call(job % 4, bench, octets, length, &told);
             left = -1;
-            if (!was_refused) {
-                EXPECT(code == BACTOOL_OK || code == BACTOOL_TOLERATED || code == BACTOOL_REFUSED
-                       || code == BACTOOL_LEFT_REFUSED);
-                break;
+            refusals += was_refused;
+            if (was_refused && (!alone || code == BACTOOL_NO_MEMORY)) {
+                EXPECT(code == BACTOOL_NO_MEMORY && says(told, BACTOOL_OUT_OF_MEMORY, 0, 0));
+                EXPECT(is_kept(bench.out, TEXT / 2));
+            } else {
+                EXPECT(code == ends && says(told, wanted.why, wanted.place, wanted.count));
+                EXPECT(memcmp(bench.out.end - sizeof whole, whole, sizeof whole) == 0);
             }
-            refusals++;
-            EXPECT(code == BACTOOL_NO_MEMORY && says(told, BACTOOL_OUT_OF_MEMORY, 0, 0));
-            EXPECT(is_kept(bench.out, TEXT / 2));
         }
     }
 }
