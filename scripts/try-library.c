@@ -35,12 +35,15 @@ void *__real_realloc(void *old, size_t size);
 
 static bool is_refused(void)
 {
-    if (left != 0) {
-        left -= left > 0;
+    if (left < 0)
+        return false;
+    if (left > 0) {
+        left--;
         return false;
     }
     was_refused = true;
-    left = alone ? -1 : 0;
+    if (alone)
+        left = -1;
     return true;
 }
 
@@ -265,6 +268,7 @@ static void try_reasons(struct bench bench)
     EXPECT(bactool_reason(UINT32_MAX, NULL, 0) == 0);
 }
 
+/* One of the four calls that decode, with room for half a yard. */
 static uint32_t call(int job, struct bench bench, const uint8_t *octets, size_t length, struct bactool_outcome *told)
 {
     uint8_t *out = cleared(bench.out, TEXT / 2);
