@@ -13,9 +13,8 @@ use Rattle.bac_service.specs.Reasons.{IsServiceReason}
 use Rattle.bac_service.specs.ServiceTable.{is_small as is_small_service}
 use Rattle.bac_service.specs.ServiceValues.{value_of as service_of}
 use Rattle.bac_service.specs.Services.{SpellsService}
-use Rattle.bac_apdu.specs.declared.apdu.Apdu.{Apdu}
 use Rattle.bac_apdu.specs.FirstOctet.{type_at, seg_at, IsTypePlace, IsWindowPlace}
-use Rattle.bac_apdu.specs.Apdus.{ApduValue, confirmed_request, unconfirmed_request, simple_ack, complex_ack, segment_ack, error, reject, abort, segment, SpellsApdu, value_of}
+use Rattle.bac_apdu.specs.Apdus.{ApduValue, confirmed_request, unconfirmed_request, simple_ack, complex_ack, segment_ack, error, reject, abort, segment, SpellsApdu}
 
 -- a small APDU: one that ends behind its head, or that carries a small service
 abbrev pub is_small : ApduValue → Bool
@@ -50,20 +49,23 @@ pub record IsReasoned (octets : List ℕ) (refusal : Refusal) : Type 0 where
   pub of_window : (refusal.why ≡ Window) ↔ IsWindowPlace octets refusal.place
   pub others : IsApduReason refusal.why
 
--- the octets spell the APDU, and have the mark
-pub record IsFound (octets : List ℕ) (apdu : Apdu) (mark : Option ℕ) : Type 0 where
-  pub spelled : SpellsApdu (value_of apdu) octets
-  pub marked : HasMark (SpellsApdu (value_of apdu)) octets mark
-
 -- the octets spell no APDU, or memory was refused, which is not told of a small one
 pub record IsRefused (octets : List ℕ) (refusal : Refusal) : Type 0 where
   pub refused : refusal.why ≢ OutOfMemory → IsWholeRefusal SpellsApdu octets refusal
   pub memory : refusal.why ≡ OutOfMemory → (refusal.place ≡ 0) × (begins_small octets ≡ false)
   pub reasoned : IsReasoned octets refusal
 
-abbrev pub IsDecoded : List ℕ → Result (Apdu × Option ℕ) Refusal → Type 0
-IsDecoded octets (Ok found) = IsFound octets found.0 found.1
-IsDecoded octets (Err refusal) = IsRefused octets refusal
+-- made is what a visitor makes of the APDU that the octets spell, and of its mark
+pub record IsMade {P M : Type 0} (makes : ApduValue → Option ℕ → P → P → M → Type 0) (octets : List ℕ) (old new : P) (made : M) : Type 0 where
+  pub value : ApduValue
+  pub mark : Option ℕ
+  pub spelled : SpellsApdu value octets
+  pub marked : HasMark (SpellsApdu value) octets mark
+  pub made_of : makes value mark old new made
+
+abbrev pub IsVisited : {P M : Type 0} → (ApduValue → Option ℕ → P → P → M → Type 0) → List ℕ → P → P → Result M Refusal → Type 0
+IsVisited makes octets old new (Ok made) = IsMade makes octets old new made
+IsVisited makes octets old new (Err refusal) = IsRefused octets refusal × (new ≡ old)
 
 -- a service behind a head with these least octets, and the mark of both
 pub record IsServiceBehind (kind : Kind) (choice : ℕ) (octets head : List ℕ) (service : Service) (mark : Option ℕ) : Type 0 where

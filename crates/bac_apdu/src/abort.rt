@@ -4,10 +4,11 @@ ghost use Rattle.std.specs.Prelude.{◌≡◌, OnOk, OnErr};
 ghost use Rattle.bac_tag.specs.Spelling.{AppendsLeast};
 ghost use Rattle.bac_apdu.specs.FirstOctet.{HasType};
 ghost use Rattle.bac_apdu.specs.Apdus.{abort, SpellsApdu};
-ghost use Rattle.bac_apdu.specs.Decoded.{IsDecoded};
+ghost use Rattle.bac_apdu.specs.Decoded.{IsVisited};
 
 use crate::apdu::Apdu;
-use crate::heads::{Marked, ended, first_octet, has_bit};
+use crate::heads::{ended, first_octet, has_bit};
+use crate::visiting::ApduVisitor;
 use bac_tag::{OutOfMemory, Refusal, Why};
 
 /// The end of a transaction.
@@ -38,9 +39,13 @@ impl Abort {
 
 /// Decodes an Abort.
 #[inline(always)]
-pub(crate) fn decode_abort(octets: &[u8]) -> Result<Marked, Refusal>
+pub(crate) fn decode_abort<V: ApduVisitor>(
+    octets: &[u8],
+    visitor: V,
+    place: &mut V::Place,
+) -> Result<V::Made, Refusal>
     requires { HasType 7 octets.now }
-    ensures { IsDecoded octets.now result }
+    ensures { IsVisited (V.makes visitor) octets.now place.old place.new result }
 {
     let [first, invoke, reason, ..] = octets else {
         return Err(Why::Short.at(octets.len()));
@@ -56,5 +61,5 @@ pub(crate) fn decode_abort(octets: &[u8]) -> Result<Marked, Refusal>
         *reason,
     ];
     let mark = ended(octets, &least)?;
-    Ok((Apdu::Abort(abort), mark))
+    Ok(visitor.visit(Apdu::Abort(abort), mark, place))
 }

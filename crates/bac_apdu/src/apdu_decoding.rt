@@ -1,45 +1,90 @@
 //! Decoding an APDU.
 
-ghost use Rattle.std.specs.Prelude.{◌≡◌, ◌≢◌, ◌↔◌, false, IfOk, IfErr};
+ghost use Rattle.std.specs.Prelude.{◌≡◌, ◌≢◌, ◌↔◌, false, IfOk, IfErr, OnErr};
 ghost use Rattle.bac_tag.specs.Spelling.{HasMark, IsWholeRefusal};
 ghost use Rattle.bac_apdu.specs.FirstOctet.{IsTypePlace, IsWindowPlace};
 ghost use Rattle.bac_apdu.specs.Apdus.{SpellsApdu, value_of};
-ghost use Rattle.bac_apdu.specs.Decoded.{begins_small, IsApduReason, IsDecoded};
+ghost use Rattle.bac_apdu.specs.Decoded.{begins_small, IsApduReason, IsMade, IsVisited};
 
 use crate::abort::decode_abort;
 use crate::apdu::Apdu;
 use crate::complex_ack::decode_complex_ack;
 use crate::confirmed_request::decode_confirmed_request;
 use crate::error_pdu::decode_error_pdu;
-use crate::heads::{Marked, has_bit};
+use crate::heads::has_bit;
 use crate::reject::decode_reject;
 use crate::segment::{decode_ack_segment, decode_request_segment};
 use crate::segment_ack::decode_segment_ack;
 use crate::simple_ack::decode_simple_ack;
 use crate::unconfirmed_request::decode_unconfirmed_request;
+use crate::visiting::ApduVisitor;
 use bac_tag::{Refusal, Why};
 use std::alloc::Global;
 
 /// Decodes an APDU of any type.
-fn decode_pdu(alloc: Global, octets: &[u8]) -> Result<Marked, Refusal>
-    ensures { IsDecoded octets.now result }
+fn decode_pdu<V: ApduVisitor>(
+    alloc: Global,
+    octets: &[u8],
+    visitor: V,
+    place: &mut V::Place,
+) -> Result<V::Made, Refusal>
+    ensures { IsVisited (V.makes visitor) octets.now place.old place.new result }
 {
     let [first, ..] = octets else {
         return Err(Why::Short.at(octets.len()));
     };
     let segmented = has_bit(*first, 3);
     match *first >> 4 {
-        0 if segmented => decode_request_segment(alloc, octets),
-        0 => decode_confirmed_request(alloc, octets),
-        1 => decode_unconfirmed_request(alloc, octets),
-        2 => decode_simple_ack(octets),
-        3 if segmented => decode_ack_segment(alloc, octets),
-        3 => decode_complex_ack(alloc, octets),
-        4 => decode_segment_ack(octets),
-        5 => decode_error_pdu(alloc, octets),
-        6 => decode_reject(octets),
-        7 => decode_abort(octets),
+        0 if segmented => decode_request_segment(alloc, octets, visitor, place),
+        0 => decode_confirmed_request(alloc, octets, visitor, place),
+        1 => decode_unconfirmed_request(alloc, octets, visitor, place),
+        2 => decode_simple_ack(octets, visitor, place),
+        3 if segmented => decode_ack_segment(alloc, octets, visitor, place),
+        3 => decode_complex_ack(alloc, octets, visitor, place),
+        4 => decode_segment_ack(octets, visitor, place),
+        5 => decode_error_pdu(alloc, octets, visitor, place),
+        6 => decode_reject(octets, visitor, place),
+        7 => decode_abort(octets, visitor, place),
         _ => Err(Why::PduType.at(0)),
+    }
+}
+
+/// Decodes the APDU that all the octets spell, and gives it to a visitor. Returns what the visitor made of it.
+///
+/// # Errors
+/// As [`decode_apdu_marked`]. The visitor is then given nothing, and the place stays as it was.
+#[inline(always)]
+pub fn visit_apdu<V: ApduVisitor>(
+    alloc: Global,
+    octets: &[u8],
+    visitor: V,
+    place: &mut V::Place,
+) -> Result<V::Made, Refusal>
+    ensures made { IfOk result (IsMade (V.makes visitor) octets.now place.old place.new) }
+    ensures refused { IfErr result (λ refusal. refusal.why ≢ Why.OutOfMemory → IsWholeRefusal SpellsApdu octets.now refusal) }
+    ensures memory { IfErr result (λ refusal. refusal.why ≡ Why.OutOfMemory → (refusal.place ≡ 0) × (begins_small octets.now ≡ false)) }
+    ensures types { IfErr result (λ refusal. (refusal.why ≡ Why.PduType) ↔ IsTypePlace octets.now refusal.place) }
+    ensures windows { IfErr result (λ refusal. (refusal.why ≡ Why.Window) ↔ IsWindowPlace octets.now refusal.place) }
+    ensures reasons { IfErr result (λ refusal. IsApduReason refusal.why) }
+    ensures unchanged { OnErr result (place.new ≡ place.old) }
+{
+    decode_pdu(alloc, octets, visitor, place)
+}
+
+/// Keeps the APDU and its mark.
+#[derive(Drop)]
+struct Keep;
+
+impl ApduVisitor for Keep {
+    type Place = ();
+
+    type Made = (Apdu, Option<usize>);
+
+    ghost makes = { λ _ value mark _ _ made. (value_of made.0 ≡ value) × (made.1 ≡ mark) };
+
+    #[inline(always)]
+    fn visit(self, apdu: Apdu, mark: Option<usize>, _place: &mut ()) -> (Apdu, Option<usize>) {
+        (apdu, mark)
     }
 }
 
@@ -60,7 +105,7 @@ pub fn decode_apdu_marked(alloc: Global, octets: &[u8]) -> Result<(Apdu, Option<
     ensures windows { IfErr result (λ refusal. (refusal.why ≡ Why.Window) ↔ IsWindowPlace octets.now refusal.place) }
     ensures reasons { IfErr result (λ refusal. IsApduReason refusal.why) }
 {
-    decode_pdu(alloc, octets)
+    visit_apdu(alloc, octets, Keep, &mut ())
 }
 
 /// Decodes the APDU that all the octets spell.

@@ -6,11 +6,11 @@ ghost use Rattle.bac_service.specs.declared.kind.Kind.TheVariants.{ComplexAck as
 ghost use Rattle.bac_service.specs.ServiceValues.{value_of as service_of};
 ghost use Rattle.bac_apdu.specs.FirstOctet.{HasType, HasSeg};
 ghost use Rattle.bac_apdu.specs.Apdus.{complex_ack, SpellsApdu};
-ghost use Rattle.bac_apdu.specs.Decoded.{IsDecoded};
+ghost use Rattle.bac_apdu.specs.Decoded.{IsVisited};
 
 use crate::apdu::Apdu;
-use crate::heads::Marked;
 use crate::services::{append_behind, decode_behind};
+use crate::visiting::ApduVisitor;
 use bac_service::{Kind, Service};
 use bac_tag::{OutOfMemory, Refusal, Why};
 use std::alloc::Global;
@@ -99,10 +99,15 @@ impl ComplexAck {
 }
 
 /// Decodes an answer in one piece.
-pub(crate) fn decode_complex_ack(alloc: Global, octets: &[u8]) -> Result<Marked, Refusal>
+pub(crate) fn decode_complex_ack<V: ApduVisitor>(
+    alloc: Global,
+    octets: &[u8],
+    visitor: V,
+    place: &mut V::Place,
+) -> Result<V::Made, Refusal>
     requires pdu { HasType 3 octets.now }
     requires whole { HasSeg 0 octets.now }
-    ensures { IsDecoded octets.now result }
+    ensures { IsVisited (V.makes visitor) octets.now place.old place.new result }
 {
     let [_, invoke, choice, ..] = octets else {
         return Err(Why::Short.at(octets.len()));
@@ -113,5 +118,5 @@ pub(crate) fn decode_complex_ack(alloc: Global, octets: &[u8]) -> Result<Marked,
         invoke: *invoke,
         service,
     };
-    Ok((Apdu::ComplexAck(ack), mark))
+    Ok(visitor.visit(Apdu::ComplexAck(ack), mark, place))
 }

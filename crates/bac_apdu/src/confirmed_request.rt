@@ -6,13 +6,14 @@ ghost use Rattle.bac_service.specs.declared.kind.Kind.TheVariants.{Confirmed};
 ghost use Rattle.bac_service.specs.ServiceValues.{value_of as service_of};
 ghost use Rattle.bac_apdu.specs.FirstOctet.{HasType, HasSeg};
 ghost use Rattle.bac_apdu.specs.Apdus.{confirmed_request, SpellsApdu};
-ghost use Rattle.bac_apdu.specs.Decoded.{IsDecoded};
+ghost use Rattle.bac_apdu.specs.Decoded.{IsVisited};
 
 use crate::apdu::Apdu;
-use crate::heads::{Marked, first_octet, has_bit};
+use crate::heads::{first_octet, has_bit};
 use crate::max_resp::MaxResp;
 use crate::max_segs::MaxSegs;
 use crate::services::{append_behind, decode_behind};
+use crate::visiting::ApduVisitor;
 use bac_service::{Kind, Service};
 use bac_tag::{OutOfMemory, Refusal, Why};
 use std::alloc::Global;
@@ -119,10 +120,15 @@ impl ConfirmedRequest {
 }
 
 /// Decodes a request in one piece.
-pub(crate) fn decode_confirmed_request(alloc: Global, octets: &[u8]) -> Result<Marked, Refusal>
+pub(crate) fn decode_confirmed_request<V: ApduVisitor>(
+    alloc: Global,
+    octets: &[u8],
+    visitor: V,
+    place: &mut V::Place,
+) -> Result<V::Made, Refusal>
     requires pdu { HasType 0 octets.now }
     requires whole { HasSeg 0 octets.now }
-    ensures { IsDecoded octets.now result }
+    ensures { IsVisited (V.makes visitor) octets.now place.old place.new result }
 {
     let [first, limits, invoke, choice, ..] = octets else {
         return Err(Why::Short.at(octets.len()));
@@ -141,5 +147,5 @@ pub(crate) fn decode_confirmed_request(alloc: Global, octets: &[u8]) -> Result<M
     ];
     let (service, mark) = decode_behind(alloc, Kind::Confirmed, *choice, octets, &least)?;
     let request = ConfirmedRequest { head, service };
-    Ok((Apdu::Confirmed(request), mark))
+    Ok(visitor.visit(Apdu::Confirmed(request), mark, place))
 }

@@ -6,11 +6,11 @@ ghost use Rattle.bac_service.specs.declared.kind.Kind.TheVariants.{Error as of_e
 ghost use Rattle.bac_service.specs.ServiceValues.{value_of as service_of};
 ghost use Rattle.bac_apdu.specs.FirstOctet.{HasType};
 ghost use Rattle.bac_apdu.specs.Apdus.{error, SpellsApdu};
-ghost use Rattle.bac_apdu.specs.Decoded.{IsDecoded};
+ghost use Rattle.bac_apdu.specs.Decoded.{IsVisited};
 
 use crate::apdu::Apdu;
-use crate::heads::Marked;
 use crate::services::{append_behind, decode_behind};
+use crate::visiting::ApduVisitor;
 use bac_service::{Kind, Service};
 use bac_tag::{OutOfMemory, Refusal, Why};
 use std::alloc::Global;
@@ -99,9 +99,14 @@ impl ErrorPdu {
 }
 
 /// Decodes an error.
-pub(crate) fn decode_error_pdu(alloc: Global, octets: &[u8]) -> Result<Marked, Refusal>
+pub(crate) fn decode_error_pdu<V: ApduVisitor>(
+    alloc: Global,
+    octets: &[u8],
+    visitor: V,
+    place: &mut V::Place,
+) -> Result<V::Made, Refusal>
     requires { HasType 5 octets.now }
-    ensures { IsDecoded octets.now result }
+    ensures { IsVisited (V.makes visitor) octets.now place.old place.new result }
 {
     let [_, invoke, choice, ..] = octets else {
         return Err(Why::Short.at(octets.len()));
@@ -112,5 +117,5 @@ pub(crate) fn decode_error_pdu(alloc: Global, octets: &[u8]) -> Result<Marked, R
         invoke: *invoke,
         service,
     };
-    Ok((Apdu::Error(answer), mark))
+    Ok(visitor.visit(Apdu::Error(answer), mark, place))
 }

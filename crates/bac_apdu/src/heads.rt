@@ -4,12 +4,8 @@ ghost use Rattle.std.specs.Prelude.{◌≡◌, ◌+◌, ◌*◌, ◌<◌, ◌≤
 ghost use Rattle.bac_tag.specs.HeadOctets.{bit_of};
 ghost use Rattle.bac_apdu.specs.Decoded.{IsEnded};
 
-use crate::apdu::Apdu;
 use bac_tag::layers::first_difference;
 use bac_tag::{Refusal, Why};
-
-/// An APDU, and the first octet that differs from the canonical ones.
-pub(crate) type Marked = (Apdu, Option<usize>);
 
 /// Whether the bit at this place is set.
 #[inline(always)]

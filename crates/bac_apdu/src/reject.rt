@@ -4,10 +4,11 @@ ghost use Rattle.std.specs.Prelude.{◌≡◌, OnOk, OnErr};
 ghost use Rattle.bac_tag.specs.Spelling.{AppendsLeast};
 ghost use Rattle.bac_apdu.specs.FirstOctet.{HasType};
 ghost use Rattle.bac_apdu.specs.Apdus.{reject, SpellsApdu};
-ghost use Rattle.bac_apdu.specs.Decoded.{IsDecoded};
+ghost use Rattle.bac_apdu.specs.Decoded.{IsVisited};
 
 use crate::apdu::Apdu;
-use crate::heads::{Marked, ended};
+use crate::heads::ended;
+use crate::visiting::ApduVisitor;
 use bac_tag::{OutOfMemory, Refusal, Why};
 
 /// The answer to a request that was not understood.
@@ -35,9 +36,13 @@ impl Reject {
 
 /// Decodes a Reject.
 #[inline(always)]
-pub(crate) fn decode_reject(octets: &[u8]) -> Result<Marked, Refusal>
+pub(crate) fn decode_reject<V: ApduVisitor>(
+    octets: &[u8],
+    visitor: V,
+    place: &mut V::Place,
+) -> Result<V::Made, Refusal>
     requires { HasType 6 octets.now }
-    ensures { IsDecoded octets.now result }
+    ensures { IsVisited (V.makes visitor) octets.now place.old place.new result }
 {
     let [_, invoke, reason, ..] = octets else {
         return Err(Why::Short.at(octets.len()));
@@ -47,5 +52,5 @@ pub(crate) fn decode_reject(octets: &[u8]) -> Result<Marked, Refusal>
         reason: *reason,
     };
     let mark = ended(octets, &[0x60, *invoke, *reason])?;
-    Ok((Apdu::Reject(reject), mark))
+    Ok(visitor.visit(Apdu::Reject(reject), mark, place))
 }

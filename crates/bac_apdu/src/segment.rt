@@ -4,13 +4,14 @@ ghost use Rattle.std.specs.Prelude.{◌≡◌, ◌++◌, OnOk, OnErr};
 ghost use Rattle.bac_tag.specs.Spelling.{AppendsLeast};
 ghost use Rattle.bac_apdu.specs.FirstOctet.{HasType, HasSeg};
 ghost use Rattle.bac_apdu.specs.Apdus.{segment, SpellsApdu};
-ghost use Rattle.bac_apdu.specs.Decoded.{IsDecoded};
+ghost use Rattle.bac_apdu.specs.Decoded.{IsVisited};
 
 use crate::apdu::Apdu;
 use crate::confirmed_request::RequestHead;
-use crate::heads::{Marked, first_octet, has_bit};
+use crate::heads::{first_octet, has_bit};
 use crate::max_resp::MaxResp;
 use crate::max_segs::MaxSegs;
+use crate::visiting::ApduVisitor;
 use crate::window::Window;
 use bac_tag::layers::first_difference;
 use bac_tag::{OutOfMemory, Refusal, Why};
@@ -96,10 +97,15 @@ impl Segment {
 }
 
 /// Decodes a segment of a request.
-pub(crate) fn decode_request_segment(alloc: Global, octets: &[u8]) -> Result<Marked, Refusal>
+pub(crate) fn decode_request_segment<V: ApduVisitor>(
+    alloc: Global,
+    octets: &[u8],
+    visitor: V,
+    place: &mut V::Place,
+) -> Result<V::Made, Refusal>
     requires pdu { HasType 0 octets.now }
     requires segmented { HasSeg 1 octets.now }
-    ensures { IsDecoded octets.now result }
+    ensures { IsVisited (V.makes visitor) octets.now place.old place.new result }
 {
     let [first, limits, invoke, seq, size, ..] = octets else {
         return Err(Why::Short.at(octets.len()));
@@ -137,14 +143,19 @@ pub(crate) fn decode_request_segment(alloc: Global, octets: &[u8]) -> Result<Mar
         choice: *choice,
         piece,
     };
-    Ok((Apdu::Segment(segment), mark))
+    Ok(visitor.visit(Apdu::Segment(segment), mark, place))
 }
 
 /// Decodes a segment of an answer.
-pub(crate) fn decode_ack_segment(alloc: Global, octets: &[u8]) -> Result<Marked, Refusal>
+pub(crate) fn decode_ack_segment<V: ApduVisitor>(
+    alloc: Global,
+    octets: &[u8],
+    visitor: V,
+    place: &mut V::Place,
+) -> Result<V::Made, Refusal>
     requires pdu { HasType 3 octets.now }
     requires segmented { HasSeg 1 octets.now }
-    ensures { IsDecoded octets.now result }
+    ensures { IsVisited (V.makes visitor) octets.now place.old place.new result }
 {
     let [first, invoke, seq, size, ..] = octets else {
         return Err(Why::Short.at(octets.len()));
@@ -175,5 +186,5 @@ pub(crate) fn decode_ack_segment(alloc: Global, octets: &[u8]) -> Result<Marked,
         choice: *choice,
         piece,
     };
-    Ok((Apdu::Segment(segment), mark))
+    Ok(visitor.visit(Apdu::Segment(segment), mark, place))
 }

@@ -4,10 +4,11 @@ ghost use Rattle.std.specs.Prelude.{◌≡◌, OnOk, OnErr};
 ghost use Rattle.bac_tag.specs.Spelling.{AppendsLeast};
 ghost use Rattle.bac_apdu.specs.FirstOctet.{HasType};
 ghost use Rattle.bac_apdu.specs.Apdus.{segment_ack, SpellsApdu};
-ghost use Rattle.bac_apdu.specs.Decoded.{IsDecoded};
+ghost use Rattle.bac_apdu.specs.Decoded.{IsVisited};
 
 use crate::apdu::Apdu;
-use crate::heads::{Marked, ended, first_octet, has_bit};
+use crate::heads::{ended, first_octet, has_bit};
+use crate::visiting::ApduVisitor;
 use crate::window::Window;
 use bac_tag::{OutOfMemory, Refusal, Why};
 
@@ -43,9 +44,13 @@ impl SegmentAck {
 
 /// Decodes a SegmentACK.
 #[inline(always)]
-pub(crate) fn decode_segment_ack(octets: &[u8]) -> Result<Marked, Refusal>
+pub(crate) fn decode_segment_ack<V: ApduVisitor>(
+    octets: &[u8],
+    visitor: V,
+    place: &mut V::Place,
+) -> Result<V::Made, Refusal>
     requires { HasType 4 octets.now }
-    ensures { IsDecoded octets.now result }
+    ensures { IsVisited (V.makes visitor) octets.now place.old place.new result }
 {
     let [first, invoke, seq, size, ..] = octets else {
         return Err(Why::Short.at(octets.len()));
@@ -67,5 +72,5 @@ pub(crate) fn decode_segment_ack(octets: &[u8]) -> Result<Marked, Refusal>
         *size,
     ];
     let mark = ended(octets, &least)?;
-    Ok((Apdu::SegmentAck(ack), mark))
+    Ok(visitor.visit(Apdu::SegmentAck(ack), mark, place))
 }

@@ -4,10 +4,11 @@ ghost use Rattle.std.specs.Prelude.{◌≡◌, OnOk, OnErr};
 ghost use Rattle.bac_tag.specs.Spelling.{AppendsLeast};
 ghost use Rattle.bac_apdu.specs.FirstOctet.{HasType};
 ghost use Rattle.bac_apdu.specs.Apdus.{simple_ack, SpellsApdu};
-ghost use Rattle.bac_apdu.specs.Decoded.{IsDecoded};
+ghost use Rattle.bac_apdu.specs.Decoded.{IsVisited};
 
 use crate::apdu::Apdu;
-use crate::heads::{Marked, ended};
+use crate::heads::ended;
+use crate::visiting::ApduVisitor;
 use bac_tag::{OutOfMemory, Refusal, Why};
 
 /// An answer without contents: the request was carried out.
@@ -35,9 +36,13 @@ impl SimpleAck {
 
 /// Decodes a SimpleACK.
 #[inline(always)]
-pub(crate) fn decode_simple_ack(octets: &[u8]) -> Result<Marked, Refusal>
+pub(crate) fn decode_simple_ack<V: ApduVisitor>(
+    octets: &[u8],
+    visitor: V,
+    place: &mut V::Place,
+) -> Result<V::Made, Refusal>
     requires { HasType 2 octets.now }
-    ensures { IsDecoded octets.now result }
+    ensures { IsVisited (V.makes visitor) octets.now place.old place.new result }
 {
     let [_, invoke, choice, ..] = octets else {
         return Err(Why::Short.at(octets.len()));
@@ -47,5 +52,5 @@ pub(crate) fn decode_simple_ack(octets: &[u8]) -> Result<Marked, Refusal>
         choice: *choice,
     };
     let mark = ended(octets, &[0x20, *invoke, *choice])?;
-    Ok((Apdu::SimpleAck(ack), mark))
+    Ok(visitor.visit(Apdu::SimpleAck(ack), mark, place))
 }

@@ -6,11 +6,11 @@ ghost use Rattle.bac_service.specs.declared.kind.Kind.TheVariants.{Unconfirmed};
 ghost use Rattle.bac_service.specs.ServiceValues.{value_of as service_of};
 ghost use Rattle.bac_apdu.specs.FirstOctet.{HasType};
 ghost use Rattle.bac_apdu.specs.Apdus.{unconfirmed_request, SpellsApdu};
-ghost use Rattle.bac_apdu.specs.Decoded.{IsDecoded};
+ghost use Rattle.bac_apdu.specs.Decoded.{IsVisited};
 
 use crate::apdu::Apdu;
-use crate::heads::Marked;
 use crate::services::{append_behind, decode_behind};
+use crate::visiting::ApduVisitor;
 use bac_service::{Kind, Service};
 use bac_tag::{OutOfMemory, Refusal, Why};
 use std::alloc::Global;
@@ -87,14 +87,23 @@ impl UnconfirmedRequest {
 }
 
 /// Decodes a request that wants no answer.
-pub(crate) fn decode_unconfirmed_request(alloc: Global, octets: &[u8]) -> Result<Marked, Refusal>
+pub(crate) fn decode_unconfirmed_request<V: ApduVisitor>(
+    alloc: Global,
+    octets: &[u8],
+    visitor: V,
+    place: &mut V::Place,
+) -> Result<V::Made, Refusal>
     requires { HasType 1 octets.now }
-    ensures { IsDecoded octets.now result }
+    ensures { IsVisited (V.makes visitor) octets.now place.old place.new result }
 {
     let [_, choice, ..] = octets else {
         return Err(Why::Short.at(octets.len()));
     };
     let least = [0x10, *choice];
     let (service, mark) = decode_behind(alloc, Kind::Unconfirmed, *choice, octets, &least)?;
-    Ok((Apdu::Unconfirmed(UnconfirmedRequest { service }), mark))
+    Ok(visitor.visit(
+        Apdu::Unconfirmed(UnconfirmedRequest { service }),
+        mark,
+        place,
+    ))
 }

@@ -5,23 +5,23 @@ use Rattle.bac_apdu.proofs.SegmentAckLemmas.{segment_ack_short, segment_ack_wind
 use Rattle.bac_apdu.proofs.segment_ack.decode_segment_ack.Goals as goal
 
 pub returns-in_default : goal.returns-in_default
-returns-in_default c =
+returns-in_default g c =
     let small : (k : ℕ) → slice_index c.args.octets.now k < 256 = λ k. omega (arith, c.type_inv.octets k) in
-    rw c.at.ensures (segment_ack_short c.args.octets.now small c.requires c.in_default.len_below)
+    rw c.at.ensures (segment_ack_short c.args.octets.now small c.requires c.in_default.len_below, refl)
 
 pub returns-in_default-new : goal.returns-in_default-new
-returns-in_default-new c =
+returns-in_default-new g c =
     let small : (k : ℕ) → slice_index c.args.octets.now k < 256 = λ k. omega (arith, c.type_inv.octets k) in
-    rw c.at-in_default-new.ensures (segment_ack_window c.args.octets.now small c.requires c.in-len4-up.len_at_least (λ good. let e = c.in_default-new.ensures.some.1 good in cc))
+    rw c.at-in_default-new.ensures (segment_ack_window c.args.octets.now small c.requires c.in-len4-up.len_at_least (λ good. let e = c.in_default-new.ensures.some.1 good in cc), refl)
 
 pub returns-in_err-mark : goal.returns-in_err-mark
-returns-in_err-mark c =
+returns-in_err-mark g c =
     let small : (k : ℕ) → slice_index c.args.octets.now k < 256 = λ k. omega (arith, c.type_inv.octets k) in
     let p = err_from_is_err_and c.from_residual.result c.from_residual.ensures.1 in
-    rw (p.1, p.2) (segment_ack_refused c.args.octets.now small c.requires c.has_bit.result c.has_bit-2.result c.in-Some.window c.first_octet.result c.in-len4-up.len_at_least c.has_bit.ensures c.has_bit-2.ensures (c.in-Some.ensures.some.0 refl) c.in-Some.ensures.value c.first_octet.ensures _ c.in_err-mark.ensures)
+    rw (p.1, p.2) (segment_ack_refused c.args.octets.now small c.requires c.has_bit.result c.has_bit-2.result c.in-Some.window c.first_octet.result c.in-len4-up.len_at_least c.has_bit.ensures c.has_bit-2.ensures (c.in-Some.ensures.some.0 refl) c.in-Some.ensures.value c.first_octet.ensures _ c.in_err-mark.ensures, refl)
 
 pub returns : goal.returns
-returns c =
+returns g c =
     let small : (k : ℕ) → slice_index c.args.octets.now k < 256 = λ k. omega (arith, c.type_inv.octets k) in
     let p = segment_ack_found c.args.octets.now small c.requires c.has_bit.result c.has_bit-2.result c.in-Some.window c.first_octet.result c.in-len4-up.len_at_least c.has_bit.ensures c.has_bit-2.ensures (c.in-Some.ensures.some.0 refl) c.in-Some.ensures.value c.first_octet.ensures c.in_ok-mark.mark c.in_ok-mark.ensures in
-    record { spelled = p.0; marked = p.1 }
+    record { value = _; mark = _; spelled = p.0; marked = p.1; made_of = c.visit.ensures }

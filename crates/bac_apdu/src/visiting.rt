@@ -1,0 +1,23 @@
+//! What is made of an APDU where it was decoded.
+
+ghost use Rattle.std.specs.Prelude.{ℕ, Option};
+ghost use Rattle.bac_apdu.specs.Apdus.{ApduValue, value_of};
+
+use crate::apdu::Apdu;
+
+/// What is made of an APDU where it was decoded. So it need not be moved to whoever asked for it, which takes longer
+/// than to decode a short one.
+pub trait ApduVisitor: Drop {
+    /// What it may change.
+    type Place;
+
+    /// What it gives.
+    type Made;
+
+    /// What it makes of an APDU and of its mark: from what the place held, what the place holds and what it gives.
+    ghost makes: { Self → ApduValue → Option ℕ → Self.Place → Self.Place → Self.Made → Type 0 };
+
+    /// Takes an APDU, and the place of the first octet that differs from its canonical ones.
+    fn visit(self, apdu: Apdu, mark: Option<usize>, place: &mut Self::Place) -> Self::Made
+        ensures { makes self (value_of apdu) mark place.old place.new result };
+}
