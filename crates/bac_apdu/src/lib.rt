@@ -1,4 +1,7 @@
 //! APDUs (clause 20.1): the head of each of the eight, and behind it a service, a segment's piece or nothing.
+//!
+//! [`decode_apdu`] reads an APDU, and [`encode_apdu`] and [`append_apdu`] write one. [`visit_apdu`] makes of an APDU what
+//! an [`ApduVisitor`] makes, where the APDU was decoded.
 #![tactic(auto)]
 
 mod abort;

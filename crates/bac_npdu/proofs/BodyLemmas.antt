@@ -1,24 +1,23 @@
 -- Bodies of frames: APDUs and network messages.
-use Rattle.std.specs.Prelude.{◌≡◌, ◌≢◌, ◌↔◌, ℕ, true, false, None, List, [], ◌∷◌, refl}
+use Rattle.std.specs.Prelude.{◌≡◌, ◌≢◌, ◌↔◌, ℕ, true, false, Option, None, List, [], ◌∷◌, Result, Ok, Err, IfOk, IfErr, OnErr, refl}
 use Rattle.std.proofs.Common.{inl, inr, sym, ◌∙◌, ap, subst, arith}
 use Rattle.bac_tag.specs.declared.refusals.Refusal.{Refusal}
 use Rattle.bac_tag.specs.declared.refusals.Why.{Why}
 use Rattle.bac_tag.specs.declared.refusals.Why.TheVariants.{Short, Trailing, PduType, Window, OutOfMemory}
 use Rattle.bac_tag.specs.Laws.Octets.{NoGreater-same}
 use Rattle.bac_tag.specs.Refusals.{behind}
-use Rattle.bac_tag.specs.Spelling.{IsWholeRefusal}
+use Rattle.bac_tag.specs.Spelling.{HasMark, IsWholeRefusal}
 use Rattle.bac_tag.specs.HeadOctets.{Part, typed, limits, octet, window, Headed, least_head}
 use Rattle.bac_tag.proofs.BehindLemmas.{whole_body}
 use Rattle.bac_data.specs.Refusals.{IsItemReason}
 use Rattle.bac_apdu.specs.FirstOctet.{IsTypePlace, IsWindowPlace}
 use Rattle.bac_apdu.specs.Apdus.{ApduValue, SpellsApdu}
-use Rattle.bac_apdu.specs.Decoded.{IsApduReason, begins_small as begins_small_apdu}
+use Rattle.bac_apdu.specs.Decoded.{IsApduReason, IsMade, begins_small as begins_small_apdu}
 use Rattle.bac_npdu.specs.declared.message.NetMessage.{NetMessage}
-use Rattle.bac_npdu.specs.declared.frame.Body.TheVariants.{Net}
 use Rattle.bac_npdu.specs.Messages.{MessageValue, octets_of, SpellsMessage, message_value}
 use Rattle.bac_npdu.specs.Frames.{BodyValue, apdu, message}
 use Rattle.bac_npdu.specs.Decoded.{IsMessageReason, IsMessageRefused}
-use Rattle.bac_npdu.specs.HeadsRead.{SpellsBodyOf, IsBodyFound, IsBodyRefused}
+use Rattle.bac_npdu.specs.HeadsRead.{SpellsBodyOf, IsBodyFound, IsBodyRefused, IsBodyVisited}
 use Rattle.bac_npdu.proofs.NumberLemmas.{AreNumbers, message_numbers}
 
 -- what spells the same lists refuses the same
@@ -72,7 +71,7 @@ numbers_told (window w ∷ ps) (o ∷ b) n h = absurd n.0
 pub message_once : (m : MessageValue) (b c : List ℕ) → SpellsMessage m b → SpellsMessage m c → b ≡ c
 message_once m b c p q = numbers_told (octets_of m) b (message_numbers m) p.1 ∙ sym (numbers_told (octets_of m) c (message_numbers m) q.1)
 
-pub message_found : (m : NetMessage) (b : List ℕ) → SpellsMessage (message_value m) b → IsBodyFound true b (Net m) None
+pub message_found : (m : NetMessage) (b : List ℕ) → SpellsMessage (message_value m) b → IsBodyFound true b (message (message_value m)) None
 message_found m b s = record {
   is = refl;
   spelled = s;
@@ -96,3 +95,13 @@ apdu_refused b r refused memory types windows reason = record {
   of_window = (λ e. (refl, windows.0 e), λ p. windows.1 p.1);
   reason = reason;
 }
+
+pub apdu_found : (a : ApduValue) (b : List ℕ) (mark : Option ℕ) → SpellsApdu a b → HasMark (SpellsApdu a) b mark → IsBodyFound false b (apdu a) mark
+apdu_found a b mark s m = record { is = refl; spelled = s; marked = m }
+
+-- what visiting the APDU gives
+pub apdu_visited : {P M : Type 0} (f : ApduValue → Option ℕ → P → P → M → Type 0) (g : BodyValue → Option ℕ → P → P → M → Type 0) (b : List ℕ) (old new : P) (r : Result M Refusal) → ((a : ApduValue) (mark : Option ℕ) (made : M) → f a mark old new made → g (apdu a) mark old new made)
+    → IfOk r (IsMade f b old new) → IfErr r (λ e. e.why ≢ OutOfMemory → IsWholeRefusal SpellsApdu b e) → IfErr r (λ e. e.why ≡ OutOfMemory → (e.place ≡ 0) × (begins_small_apdu b ≡ false)) → IfErr r (λ e. (e.why ≡ PduType) ↔ IsTypePlace b e.place)
+    → IfErr r (λ e. (e.why ≡ Window) ↔ IsWindowPlace b e.place) → IfErr r (λ e. IsApduReason e.why) → OnErr r (new ≡ old) → IsBodyVisited g false b old new r
+apdu_visited f g b old new (Ok made) every m refused memory types windows reasons same = record { body = apdu m.value; mark = m.mark; found = apdu_found m.value b m.mark m.spelled m.marked; made_of = every m.value m.mark made m.made_of }
+apdu_visited f g b old new (Err e) every m refused memory types windows reasons same = (apdu_refused b e refused memory types windows reasons, same)

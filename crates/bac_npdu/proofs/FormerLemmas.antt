@@ -1,6 +1,6 @@
 -- Frames as they were spelled before.
-use Rattle.std.specs.Prelude.{◌≡◌, ℕ, ◌%◌, ◌<◌, ◌≤◌, List, [], ◌∷◌, ◌++◌, length, refl}
-use Rattle.std.proofs.Common.{inl, inr, sym, ◌∙◌, ap, subst, arith}
+use Rattle.std.specs.Prelude.{◌≡◌, ℕ, ◌<◌, List, [], ◌∷◌}
+use Rattle.std.proofs.Common.{sym, subst, arith}
 use Rattle.bac_tag.specs.Octets.{NoGreater}
 use Rattle.bac_tag.specs.Laws.Octets.{NoGreater-refl, NoGreater-antisym, NoGreater-append, one_no_greater}
 use Rattle.bac_tag.specs.Spelling.{IsLeast}
@@ -8,7 +8,7 @@ use Rattle.bac_tag.specs.HeadOctets.{octet, Headed}
 use Rattle.bac_apdu.specs.Apdus.{ApduValue, SpellsApdu}
 use Rattle.bac_apdu.specs.FormerApdus.{SpellsFormerApdu, IsKept as IsKeptApdu}
 use Rattle.bac_apdu.proofs.FormerLemmas.{no_greater_behind, headed_alone, least_headed}
-use Rattle.bac_npdu.specs.Control.{ControlValue, IsControl, Controlled, least_of}
+use Rattle.bac_npdu.specs.Control.{ControlValue, Controlled, least_of}
 use Rattle.bac_npdu.specs.Frames.{BodyValue, apdu, message, FrameValue, control_of, addresses_of, SpellsBody, SpellsFrame}
 use Rattle.bac_npdu.specs.FormerFrames.{SpellsFormerBody, SpellsFormerFrame, IsKept}
 use Rattle.bac_npdu.proofs.FrameLemmas.{control_spelled, control_lowest, controlled_least}

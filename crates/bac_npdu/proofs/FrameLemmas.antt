@@ -1,6 +1,6 @@
 -- The canonical octets of frames.
-use Rattle.std.specs.Prelude.{◌≡◌, ℕ, ◌<◌, ◌≤◌, Bool, true, false, List, [], ◌∷◌, ◌++◌, length, slice_index, Result, Ok, Err, OnOk, refl}
-use Rattle.std.proofs.Common.{inr, sym, ◌∙◌, ap, subst, append_assoc, append-nil, get_or, arith}
+use Rattle.std.specs.Prelude.{◌≡◌, ℕ, ◌<◌, ◌≤◌, Bool, true, false, List, [], ◌∷◌, ◌++◌, length, Result, Ok, Err, OnOk, refl}
+use Rattle.std.proofs.Common.{sym, ◌∙◌, ap, subst, append_assoc, append-nil, get_or, arith}
 use Rattle.bac_tag.specs.Octets.{IsOctets, NoGreater}
 use Rattle.bac_tag.specs.Laws.Octets.{NoGreater-append, NoGreater-same, one_no_greater, octets_front, octets_back}
 use Rattle.bac_tag.specs.Spelling.{IsLeast, AppendsLeast}

@@ -1,5 +1,5 @@
 -- Frames behind heads that were read.
-use Rattle.std.specs.Prelude.{◌≡◌, ◌≢◌, ℕ, ◌+◌, ◌/◌, ◌%◌, ◌^◌, ◌<◌, ◌≤◌, nat_eq, nat_le, cond, ◌&&◌, Bool, true, false, Option, Some, None, List, [], ◌∷◌, ◌++◌, length, drop, slice_index, refl}
+use Rattle.std.specs.Prelude.{◌≡◌, ◌≢◌, ℕ, ◌+◌, ◌/◌, ◌%◌, ◌^◌, ◌<◌, ◌≤◌, nat_eq, nat_le, cond, ◌&&◌, ◌⊎◌, Bool, true, false, Option, Some, None, List, [], ◌∷◌, ◌++◌, length, drop, slice_index, Result, Ok, Err, refl}
 use Rattle.std.proofs.Common.{inl, inr, sym, ◌∙◌, ap, subst, append_assoc, arith}
 use Rattle.std.proofs.lemmas.List.{length-append}
 use Rattle.std.proofs.Math.Seq.{drop-append_seam}
@@ -8,7 +8,7 @@ use Rattle.bac_tag.specs.declared.refusals.Refusal.{Refusal}
 use Rattle.bac_tag.specs.declared.refusals.Why.{Why}
 use Rattle.bac_tag.specs.declared.refusals.Why.TheVariants.{Trailing, Version, Address, PduType, Window, OutOfMemory}
 use Rattle.bac_tag.specs.Octets.{IsOctets, IsMark, joined_mark}
-use Rattle.bac_tag.specs.Laws.Octets.{octets_at, octets_front, mark-append, differs_at}
+use Rattle.bac_tag.specs.Laws.Octets.{octets_at, octets_front, octets_back, mark-append, differs_at}
 use Rattle.bac_tag.specs.Refusals.{behind}
 use Rattle.bac_tag.specs.Spelling.{IsLeast, HasMark, IsWholeRefusal}
 use Rattle.bac_tag.specs.HeadOctets.{HasBit, least_head}
@@ -16,19 +16,19 @@ use Rattle.bac_tag.proofs.HeadOctetLemmas.{parts_are}
 use Rattle.bac_tag.proofs.BehindLemmas.{whole_body}
 use Rattle.bac_apdu.specs.FirstOctet.{IsTypePlace, IsWindowPlace}
 use Rattle.bac_apdu.specs.Decoded.{IsApduReason, begins_small as begins_small_apdu}
-use Rattle.bac_npdu.specs.declared.frame.Body.{Body}
 use Rattle.bac_npdu.specs.declared.frame.Frame.{Frame}
 use Rattle.bac_npdu.specs.Addresses.{SourceValue, DestinationValue, destination_of, source_of, hops_of, HasAddress}
 use Rattle.bac_npdu.specs.Control.{least_control, least_of}
-use Rattle.bac_npdu.specs.Frames.{BodyValue, FrameValue, is_there, is_message, control_of, addresses_of, SpellsBody, SpellsFrame, destination_value, body_value, value_of}
+use Rattle.bac_npdu.specs.Frames.{BodyValue, FrameValue, is_there, is_message, control_of, addresses_of, SpellsBody, SpellsFrame}
 use Rattle.bac_npdu.specs.Heads.{says_message, says_destination, says_source, source_place, body_place, HasHead}
-use Rattle.bac_npdu.specs.Decoded.{few_octets, begins_small_message, begins_small, IsReasoned, IsRefused, IsFound}
-use Rattle.bac_npdu.specs.HeadsRead.{from_octets, hops_octets, address_of, behind_control, IsHead, IsLong, control_at, IsControlMark, SpellsBodyOf, IsBodyFound, IsBodyRefused}
+use Rattle.bac_npdu.specs.Decoded.{few_octets, begins_small_message, begins_small, IsReasoned, IsRefused, IsKept, IsDecoded}
+use Rattle.bac_npdu.specs.FrameHeads.{HeadValue, frame_with, address_of, IsLong, IsShort}
+use Rattle.bac_npdu.specs.HeadsRead.{from_octets, hops_octets, behind_control, IsHead, control_at, IsControlMark, IsBehind, SpellsBodyOf, IsBodyFound, IsBodyRefused}
 use Rattle.bac_npdu.proofs.WrittenLemmas.{least_octets_then}
 use Rattle.bac_npdu.proofs.HeadLemmas.{addresses_agree, flag_once, flag_told}
 use Rattle.bac_npdu.proofs.PlaceLemmas.{addresses, at_body, length_at, as_address}
 use Rattle.bac_npdu.proofs.FrameLemmas.{frame_least}
-use Rattle.bac_npdu.proofs.HeadRefusedLemmas.{frame_of, frame_every, parts_of, head_then}
+use Rattle.bac_npdu.proofs.HeadRefusedLemmas.{HasParts, frame_of, frame_every, parts_of, head_then}
 
 -- ---- the octets in front of the body
 
@@ -181,23 +181,39 @@ module _ (octets : List ℕ) (small : (k : ℕ) → slice_index octets k < 256) 
         ∙ ap (λ (f : Bool). least_control (nat_eq (c / 2 ^ 7 % 2) 1) f (is_there s) (nat_eq (c / 2 ^ 2 % 2) 1) (c % 4)) (sym (flag_told 5 c (is_there d) h.destination))
         ∙ ap (λ (f : Bool). least_control (nat_eq (c / 2 ^ 7 % 2) 1) (nat_eq (c / 2 ^ 5 % 2) 1) f (nat_eq (c / 2 ^ 2 % 2) 1) (c % 4)) (sym (flag_told 3 c (is_there s) h.source))
 
-    pub body_found : (n : ℕ) (x : Body) (o mark : Option ℕ) → length octets ≡ n + length rest → IsBodyFound m rest x mark → IsControlMark c o
-        → SpellsFrame (frame_of c d s (body_value x)) octets × HasMark (SpellsFrame (frame_of c d s (body_value x))) octets (joined_mark o n mark)
+    pub body_found : (n : ℕ) (x : BodyValue) (o mark : Option ℕ) → length octets ≡ n + length rest → IsBodyFound m rest x mark → IsControlMark c o
+        → SpellsFrame (frame_of c d s x) octets × HasMark (SpellsFrame (frame_of c d s x)) octets (joined_mark o n mark)
     body_found n x o mark size e control =
-        let f = frame_of c d s (body_value x) in
-        let spelled = spelled_there (body_value x) (e.is, e.spelled) in
+        let f = frame_of c d s x in
+        let spelled = spelled_there x (e.is, e.spelled) in
         let low = least_of (control_at c) in
         let back = e.marked.least in
         let parts = parts_are (addresses_of f) (SpellsBody f.body) (behind_control d s rest) spelled.1.1.1 in
         let all = frame_least f back h.address (omega arith) parts e.marked.is_least in
         let same : 1 ∷ least_of (control_of f) ∷ (least_head (addresses_of f) ++ back) ≡ front_of low d s ++ back =
-        ap (λ (k : ℕ). 1 ∷ k ∷ (least_head (addresses_of f) ++ back)) (least_there (body_value x) e.is) ∙ front_same low back in
+        ap (λ (k : ℕ). 1 ∷ k ∷ (least_head (addresses_of f) ++ back)) (least_there x e.is) ∙ front_same low back in
         let at : length (front_of c d s) ≡ n = omega (arith, size, long, size_of) in
         let mark_is : IsMark (front_of c d s ++ rest) (front_of low d s ++ back) (joined_mark o n mark) = subst (λ (k : ℕ). IsMark (front_of c d s ++ rest) (front_of low d s ++ back) (joined_mark o k mark)) at (mark-append (front_of c d s) rest (front_of low d s) back o mark (front_mark c d s o control) e.marked.is_mark) in
         (subst (SpellsFrame f) (sym told) spelled, record { least = front_of low d s ++ back; is_least = subst (IsLeast (SpellsFrame f)) same all; is_mark = subst (λ (l : List ℕ). IsMark l (front_of low d s ++ back) (joined_mark o n mark)) (sym parted) mark_is })
       where
         front_same : (low : ℕ) (back : List ℕ) → 1 ∷ low ∷ (least_head (destination_of d (source_of s (hops_of d))) ++ back) ≡ front_of low d s ++ back
         front_same low back = ap (λ (l : List ℕ). 1 ∷ low ∷ (l ++ back)) (least_addresses d s)
+
+  -- ---- addresses
+
+  pub destination_short : IsShort (address_of d)
+  destination_short = short d refl
+    where
+      short : (x : Option DestinationValue) → d ≡ x → IsShort (address_of x)
+      short None e = tt
+      short (Some x) e = (subst (λ (y : Option DestinationValue). IsOctets (behind_control y s [])) e are_addresses).1.1.0
+
+  pub source_short : IsShort s
+  source_short = short s refl
+    where
+      short : (x : Option SourceValue) → s ≡ x → IsShort x
+      short None e = tt
+      short (Some x) e = (subst (λ (y : Option SourceValue). IsOctets (from_octets y ++ (hops_octets d ++ []))) e (octets_back (from_octets (address_of d)) (from_octets s ++ (hops_octets d ++ [])) are_addresses)).1.1.0
 
   -- ---- memory that was refused
 
@@ -250,13 +266,10 @@ module _ (octets : List ℕ) (small : (k : ℕ) → slice_index octets k < 256) 
       subst (IsRefused octets) same (memory_refused all)
 
 -- the frame that was read, as a value
-pub frame_is : (c : ℕ) (d e : Option DestinationValue) (s t : Option SourceValue) (x : BodyValue) (reply : Bool) (priority : ℕ) → HasBit 2 (Some reply) c → priority ≡ c % 4 → e ≡ d → t ≡ s → record { reply = reply; priority = priority; destination = e; source = t; body = x } ≡ frame_of c d s x
-frame_is c d e s t x reply priority h p q r =
-    let one : record { reply = reply; priority = priority; destination = e; source = t; body = x } ≡ record { reply = nat_eq (c / 2 ^ 2 % 2) 1; priority = priority; destination = e; source = t; body = x } = ap (λ (f : Bool). record { reply = f; priority = priority; destination = e; source = t; body = x }) (sym (flag_told 2 c reply h)) in
-    let two : record { reply = nat_eq (c / 2 ^ 2 % 2) 1; priority = priority; destination = e; source = t; body = x } ≡ record { reply = nat_eq (c / 2 ^ 2 % 2) 1; priority = c % 4; destination = e; source = t; body = x } = ap (λ (n : ℕ). record { reply = nat_eq (c / 2 ^ 2 % 2) 1; priority = n; destination = e; source = t; body = x }) p in
-    let three : record { reply = nat_eq (c / 2 ^ 2 % 2) 1; priority = c % 4; destination = e; source = t; body = x } ≡ record { reply = nat_eq (c / 2 ^ 2 % 2) 1; priority = c % 4; destination = d; source = t; body = x } = ap (λ (y : Option DestinationValue). record { reply = nat_eq (c / 2 ^ 2 % 2) 1; priority = c % 4; destination = y; source = t; body = x }) q in
-    let four : record { reply = nat_eq (c / 2 ^ 2 % 2) 1; priority = c % 4; destination = d; source = t; body = x } ≡ frame_of c d s x = ap (λ (y : Option SourceValue). record { reply = nat_eq (c / 2 ^ 2 % 2) 1; priority = c % 4; destination = d; source = y; body = x }) r in
-    one ∙ two ∙ three ∙ four
+pub frame_is : (c : ℕ) (h : HeadValue) (x : BodyValue) → HasBit 2 (Some h.reply) c → h.priority ≡ c % 4 → frame_with h x ≡ frame_of c h.destination h.source x
+frame_is c h x reply priority =
+    ap (λ (f : Bool). record { reply = f; priority = h.priority; destination = h.destination; source = h.source; body = x }) (sym (flag_told 2 c h.reply reply))
+    ∙ ap (λ (n : ℕ). record { reply = nat_eq (c / 2 ^ 2 % 2) 1; priority = n; destination = h.destination; source = h.source; body = x }) priority
 
 -- what decoding behind a head gives, of what it calls
 module _ (octets : List ℕ) (small : (k : ℕ) → slice_index octets k < 256) (c : ℕ) (d : Option DestinationValue) (s : Option SourceValue) (rest : List ℕ) (h : IsHead octets c d s rest) (n : ℕ) (size : length octets ≡ n + length rest) (m : Bool) (bit : HasBit 7 (Some m) c) (back : List ℕ) (is : back ≡ drop n octets) where
@@ -269,11 +282,37 @@ module _ (octets : List ℕ) (small : (k : ℕ) → slice_index octets k < 256) 
   pub behind_memory : (r : Refusal) → IsBodyRefused m back r → r.why ≡ OutOfMemory → IsRefused octets r
   behind_memory r e why = body_memory octets small c d s rest h m r (flag_told 7 c m bit) (subst (λ (l : List ℕ). IsBodyRefused m l r) back_is e) why
 
-  pub behind_found : (frame : Frame) (o mark all : Option ℕ) → IsBodyFound m back frame.body mark → IsControlMark c o → HasBit 2 (Some frame.reply) c → frame.priority ≡ c % 4 → destination_value frame.dest ≡ d → frame.source ≡ s → all ≡ joined_mark o n mark → IsFound octets frame all
-  behind_found frame o mark all e control reply priority to from joined =
-      let p = body_found octets small c d s rest h m (flag_told 7 c m bit) bit n frame.body o mark size (subst (λ (l : List ℕ). IsBodyFound m l frame.body mark) back_is e) control in
-      let same : value_of frame ≡ frame_of c d s (body_value frame.body) = frame_is c d (destination_value frame.dest) s frame.source (body_value frame.body) frame.reply frame.priority reply priority to from in
-      record {
-        spelled = subst (λ (f : FrameValue). SpellsFrame f octets) (sym same) p.0;
-        marked = subst (λ (f : FrameValue). HasMark (SpellsFrame f) octets all) (sym same) (subst (HasMark (SpellsFrame (frame_of c d s (body_value frame.body))) octets) (sym joined) p.1);
-      }
+  pub behind_found : (v : HeadValue) (x : BodyValue) (o mark : Option ℕ) → IsBodyFound m back x mark → IsControlMark c o → HasBit 2 (Some v.reply) c → v.priority ≡ c % 4 → v.destination ≡ d → v.source ≡ s
+      → SpellsFrame (frame_with v x) octets × HasMark (SpellsFrame (frame_with v x)) octets (joined_mark o n mark)
+  behind_found v x o mark e control reply priority to from =
+      let p = body_found octets small c d s rest h m (flag_told 7 c m bit) bit n x o mark size (subst (λ (l : List ℕ). IsBodyFound m l x mark) back_is e) control in
+      let same : frame_with v x ≡ frame_of c d s x = frame_is c v x reply priority ∙ ap (λ (y : Option DestinationValue). frame_of c y v.source x) to ∙ ap (λ (y : Option SourceValue). frame_of c d y x) from in
+      (subst (λ (f : FrameValue). SpellsFrame f octets) (sym same) p.0, subst (λ (f : FrameValue). HasMark (SpellsFrame f) octets (joined_mark o n mark)) (sym same) p.1)
+
+-- the mark of a body lies within it
+pub within : (X : BodyValue → List ℕ → Type 0) (x : BodyValue) (b : List ℕ) (size : ℕ) (mark : Option ℕ) → size + length b < 2 ^ 64 → HasMark (X x) b mark → IsBehind size mark
+within X x b size None fits h = tt
+within X x b size (Some place) fits h = omega (arith, fits, h.is_mark.0)
+
+-- ---- a frame that is kept
+
+-- memory was refused to a long address of a frame that the octets spell
+pub kept_memory : (octets : List ℕ) → ((k : ℕ) → slice_index octets k < 256) → (f : FrameValue) → SpellsFrame f octets → IsLong (address_of f.destination) ⊎ IsLong f.source → IsRefused octets (record { place = 0; why = OutOfMemory })
+kept_memory [] small f p long = absurd p.1
+kept_memory (v ∷ []) small f p long = absurd p.1.1
+kept_memory (v ∷ c ∷ b) small f p long = told long
+  where
+    q : HasParts f c b
+    q = parts_of f c b (p.0, ((refl, omega arith), p.1.1))
+
+    head : IsHead (v ∷ c ∷ b) c f.destination f.source q.rest
+    head = record { octets_are = ap (λ (n : ℕ). n ∷ c ∷ b) p.1.0.0 ∙ ap (λ (l : List ℕ). 1 ∷ c ∷ l) q.octets_are; destination = q.control.destination; source = q.control.source; address = q.address }
+
+    told : IsLong (address_of f.destination) ⊎ IsLong f.source → IsRefused (v ∷ c ∷ b) (record { place = 0; why = OutOfMemory })
+    told (inl l) = destination_memory (v ∷ c ∷ b) small c f.destination f.source q.rest head l
+    told (inr l) = source_memory (v ∷ c ∷ b) small c f.destination f.source q.rest head l
+
+-- what keeping a frame gives is what decoding it gives
+pub kept_decoded : (octets : List ℕ) → ((k : ℕ) → slice_index octets k < 256) → (f : FrameValue) (mark : Option ℕ) (made : Result (Frame × Option ℕ) Refusal) → SpellsFrame f octets → HasMark (SpellsFrame f) octets mark → IsKept f mark made → IsDecoded octets made
+kept_decoded octets small f mark (Ok found) p h e = record { spelled = subst (λ (g : FrameValue). SpellsFrame g octets) (sym e.0) p; marked = rw (e.0, e.1) h }
+kept_decoded octets small f mark (Err refusal) p h e = subst (IsRefused octets) (sym e.0) (kept_memory octets small f p e.1)

@@ -1,14 +1,15 @@
 -- Heads of frames: their octets, and what these tell.
-use Rattle.std.specs.Prelude.{◌≡◌, ℕ, zero, suc, ◌/◌, ◌%◌, ◌^◌, ◌<◌, nat_eq, Bool, true, false, Option, Some, None, List, [], ◌∷◌, ◌++◌, length, drop, map, slice_index, refl}
-use Rattle.std.proofs.Common.{sym, ◌∙◌, ap, arith}
+use Rattle.std.specs.Prelude.{◌≡◌, ℕ, ◌/◌, ◌%◌, ◌^◌, nat_eq, Bool, true, false, Option, Some, None, List, [], ◌∷◌, ◌++◌, length, drop, map, slice_index, refl}
+use Rattle.std.proofs.Common.{◌∙◌, ap, arith}
 use Rattle.std.proofs.lemmas.Nat.Bits.{bit_at-lt}
 use Rattle.bac_tag.specs.Octets.{IsOctets}
 use Rattle.bac_tag.specs.Laws.Octets.{octets_front, octets_back}
 use Rattle.bac_tag.proofs.HeadOctetLemmas.{bit_once, bit_is}
-use Rattle.bac_tag.specs.HeadOctets.{Part, octet, bit_of, HasBit, Headed}
+use Rattle.bac_tag.specs.HeadOctets.{Part, octet, HasBit, Headed}
 use Rattle.bac_npdu.specs.Addresses.{SourceValue, DestinationValue, addressed, destination_of, source_of, hops_of}
 use Rattle.bac_npdu.specs.Frames.{is_there}
-use Rattle.bac_npdu.specs.HeadsRead.{address_octets, from_octets, hops_octets, address_of, behind_control}
+use Rattle.bac_npdu.specs.FrameHeads.{address_of}
+use Rattle.bac_npdu.specs.HeadsRead.{address_octets, from_octets, hops_octets, behind_control}
 
 -- ---- lists
 

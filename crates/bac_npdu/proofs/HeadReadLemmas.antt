@@ -6,11 +6,12 @@ use Rattle.bac_tag.specs.declared.refusals.Why.TheVariants.{Short, Address}
 use Rattle.bac_tag.specs.Octets.{IsOctets}
 use Rattle.bac_tag.specs.Laws.Octets.{octets_at}
 use Rattle.bac_tag.specs.HeadOctets.{bit_of, HasBit}
-use Rattle.bac_npdu.specs.declared.frame_heads.Addressed.{Addressed}
-use Rattle.bac_npdu.specs.Addresses.{SourceValue, DestinationValue, HasAddress}
+use Rattle.bac_npdu.specs.declared.frame_head.Addressed.{Addressed}
+use Rattle.bac_npdu.specs.Addresses.{SourceValue, HasAddress}
 use Rattle.bac_npdu.specs.Frames.{is_there}
 use Rattle.bac_npdu.specs.Decoded.{IsRefused}
-use Rattle.bac_npdu.specs.HeadsRead.{from_octets, hops_octets, address_of, address_read, IsCutAddress, IsHead}
+use Rattle.bac_npdu.specs.FrameHeads.{address_read}
+use Rattle.bac_npdu.specs.HeadsRead.{from_octets, IsCutAddress}
 use Rattle.bac_npdu.proofs.HeadRefusedLemmas.{destination_cut, source_cut, hops_cut, address_refused}
 
 -- what was read is there where it was told

@@ -15,7 +15,8 @@ use Rattle.bac_npdu.specs.Control.{IsControl}
 use Rattle.bac_npdu.specs.Frames.{BodyValue, apdu, message, FrameValue, is_there, is_message, control_of, SpellsBody, SpellsFrame}
 use Rattle.bac_npdu.specs.Heads.{says_destination, says_source, source_place, hops_place, body_place}
 use Rattle.bac_npdu.specs.Decoded.{IsReasoned, IsRefused}
-use Rattle.bac_npdu.specs.HeadsRead.{address_octets, from_octets, hops_octets, address_of, behind_control, IsCutAddress}
+use Rattle.bac_npdu.specs.FrameHeads.{address_of}
+use Rattle.bac_npdu.specs.HeadsRead.{address_octets, from_octets, hops_octets, behind_control, IsCutAddress}
 use Rattle.bac_npdu.proofs.HeadLemmas.{addresses_every, addresses_only, from_agrees, flag_once, flag_told, flag_is}
 use Rattle.bac_npdu.proofs.PlaceLemmas.{at_source, at_hops, length_at, as_address, behind_at, source_near, source_far, hops_far}
 

@@ -3,7 +3,7 @@ use Rattle.std.specs.Prelude.{◌≡◌, ℕ, ◌≤◌, List, [], ◌∷◌, �
 use Rattle.std.proofs.Common.{inl, inr, sym, arith}
 use Rattle.bac_tag.specs.Octets.{NoGreater}
 use Rattle.bac_tag.specs.Spelling.{IsLeast}
-use Rattle.bac_tag.specs.HeadOctets.{Part, Headed, least_head}
+use Rattle.bac_tag.specs.HeadOctets.{least_head}
 use Rattle.bac_tag.specs.Laws.Octets.{NoGreater-same}
 use Rattle.bac_tag.proofs.HeadOctetLemmas.{parts_are, headed_rest, headed_least}
 use Rattle.bac_apdu.specs.Apdus.{ApduValue, SpellsApdu}

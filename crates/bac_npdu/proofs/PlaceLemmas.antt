@@ -6,7 +6,8 @@ use Rattle.bac_tag.specs.HeadOctets.{HasBit}
 use Rattle.bac_npdu.specs.Addresses.{SourceValue, DestinationValue}
 use Rattle.bac_npdu.specs.Frames.{is_there}
 use Rattle.bac_npdu.specs.Heads.{says_destination, says_source, source_place, hops_place, body_place}
-use Rattle.bac_npdu.specs.HeadsRead.{address_octets, from_octets, hops_octets, address_of, behind_control}
+use Rattle.bac_npdu.specs.FrameHeads.{address_of}
+use Rattle.bac_npdu.specs.HeadsRead.{address_octets, from_octets, hops_octets, behind_control}
 use Rattle.bac_npdu.proofs.HeadLemmas.{flag_told}
 
 pub at_source : (c : ℕ) (g : Option SourceValue) (b : List ℕ) → HasBit 5 (Some (is_there g)) c → source_place (1 ∷ c ∷ (from_octets g ++ b)) ≡ 2 + length (from_octets g)

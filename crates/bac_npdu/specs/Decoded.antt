@@ -9,7 +9,8 @@ use Rattle.bac_apdu.specs.Decoded.{IsApduReason, begins_small as begins_small_ap
 use Rattle.bac_npdu.specs.declared.frame.Frame.{Frame}
 use Rattle.bac_npdu.specs.declared.message.NetMessage.{NetMessage}
 use Rattle.bac_npdu.specs.Messages.{SpellsMessage, message_value}
-use Rattle.bac_npdu.specs.Frames.{SpellsFrame, value_of}
+use Rattle.bac_npdu.specs.FrameHeads.{address_of, IsLong}
+use Rattle.bac_npdu.specs.Frames.{FrameValue, SpellsFrame, value_of}
 use Rattle.bac_npdu.specs.Heads.{says_message, says_destination, says_source, source_place, body_place, HasHead, IsVersionPlace, IsAddressPlace}
 
 -- the octets are so many, or fewer, or more
@@ -76,16 +77,35 @@ pub record IsReasoned (octets : List ℕ) (refusal : Refusal) : Type 0 where
   pub of_window : (refusal.why ≡ Window) ↔ IsFrameWindowPlace octets refusal.place
   pub others : IsFrameReason refusal.why
 
--- the octets spell the frame, and have the mark
-pub record IsFound (octets : List ℕ) (frame : Frame) (mark : Option ℕ) : Type 0 where
-  pub spelled : SpellsFrame (value_of frame) octets
-  pub marked : HasMark (SpellsFrame (value_of frame)) octets mark
-
 -- the octets spell no frame, or memory was refused, which is not told of a small one
 pub record IsRefused (octets : List ℕ) (refusal : Refusal) : Type 0 where
   pub refused : refusal.why ≢ OutOfMemory → IsWholeRefusal SpellsFrame octets refusal
   pub memory : refusal.why ≡ OutOfMemory → (refusal.place ≡ 0) × (begins_small octets ≡ false)
   pub reasoned : IsReasoned octets refusal
+
+-- made is what a visitor makes of the frame that the octets spell, and of its mark
+pub record IsMade {P M : Type 0} (makes : FrameValue → Option ℕ → P → P → M → Type 0) (octets : List ℕ) (old new : P) (made : M) : Type 0 where
+  pub value : FrameValue
+  pub mark : Option ℕ
+  pub spelled : SpellsFrame value octets
+  pub marked : HasMark (SpellsFrame value) octets mark
+  pub made_of : makes value mark old new made
+
+abbrev pub IsVisited : {P M : Type 0} → (FrameValue → Option ℕ → P → P → M → Type 0) → List ℕ → P → P → Result M Refusal → Type 0
+IsVisited makes octets old new (Ok made) = IsMade makes octets old new made
+IsVisited makes octets old new (Err refusal) = IsRefused octets refusal × (new ≡ old)
+
+-- ---- a frame that is kept
+
+-- the frame and its mark, or memory was refused to an address of more than seven octets
+abbrev pub IsKept : FrameValue → Option ℕ → Result (Frame × Option ℕ) Refusal → Type 0
+IsKept value mark (Ok found) = (value_of found.0 ≡ value) × (found.1 ≡ mark)
+IsKept value mark (Err refusal) = (refusal ≡ record { place = 0; why = OutOfMemory }) × (IsLong (address_of value.destination) ⊎ IsLong value.source)
+
+-- the octets spell the frame, and have the mark
+pub record IsFound (octets : List ℕ) (frame : Frame) (mark : Option ℕ) : Type 0 where
+  pub spelled : SpellsFrame (value_of frame) octets
+  pub marked : HasMark (SpellsFrame (value_of frame)) octets mark
 
 abbrev pub IsDecoded : List ℕ → Result (Frame × Option ℕ) Refusal → Type 0
 IsDecoded octets (Ok found) = IsFound octets found.0 found.1

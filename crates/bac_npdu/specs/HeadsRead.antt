@@ -1,5 +1,5 @@
 -- What reading the octets in front of a body gives (clause 6.2).
-use Rattle.std.specs.Prelude.{◌≡◌, ◌≢◌, ◌↔◌, ℕ, ◌+◌, ◌/◌, ◌%◌, ◌^◌, ◌<◌, ◌≤◌, nat_eq, cond, Bool, false, Option, Some, None, List, [], ◌∷◌, ◌++◌, length, slice_index, Result, Ok, Err}
+use Rattle.std.specs.Prelude.{◌≡◌, ◌≢◌, ◌↔◌, ℕ, ◌+◌, ◌/◌, ◌%◌, ◌^◌, ◌<◌, ◌≤◌, nat_eq, cond, Bool, false, Option, Some, None, List, [], ◌∷◌, ◌++◌, length, slice_index, IfSome, Result, Ok, Err}
 use Rattle.bac_tag.specs.declared.refusals.Refusal.{Refusal}
 use Rattle.bac_tag.specs.declared.refusals.Why.TheVariants.{PduType, Window, OutOfMemory}
 use Rattle.bac_tag.specs.HeadOctets.{HasBit}
@@ -7,12 +7,11 @@ use Rattle.bac_tag.specs.Spelling.{HasMark, IsWholeRefusal}
 use Rattle.bac_apdu.specs.FirstOctet.{IsTypePlace, IsWindowPlace}
 use Rattle.bac_apdu.specs.Decoded.{IsApduReason, begins_small as begins_small_apdu}
 use Rattle.bac_npdu.specs.declared.control.Control.{Control}
-use Rattle.bac_npdu.specs.declared.frame_heads.Addressed.{Addressed}
-use Rattle.bac_npdu.specs.declared.frame_heads.Head.{Head}
+use Rattle.bac_npdu.specs.declared.frame_heads.HeadRead.{HeadRead}
 use Rattle.bac_npdu.specs.Addresses.{SourceValue, DestinationValue, HasAddress}
-use Rattle.bac_npdu.specs.declared.frame.Body.{Body}
 use Rattle.bac_npdu.specs.Control.{ControlValue, least_of}
-use Rattle.bac_npdu.specs.Frames.{BodyValue, body_value, is_there, is_message, SpellsBody}
+use Rattle.bac_npdu.specs.FrameHeads.{address_of, address_read, destination_read}
+use Rattle.bac_npdu.specs.Frames.{BodyValue, is_there, is_message, SpellsBody}
 use Rattle.bac_npdu.specs.Decoded.{begins_small_message, IsRefused}
 
 -- network, length and address
@@ -28,11 +27,6 @@ abbrev pub hops_octets : Option DestinationValue → List ℕ
 hops_octets None = []
 hops_octets (Some d) = d.hops ∷ []
 
--- a destination without its hop count
-abbrev pub address_of : Option DestinationValue → Option SourceValue
-address_of None = None
-address_of (Some d) = Some (record { network = d.network; address = d.address })
-
 -- behind the control octet: destination, source, hop count, and the rest
 abbrev pub behind_control : Option DestinationValue → Option SourceValue → List ℕ → List ℕ
 behind_control d s rest = from_octets (address_of d) ++ (from_octets s ++ (hops_octets d ++ rest))
@@ -40,21 +34,6 @@ behind_control d s rest = from_octets (address_of d) ++ (from_octets s ++ (hops_
 -- the octets end within a network, a length and an address
 abbrev pub IsCutAddress : List ℕ → Type 0
 IsCutAddress b = 3 ≤ length b → length b < 3 + slice_index b 2
-
--- ---- what was read, as values
-
-abbrev pub address_read : Option Addressed → Option SourceValue
-address_read None = None
-address_read (Some a) = Some (record { network = a.network; address = a.address.now })
-
-abbrev pub destination_read : Option (Addressed × ℕ) → Option DestinationValue
-destination_read None = None
-destination_read (Some p) = Some (record { network = p.0.network; address = p.0.address.now; hops = p.1 })
-
--- an address of more octets than have room in a Mac
-abbrev pub IsLong : Option SourceValue → Type 0
-IsLong None = ⊥
-IsLong (Some s) = 7 < length s.address
 
 -- what a control octet says
 abbrev pub control_at : ℕ → ControlValue
@@ -73,12 +52,12 @@ pub record IsHead (octets : List ℕ) (control : ℕ) (d : Option DestinationVal
   pub address : HasAddress s
 
 -- a head that was read, and the rest behind so many octets
-pub record IsHeadOf (octets : List ℕ) (head : Head) : Type 0 where
+pub record IsHeadOf (octets : List ℕ) (head : HeadRead) : Type 0 where
   pub rest : List ℕ
   pub is_head : IsHead octets head.control.0 (destination_read head.destination) (address_read head.source) rest
   pub size : length octets ≡ head.size + length rest
 
-abbrev pub IsHeadRead : List ℕ → Result Head Refusal → Type 0
+abbrev pub IsHeadRead : List ℕ → Result HeadRead Refusal → Type 0
 IsHeadRead octets (Ok head) = IsHeadOf octets head
 IsHeadRead octets (Err refusal) = IsRefused octets refusal
 
@@ -88,10 +67,10 @@ IsHeadRead octets (Err refusal) = IsRefused octets refusal
 abbrev pub SpellsBodyOf : Bool → BodyValue → List ℕ → Type 0
 SpellsBodyOf m x b = (is_message x ≡ m) × SpellsBody x b
 
-pub record IsBodyFound (m : Bool) (octets : List ℕ) (body : Body) (mark : Option ℕ) : Type 0 where
-  pub is : is_message (body_value body) ≡ m
-  pub spelled : SpellsBody (body_value body) octets
-  pub marked : HasMark (SpellsBody (body_value body)) octets mark
+pub record IsBodyFound (m : Bool) (octets : List ℕ) (body : BodyValue) (mark : Option ℕ) : Type 0 where
+  pub is : is_message body ≡ m
+  pub spelled : SpellsBody body octets
+  pub marked : HasMark (SpellsBody body) octets mark
 
 pub record IsBodyRefused (m : Bool) (octets : List ℕ) (refusal : Refusal) : Type 0 where
   pub refused : refusal.why ≢ OutOfMemory → IsWholeRefusal (SpellsBodyOf m) octets refusal
@@ -100,9 +79,20 @@ pub record IsBodyRefused (m : Bool) (octets : List ℕ) (refusal : Refusal) : Ty
   pub of_window : (refusal.why ≡ Window) ↔ ((m ≡ false) × IsWindowPlace octets refusal.place)
   pub reason : IsApduReason refusal.why
 
-abbrev pub IsBodyDecoded : Bool → List ℕ → Result (Body × Option ℕ) Refusal → Type 0
-IsBodyDecoded m octets (Ok found) = IsBodyFound m octets found.0 found.1
-IsBodyDecoded m octets (Err refusal) = IsBodyRefused m octets refusal
+-- a mark in a body that stands behind so many octets, none of which is too far away to be counted
+abbrev pub IsBehind : ℕ → Option ℕ → Type 0
+IsBehind size mark = IfSome mark (λ place. size + place < 2 ^ 64)
+
+-- made is what is made of a body and of its mark
+pub record IsBodyMade {P M : Type 0} (makes : BodyValue → Option ℕ → P → P → M → Type 0) (m : Bool) (octets : List ℕ) (old new : P) (made : M) : Type 0 where
+  pub body : BodyValue
+  pub mark : Option ℕ
+  pub found : IsBodyFound m octets body mark
+  pub made_of : makes body mark old new made
+
+abbrev pub IsBodyVisited : {P M : Type 0} → (BodyValue → Option ℕ → P → P → M → Type 0) → Bool → List ℕ → P → P → Result M Refusal → Type 0
+IsBodyVisited makes m octets old new (Ok made) = IsBodyMade makes m octets old new made
+IsBodyVisited makes m octets old new (Err refusal) = IsBodyRefused m octets refusal × (new ≡ old)
 
 -- ---- version and control octet
 

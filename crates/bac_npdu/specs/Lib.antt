@@ -4,6 +4,7 @@ pub mod Ports
 pub mod Messages
 pub mod Control
 pub mod Frames
+pub mod FrameHeads
 pub mod Heads
 pub mod Decoded
 pub mod HeadsRead

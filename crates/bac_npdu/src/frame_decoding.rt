@@ -1,66 +1,24 @@
 //! Decoding a frame.
 
-ghost use Rattle.std.specs.Prelude.{◌≡◌, ◌≢◌, ◌↔◌, ◌<◌, length, false, IfOk, IfErr};
+ghost use Rattle.std.specs.Prelude.{◌≡◌, ◌≢◌, ◌↔◌, false, IfOk, IfErr, OnErr};
 ghost use Rattle.bac_tag.specs.declared.refusals.Why.TheVariants.{OutOfMemory};
+ghost use Rattle.bac_tag.specs.Octets.{joined_mark};
 ghost use Rattle.bac_tag.specs.Spelling.{HasMark, IsWholeRefusal};
-ghost use Rattle.bac_npdu.specs.Addresses.{HasAddress};
-ghost use Rattle.bac_npdu.specs.Frames.{SpellsFrame, destination_value, value_of};
+ghost use Rattle.bac_npdu.specs.FrameHeads.{frame_with};
+ghost use Rattle.bac_npdu.specs.Frames.{SpellsFrame, body_value, value_of};
 ghost use Rattle.bac_npdu.specs.Heads.{IsVersionPlace, IsAddressPlace};
-ghost use Rattle.bac_npdu.specs.Decoded.{begins_small, IsPduTypePlace, IsFrameWindowPlace, IsFrameReason, IsDecoded};
-ghost use Rattle.bac_npdu.specs.HeadsRead.{address_of, address_read, destination_read, IsLong, IsControlMark, IsHeadOf, IsBodyDecoded};
+ghost use Rattle.bac_npdu.specs.Decoded.{begins_small, IsPduTypePlace, IsFrameWindowPlace, IsFrameReason, IsMade, IsVisited, IsDecoded};
+ghost use Rattle.bac_npdu.specs.HeadsRead.{IsBehind, IsControlMark, IsBodyVisited};
 
-use crate::addresses::Mac;
 use crate::control::Control;
-use crate::destination::Dest;
 use crate::frame::{Body, Frame};
-use crate::frame_heads::{Addressed, Head, read_head};
+use crate::frame_head::FrameHead;
+use crate::frame_heads::read_head;
 use crate::message_decoding::decode_message;
-use crate::source::Source;
-use bac_apdu::decode_apdu_marked;
-use bac_tag::layers::joined_marks;
+use crate::visiting::FrameVisitor;
+use bac_apdu::{Apdu, ApduVisitor, visit_apdu};
 use bac_tag::{Refusal, Why};
 use std::alloc::Global;
-
-/// A copy of an address that was read.
-#[inline(always)]
-fn copied(alloc: Global, address: &[u8]) -> Result<Mac, Refusal>
-    ensures value { IfOk result (λ mac. mac ≡ address.now) }
-    ensures memory { IfErr result (λ refusal. (refusal ≡ record { place = 0; why = OutOfMemory }) × (7 < length address.now)) }
-{
-    Mac::new(alloc, address).map_err(|_fault| Refusal::out_of_memory())
-}
-
-/// The destination that was read.
-#[inline(always)]
-fn destination_of(alloc: Global, read: Option<(Addressed<'_>, u8)>) -> Result<Option<Dest>, Refusal>
-    ensures value { IfOk result (λ dest. destination_value dest ≡ destination_read read.entry) }
-    ensures memory { IfErr result (λ refusal. (refusal ≡ record { place = 0; why = OutOfMemory }) × IsLong (address_of (destination_read read.entry))) }
-{
-    let Some((read, hops)) = read else {
-        return Ok(None);
-    };
-    let network = read.network;
-    let address = copied(alloc, read.address)?;
-    Ok(Some(Dest {
-        network,
-        address,
-        hops,
-    }))
-}
-
-/// The source that was read.
-#[inline(always)]
-fn source_of(alloc: Global, read: Option<Addressed<'_>>) -> Result<Option<Source>, Refusal>
-    requires { HasAddress (address_read read) }
-    ensures value { IfOk result (λ source. source ≡ address_read read.entry) }
-    ensures memory { IfErr result (λ refusal. (refusal ≡ record { place = 0; why = OutOfMemory }) × IsLong (address_read read.entry)) }
-{
-    let Some(read) = read else {
-        return Ok(None);
-    };
-    let address = copied(alloc, read.address)?;
-    Ok(Some(Source::of(read.network, address)))
-}
 
 /// The place of the control octet, where it has an ignored bit that is not 0.
 #[inline(always)]
@@ -77,50 +35,160 @@ fn mark_of(control: Control) -> Option<usize>
     if control == least { None } else { Some(1) }
 }
 
-/// Decodes an APDU or a network message, with its mark.
-fn decode_body(
-    alloc: Global,
-    is_message: bool,
-    octets: &[u8],
-) -> Result<(Body, Option<usize>), Refusal>
-    ensures { IsBodyDecoded is_message octets.now result }
+/// The mark of a head, or else that of a body behind so many octets. The places of marks lie within octets, so the sum
+/// does not wrap.
+#[inline(always)]
+fn joined(first: Option<usize>, size: usize, second: Option<usize>) -> Option<usize>
+    ensures { IsBehind size second → result ≡ joined_mark first size second }
 {
-    if is_message {
-        let message = decode_message(alloc, octets)?;
-        Ok((Body::Net(message), None))
-    } else {
-        let (apdu, mark) = decode_apdu_marked(alloc, octets)?;
-        Ok((Body::Apdu(apdu), mark))
+    if first.is_some() {
+        return first;
+    }
+    let place = second?;
+    Some(size.wrapping_add(place))
+}
+
+/// What stands in front of a body, for what is made of the body.
+#[derive(Drop)]
+struct Behind<'a, V> {
+    head: &'a FrameHead<'a>,
+    /// The mark of the head.
+    mark: Option<usize>,
+    /// How many octets the head has.
+    size: usize,
+    visitor: V,
+}
+
+impl<V: FrameVisitor> Behind<'_, V> {
+    /// Takes a body with its mark.
+    #[inline(always)]
+    fn visit_body(self, body: Body, mark: Option<usize>, place: &mut V::Place) -> V::Made
+        ensures { IsBehind self.entry.size mark → V.makes self.entry.visitor (frame_with self.entry.head.now (body_value body)) (joined_mark self.entry.mark self.entry.size mark) place.old place.new result }
+    {
+        let Behind {
+            head,
+            mark: first,
+            size,
+            visitor,
+        } = self;
+        visitor.visit(head, body, joined(first, size, mark), place)
     }
 }
 
-/// Decodes what stands behind a head.
+impl<V: FrameVisitor> ApduVisitor for Behind<'_, V> {
+    ghost use Rattle.bac_tag.specs.Octets.{joined_mark};
+    ghost use Rattle.bac_npdu.specs.FrameHeads.{frame_with};
+    ghost use Rattle.bac_npdu.specs.Frames.{apdu};
+    ghost use Rattle.bac_npdu.specs.HeadsRead.{IsBehind};
+
+    type Place = V::Place;
+
+    type Made = V::Made;
+
+    ghost makes = { λ behind value mark old new made. IsBehind behind.size mark → V.makes behind.visitor (frame_with behind.head.now (apdu value)) (joined_mark behind.mark behind.size mark) old new made };
+
+    #[inline(always)]
+    fn visit(self, apdu: Apdu, mark: Option<usize>, place: &mut V::Place) -> V::Made {
+        self.visit_body(Body::Apdu(apdu), mark, place)
+    }
+}
+
+/// Decodes the APDU or the network message behind a head, and makes of it what is made.
 #[inline(always)]
-fn decode_behind(
+fn visit_behind<V: FrameVisitor>(
+    alloc: Global,
+    is_message: bool,
+    octets: &[u8],
+    behind: Behind<'_, V>,
+    place: &mut V::Place,
+) -> Result<V::Made, Refusal>
+    ensures { IsBodyVisited (λ x mark old new made. IsBehind behind.entry.size mark → V.makes behind.entry.visitor (frame_with behind.entry.head.now x) (joined_mark behind.entry.mark behind.entry.size mark) old new made) is_message octets.now place.old place.new result }
+{
+    if is_message {
+        let message = decode_message(alloc, octets)?;
+        Ok(behind.visit_body(Body::Net(message), None, place))
+    } else {
+        visit_apdu(alloc, octets, behind, place)
+    }
+}
+
+/// Decodes a frame, and gives it to a visitor.
+#[inline(always)]
+fn visit_any<V: FrameVisitor>(
     alloc: Global,
     octets: &[u8],
-    head: Head<'_>,
-) -> Result<(Frame, Option<usize>), Refusal>
-    requires { IsHeadOf octets.now head }
-    ensures { IsDecoded octets.now result }
+    visitor: V,
+    place: &mut V::Place,
+) -> Result<V::Made, Refusal>
+    ensures { IsVisited (V.makes visitor) octets.now place.old place.new result }
 {
-    let control = head.control;
-    let dest = destination_of(alloc, head.destination)?;
-    let source = source_of(alloc, head.source)?;
-    let (_, rest) = octets.split_at(head.size);
-    match decode_body(alloc, control.has_message(), rest) {
-        Ok((body, mark)) => {
-            let frame = Frame {
-                reply: control.has_reply(),
-                priority: control.priority(),
-                dest,
-                source,
-                body,
-            };
-            Ok((frame, joined_marks(mark_of(control), head.size, mark)))
-        }
+    let read = read_head(octets)?;
+    let (_, rest) = octets.split_at(read.size);
+    let head = FrameHead::of(&read);
+    let behind = Behind {
+        head: &head,
+        mark: mark_of(read.control),
+        size: read.size,
+        visitor,
+    };
+    match visit_behind(alloc, read.control.has_message(), rest, behind, place) {
+        Ok(made) => Ok(made),
         Err(refusal) if refusal.why == Why::OutOfMemory => Err(refusal),
-        Err(refusal) => Err(refusal.behind(head.size)),
+        Err(refusal) => Err(refusal.behind(read.size)),
+    }
+}
+
+/// Decodes the frame that all the octets spell, and gives it to a visitor. Returns what the visitor made of it.
+///
+/// # Errors
+/// As [`decode_marked`]. The visitor is then given nothing, and the place stays as it was.
+#[inline(always)]
+pub fn visit_frame<V: FrameVisitor>(
+    alloc: Global,
+    octets: &[u8],
+    visitor: V,
+    place: &mut V::Place,
+) -> Result<V::Made, Refusal>
+    ensures made { IfOk result (IsMade (V.makes visitor) octets.now place.old place.new) }
+    ensures refused { IfErr result (λ refusal. refusal.why ≢ Why.OutOfMemory → IsWholeRefusal SpellsFrame octets.now refusal) }
+    ensures memory { IfErr result (λ refusal. refusal.why ≡ Why.OutOfMemory → (refusal.place ≡ 0) × (begins_small octets.now ≡ false)) }
+    ensures versions { IfErr result (λ refusal. (refusal.why ≡ Why.Version) ↔ IsVersionPlace octets.now refusal.place) }
+    ensures addresses { IfErr result (λ refusal. (refusal.why ≡ Why.Address) ↔ IsAddressPlace octets.now refusal.place) }
+    ensures types { IfErr result (λ refusal. (refusal.why ≡ Why.PduType) ↔ IsPduTypePlace octets.now refusal.place) }
+    ensures windows { IfErr result (λ refusal. (refusal.why ≡ Why.Window) ↔ IsFrameWindowPlace octets.now refusal.place) }
+    ensures reasons { IfErr result (λ refusal. IsFrameReason refusal.why) }
+    ensures unchanged { OnErr result (place.new ≡ place.old) }
+{
+    visit_any(alloc, octets, visitor, place)
+}
+
+/// Keeps the frame and its mark.
+#[derive(Drop)]
+struct Keep {
+    alloc: Global,
+}
+
+impl FrameVisitor for Keep {
+    ghost use Rattle.bac_npdu.specs.Decoded.{IsKept};
+
+    type Place = ();
+
+    type Made = Result<(Frame, Option<usize>), Refusal>;
+
+    ghost makes = { λ _ value mark _ _ made. IsKept value mark made };
+
+    #[inline(always)]
+    fn visit(
+        self,
+        head: &FrameHead<'_>,
+        body: Body,
+        mark: Option<usize>,
+        _place: &mut (),
+    ) -> Result<(Frame, Option<usize>), Refusal> {
+        match head.frame(self.alloc, body) {
+            Ok(frame) => Ok((frame, mark)),
+            Err(_) => Err(Refusal::out_of_memory()),
+        }
     }
 }
 
@@ -129,8 +197,7 @@ fn decode_behind(
 fn decode_any(alloc: Global, octets: &[u8]) -> Result<(Frame, Option<usize>), Refusal>
     ensures { IsDecoded octets.now result }
 {
-    let head = read_head(octets)?;
-    decode_behind(alloc, octets, head)
+    visit_any(alloc, octets, Keep { alloc }, &mut ())?
 }
 
 /// Decodes the frame that all the octets spell, and gives the place of the first octet that differs from the canonical

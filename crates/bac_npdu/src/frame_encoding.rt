@@ -6,10 +6,12 @@ ghost use Rattle.bac_tag.specs.Spelling.{IsLeast, AppendsLeast};
 ghost use Rattle.bac_tag.specs.Octets.{Extends};
 ghost use Rattle.bac_npdu.specs.Addresses.{HasAddress};
 ghost use Rattle.bac_npdu.specs.Control.{least_of};
-ghost use Rattle.bac_npdu.specs.Frames.{SpellsFrame, value_of, control_of as control_said, addresses_of};
+ghost use Rattle.bac_npdu.specs.FrameHeads.{frame_with};
+ghost use Rattle.bac_npdu.specs.Frames.{SpellsFrame, body_value, value_of, control_of as control_said, addresses_of};
 
 use crate::control::Control;
 use crate::frame::{Body, Frame};
+use crate::frame_head::FrameHead;
 use crate::frame_heads::append_address;
 use crate::message_encoding::append_message;
 use bac_apdu::append_apdu;
@@ -20,55 +22,75 @@ use std::alloc::Global;
 /// For how many octets there is room at first, as most frames want.
 const FIRST_ROOM: usize = 64;
 
-/// The canonical control octet of a frame.
-fn control_of(frame: &Frame) -> Control
-    ensures value { result.0 ≡ least_of (control_said (value_of frame.now)) }
-    ensures range { frame.now.priority < 4 }
+/// The canonical control octet of the frame with this head and this body.
+fn control_of(head: &FrameHead<'_>, body: &Body) -> Control
+    ensures value { result.0 ≡ least_of (control_said (frame_with head.now (body_value body.now))) }
+    ensures range { head.now.priority < 4 }
 {
-    let is_message = match &frame.body {
+    let is_message = match body {
         Body::Apdu(_) => false,
         Body::Net(_) => true,
     };
-    let has_destination = frame.dest.is_some();
-    let has_source = frame.source.is_some();
+    let has_destination = head.destination().is_some();
+    let has_source = head.source().is_some();
     Control::new(
         is_message,
         has_destination,
         has_source,
-        frame.reply,
-        frame.priority,
+        head.reply(),
+        head.priority(),
     )
 }
 
 /// Appends the octets in front of the body. Where memory is refused `out` may hold some of them.
-fn append_head(frame: &Frame, out: &mut Vec<u8>) -> Result<(), OutOfMemory>
-    ensures written { OnOk result (out.new.items ≡ out.old.items ++ 1 ∷ least_of (control_said (value_of frame.now)) ∷ least_head (addresses_of (value_of frame.now))) }
-    ensures addressed { OnOk result (HasAddress frame.now.source) }
-    ensures range { OnOk result (frame.now.priority < 4) }
+fn append_head(head: &FrameHead<'_>, body: &Body, out: &mut Vec<u8>) -> Result<(), OutOfMemory>
+    ensures written { OnOk result (out.new.items ≡ out.old.items ++ 1 ∷ least_of (control_said (frame_with head.now (body_value body.now))) ∷ least_head (addresses_of (frame_with head.now (body_value body.now)))) }
+    ensures addressed { OnOk result (HasAddress head.now.source) }
+    ensures range { OnOk result (head.now.priority < 4) }
     ensures kept { Extends out.old.items out.new.items }
 {
-    out.extend_from_slice(&[1, control_of(frame).bits()])?;
-    if let Some(dest) = &frame.dest {
-        append_address(dest.network, &dest.address, out)?;
+    out.extend_from_slice(&[1, control_of(head, body).bits()])?;
+    let destination = head.destination();
+    if let Some((addressed, _)) = destination {
+        append_address(addressed, out)?;
     }
-    if let Some(source) = &frame.source {
-        append_address(source.network(), source.address(), out)?;
+    if let Some(addressed) = head.source() {
+        append_address(addressed, out)?;
     }
-    if let Some(dest) = &frame.dest {
-        out.push(dest.hops)?;
+    if let Some((_, hops)) = destination {
+        out.push(hops)?;
     }
     Ok(())
 }
 
 /// Appends the octets of a frame. Where memory is refused `out` may hold some of them.
-fn append_parts(frame: &Frame, out: &mut Vec<u8>) -> Result<(), OutOfMemory>
-    ensures written { OnOk result (AppendsLeast (SpellsFrame (value_of frame.now)) out.old.items out.new.items) }
+fn append_parts(head: &FrameHead<'_>, body: &Body, out: &mut Vec<u8>) -> Result<(), OutOfMemory>
+    ensures written { OnOk result (AppendsLeast (SpellsFrame (frame_with head.now (body_value body.now))) out.old.items out.new.items) }
     ensures kept { Extends out.old.items out.new.items }
 {
-    append_head(frame, out)?;
-    match &frame.body {
+    append_head(head, body, out)?;
+    match body {
         Body::Apdu(apdu) => append_apdu(apdu, out),
         Body::Net(message) => append_message(message, out),
+    }
+}
+
+impl FrameHead<'_> {
+    /// Appends the canonical octets of the frame with this head and this body, its least spelling, behind what stands in
+    /// `out`.
+    ///
+    /// # Errors
+    /// `OutOfMemory` where memory is refused. `out` then stays as it was.
+    pub fn append_frame(&self, body: &Body, out: &mut Vec<u8>) -> Result<(), OutOfMemory>
+        ensures written { OnOk result (AppendsLeast (SpellsFrame (frame_with self.now (body_value body.now))) out.old.items out.new.items) }
+        ensures unchanged { OnErr result (out.new.items ≡ out.old.items) }
+    {
+        let start = out.len();
+        let written = append_parts(self, body, out);
+        if written.is_err() {
+            out.truncate(start);
+        }
+        written
     }
 }
 
@@ -80,12 +102,7 @@ pub fn append_frame(frame: &Frame, out: &mut Vec<u8>) -> Result<(), OutOfMemory>
     ensures written { OnOk result (AppendsLeast (SpellsFrame (value_of frame.now)) out.old.items out.new.items) }
     ensures unchanged { OnErr result (out.new.items ≡ out.old.items) }
 {
-    let start = out.len();
-    let written = append_parts(frame, out);
-    if written.is_err() {
-        out.truncate(start);
-    }
-    written
+    frame.head().append_frame(&frame.body, out)
 }
 
 /// The canonical octets of a frame: its least spelling.

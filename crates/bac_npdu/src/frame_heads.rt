@@ -1,28 +1,22 @@
 //! The octets in front of an APDU or a network message (clause 6.2).
 
-ghost use Rattle.std.specs.Prelude.{◌≡◌, ◌↔◌, ◌≤◌, true, [], ◌++◌, length, slice_index, IfSome, IfNone, OnOk};
+ghost use Rattle.std.specs.Prelude.{◌≡◌, ◌↔◌, ◌<◌, ◌≤◌, true, [], ◌++◌, length, slice_index, IfSome, IfNone, OnOk};
 ghost use Rattle.bac_tag.specs.HeadOctets.{least_head};
 ghost use Rattle.bac_tag.specs.Octets.{Extends};
 ghost use Rattle.bac_npdu.specs.Addresses.{addressed};
+ghost use Rattle.bac_npdu.specs.FrameHeads.{address_of, address_read, destination_read};
 ghost use Rattle.bac_npdu.specs.Frames.{is_there};
-ghost use Rattle.bac_npdu.specs.HeadsRead.{address_octets, from_octets, hops_octets, IsCutAddress, address_read, destination_read, address_of, IsControlRead, IsHeadRead};
+ghost use Rattle.bac_npdu.specs.HeadsRead.{address_octets, from_octets, hops_octets, IsCutAddress, IsControlRead, IsHeadRead};
 
-use crate::addresses::Mac;
 use crate::control::Control;
+use crate::frame_head::Addressed;
 use crate::octets::{number_at, octets_of_number};
 use bac_tag::{OutOfMemory, Refusal, Why};
 use bitflags::Flags;
 
-/// A network and an address, as they stand in the octets.
+/// What was read in front of a body.
 #[derive(Clone, Copy)]
-pub(crate) struct Addressed<'a> {
-    pub(crate) network: u16,
-    pub(crate) address: &'a [u8],
-}
-
-/// What the head of a frame says.
-#[derive(Clone, Copy)]
-pub(crate) struct Head<'a> {
+pub(crate) struct HeadRead<'a> {
     pub(crate) control: Control,
     pub(crate) destination: Option<(Addressed<'a>, u8)>,
     pub(crate) source: Option<Addressed<'a>>,
@@ -107,7 +101,7 @@ fn read_control(octets: &[u8]) -> Result<Control, Refusal>
 }
 
 /// Reads the octets in front of the APDU or the network message.
-pub(crate) fn read_head(octets: &[u8]) -> Result<Head<'_>, Refusal>
+pub(crate) fn read_head(octets: &[u8]) -> Result<HeadRead<'_>, Refusal>
     ensures { IsHeadRead octets.now result }
 {
     let control = read_control(octets)?;
@@ -124,7 +118,7 @@ pub(crate) fn read_head(octets: &[u8]) -> Result<Head<'_>, Refusal>
     let Some((destination, rest)) = split_hops(goes_to, rest) else {
         return Err(Why::Short.at(octets.len()));
     };
-    Ok(Head {
+    Ok(HeadRead {
         control,
         destination,
         source,
@@ -133,17 +127,14 @@ pub(crate) fn read_head(octets: &[u8]) -> Result<Head<'_>, Refusal>
 }
 
 /// Appends a network, a length and an address. Where memory is refused `out` may hold some of the octets.
-pub(crate) fn append_address(
-    network: u16,
-    address: &Mac,
-    out: &mut Vec<u8>,
-) -> Result<(), OutOfMemory>
-    ensures written { OnOk result (out.new.items ≡ out.old.items ++ least_head (addressed network address.now [])) }
+pub(crate) fn append_address(from: Addressed<'_>, out: &mut Vec<u8>) -> Result<(), OutOfMemory>
+    requires { length from.address.now < 256 }
+    ensures written { OnOk result (out.new.items ≡ out.old.items ++ least_head (addressed from.entry.network from.entry.address.now [])) }
     ensures kept { Extends out.old.items out.new.items }
 {
-    let octets = address.octets();
+    let Addressed { network, address } = from;
     out.extend_from_slice(&octets_of_number(network))?;
-    out.push(octets.len() as u8)?;
-    out.extend_from_slice(octets)?;
+    out.push(address.len() as u8)?;
+    out.extend_from_slice(address)?;
     Ok(())
 }

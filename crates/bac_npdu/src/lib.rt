@@ -3,7 +3,8 @@
 //!
 //! [`decode_frame`] reads a frame, and [`encode_frame`] and [`append_frame`] write one. [`decode_strict`] accepts
 //! canonical octets alone, [`normalise_frame`] gives the canonical octets of what was read, and [`same_meaning`] tells
-//! whether two inputs spell one frame.
+//! whether two inputs spell one frame. [`visit_frame`] makes of a frame what a [`FrameVisitor`] makes, where the frame was
+//! decoded.
 #![tactic(auto)]
 
 mod addresses;
@@ -12,6 +13,7 @@ mod destination;
 mod frame;
 mod frame_decoding;
 mod frame_encoding;
+mod frame_head;
 mod frame_heads;
 pub mod laws;
 mod meaning;
@@ -23,12 +25,14 @@ mod net_priority;
 mod octets;
 mod source;
 mod strict;
+mod visiting;
 
 pub use addresses::{Mac, MacFault};
 pub use destination::Dest;
 pub use frame::{Body, Frame};
-pub use frame_decoding::{decode_frame, decode_marked};
+pub use frame_decoding::{decode_frame, decode_marked, visit_frame};
 pub use frame_encoding::{append_frame, encode_frame};
+pub use frame_head::{Addressed, FrameHead};
 pub use meaning::{Side, same_meaning};
 pub use message::NetMessage;
 pub use messages::opaque_net::{NetFault, OpaqueNet};
@@ -37,3 +41,4 @@ pub use messages::ports::Ports;
 pub use net_priority::NetPriority;
 pub use source::Source;
 pub use strict::{decode_strict, normalise_frame};
+pub use visiting::FrameVisitor;

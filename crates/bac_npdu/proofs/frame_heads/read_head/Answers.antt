@@ -1,7 +1,7 @@
 use Rattle.std.specs.Prelude.{◌≡◌, ◌<◌, ◌≤◌, ℕ, true, false, length, slice_index}
 use Rattle.std.proofs.Common.{◌∙◌, ap, sym, arith}
 use Rattle.bac_tag.specs.HeadOctets.{bit_of}
-use Rattle.bac_npdu.specs.HeadsRead.{address_read}
+use Rattle.bac_npdu.specs.FrameHeads.{address_read}
 use Rattle.bac_npdu.specs.Frames.{is_there}
 use Rattle.bac_npdu.proofs.UntypedLemmas.{behind_all}
 use Rattle.bac_npdu.proofs.HeadReadLemmas.{read_there, is_told, read_destination_cut, read_source_cut, read_empty, read_hops_cut, address_some}

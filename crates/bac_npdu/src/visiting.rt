@@ -1,0 +1,31 @@
+//! What is made of a frame where it was decoded.
+
+ghost use Rattle.std.specs.Prelude.{ℕ, Option};
+ghost use Rattle.bac_npdu.specs.FrameHeads.{frame_with};
+ghost use Rattle.bac_npdu.specs.Frames.{FrameValue, body_value};
+
+use crate::frame::Body;
+use crate::frame_head::FrameHead;
+
+/// What is made of a frame where it was decoded. So it need not be put together, which takes longer than to decode a
+/// short one.
+pub trait FrameVisitor: Drop {
+    /// What it may change.
+    type Place;
+
+    /// What it gives.
+    type Made;
+
+    /// What it makes of a frame and of its mark: from what the place held, what the place holds and what it gives.
+    ghost makes: { Self → FrameValue → Option ℕ → Self.Place → Self.Place → Self.Made → Type 0 };
+
+    /// Takes head and body of a frame, and the place of the first octet that differs from its canonical ones.
+    fn visit(
+        self,
+        head: &FrameHead<'_>,
+        body: Body,
+        mark: Option<usize>,
+        place: &mut Self::Place,
+    ) -> Self::Made
+        ensures { makes self (frame_with head.now (body_value body)) mark place.old place.new result };
+}
