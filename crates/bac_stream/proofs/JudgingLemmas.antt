@@ -1,6 +1,6 @@
 -- What is accepted, refused and canonical.
 use Rattle.std.proofs.Common.{◌≡◌, ◌≢◌, ◌⊎◌, ℕ, List, Option, None, Some, refl, sym, ap, subst, ◌∙◌, inl, inr, true, false, ◌↔◌, IsTrue, arith}
-use Rattle.std.specs.Prelude.{slice_get, Bool, ◌++◌, Result, Ok, Err, IfOk, IfErr}
+use Rattle.std.specs.Prelude.{slice_get, Bool, Result, Ok, Err, IfOk, IfErr}
 use Rattle.bac_tag.specs.declared.refusals.Refusal.{Refusal}
 use Rattle.bac_tag.specs.declared.refusals.Why.{Why}
 use Rattle.bac_tag.specs.declared.refusals.Why.TheVariants.{Short, Trailing, Version, Address, PduType, Window, Tag, Length, Content, Depth, NotCanonical, OutOfMemory}
@@ -9,12 +9,14 @@ use Rattle.bac_tag.specs.Laws.Octets.{NoGreater-length}
 use Rattle.bac_tag.specs.Spelling.{IsLeast, HasMark, IsWholeRefusal}
 use Rattle.bac_tag.specs.Laws.Spelling.{IsLeast-one}
 use Rattle.bac_npdu.specs.Decoded.{IsFrameReason}
-use Rattle.bac_npdu.specs.declared.frame.Frame.{Frame}
-use Rattle.bac_npdu.specs.Frames.{FrameValue, SpellsFrame, value_of}
+use Rattle.bac_npdu.specs.Frames.{FrameValue, SpellsFrame}
 use Rattle.bac_npdu.specs.Meanings.{IsFirstFlaw}
-use Rattle.bac_stream.specs.Judging.{IsCanonicalFor, IsCanonical, Accepts, IsDecodedOf, IsRefused, IsHopeless, Refuses}
-use Rattle.bac_stream.specs.Lines.{IsChecked, said_of, AppendsRecord}
-use Rattle.bac_record.specs.Records.{IsRecord, record_of}
+use Rattle.bac_stream.specs.Judging.{IsCanonicalFor, IsCanonical, Accepts, IsJudged, IsRefused, IsHopeless, Refuses}
+use Rattle.bac_stream.specs.Lines.{IsChecked, said_of}
+use Rattle.bac_record.specs.Deals.{DealFails}
+use Rattle.bac_record.specs.Records.{IsRecord}
+use Rattle.bac_record.specs.declared.dealing.DealFault.{DealFault}
+use Rattle.bac_record.specs.declared.dealing.DealFault.TheVariants.{Stop, Memory}
 use Rattle.bac_stream.specs.declared.modes.Mode.{Mode}
 use Rattle.bac_stream.specs.declared.modes.Mode.TheVariants.{Tolerant, Strict}
 
@@ -82,9 +84,6 @@ accepted_checked mode frame octets (Some place) a m = (tolerant mode a, frame, m
 pub written_fits : (frame : FrameValue) (octets canonical : List ℕ) → SpellsFrame frame octets → IsRecord octets → IsCanonicalFor frame canonical → IsRecord canonical
 written_fits frame octets canonical s le c = omega (arith, NoGreater-length canonical octets (c.least octets s), le)
 
-pub appends_itself : (frame : FrameValue) (octets old new : List ℕ) (mark : Option ℕ) → mark ≡ None → HasMark (SpellsFrame frame) octets mark → new ≡ old ++ record_of octets → AppendsRecord frame old new
-appends_itself frame octets old new mark e m new_is = record { canonical = octets; is_canonical = unmarked_canonical frame octets mark m e; new_is = new_is }
-
 module _ (frames : (f g : FrameValue) (b : List ℕ) → SpellsFrame f b → SpellsFrame g b → f ≡ g) where
   marked_not_canonical : (frame : FrameValue) (octets : List ℕ) (place : ℕ) → SpellsFrame frame octets → HasMark (SpellsFrame frame) octets (Some place) → IsCanonical octets → ⊥
   marked_not_canonical frame octets place s m c =
@@ -101,19 +100,17 @@ module _ (frames : (f g : FrameValue) (b : List ℕ) → SpellsFrame f b → Spe
   marked_none Strict frame octets None place strict e s m = absurd (let i : None ≡ Some place = e in cc)
   marked_none Strict frame octets (Some p) place strict e s m = λ f a. marked_not_canonical frame octets p s m (f, a)
 
--- ---- what was decoded of the octets
+  -- ---- what was made of a frame
 
-pub decoded_of : (octets : List ℕ) (decoded : Result (Frame × Option ℕ) Refusal) → IfOk decoded (λ f. SpellsFrame (value_of f.0) octets) → IfOk decoded (λ f. HasMark (SpellsFrame (value_of f.0)) octets f.1)
-    → IfErr decoded (λ r. r.why ≢ OutOfMemory → IsWholeRefusal SpellsFrame octets r) → IfErr decoded (λ r. IsFrameReason r.why) → IsDecodedOf octets decoded
-decoded_of octets (Ok f) found mark refused reasons = record { found = found; mark = mark; refused = tt }
-decoded_of octets (Err r) found mark refused reasons = record { found = tt; mark = tt; refused = λ memory. (refused memory, reasons, memory) }
+  module _ (appends : FrameValue → Option ℕ → List ℕ → List ℕ → Type 0) (mode : Mode) (octets old new : List ℕ) (frame : FrameValue) (mark : Option ℕ) (s : SpellsFrame frame octets) (m : HasMark (SpellsFrame frame) octets mark) where
+    pub judged_canonical : (made : Result (Option ℕ) DealFault) → IsJudged (appends frame mark) mode mark old new made → IfOk made (λ told. (told ≡ None) ↔ IsCanonical octets)
+    judged_canonical (Ok told) j = rw j.0 (told_by_mark frame octets mark s m)
+    judged_canonical (Err fault) j = tt
 
-pub decoded_frame : (octets : List ℕ) (decoded : Result (Frame × Option ℕ) Refusal) (f : Frame × Option ℕ) → IsDecodedOf octets decoded → decoded ≡ Ok f
-    → SpellsFrame (value_of f.0) octets × HasMark (SpellsFrame (value_of f.0)) octets f.1
-decoded_frame octets decoded f d e = (subst (λ r. IfOk r (λ f. SpellsFrame (value_of f.0) octets)) e d.found, subst (λ r. IfOk r (λ f. HasMark (SpellsFrame (value_of f.0)) octets f.1)) e d.mark)
-
-pub decoded_refusal : (octets : List ℕ) (decoded : Result (Frame × Option ℕ) Refusal) (refusal : Refusal) → IsDecodedOf octets decoded → decoded ≡ Err refusal → refusal.why ≢ OutOfMemory → IsHopeless octets refusal
-decoded_refusal octets decoded refusal d e = subst (λ r. IfErr r (λ refusal. refusal.why ≢ OutOfMemory → IsHopeless octets refusal)) e d.refused
+    pub judged_refused : (made : Result (Option ℕ) DealFault) → IsJudged (appends frame mark) mode mark old new made → IfErr made (DealFails (λ _. IsRefused mode octets))
+    judged_refused (Ok told) j = tt
+    judged_refused (Err (Stop refusal)) j = marked_none mode frame octets mark refusal.place j.0 j.1 s m
+    judged_refused (Err Memory) j = tt
 
 pub hopeless_frame : {T : Type 0} (mode : Mode) (octets : List ℕ) (result : Result T Refusal) → IfErr result (λ r. r.why ≢ OutOfMemory → IsWholeRefusal SpellsFrame octets r) → IfErr result (λ r. IsFrameReason r.why)
     → IfErr result (λ r. r.why ≢ OutOfMemory → IsRefused mode octets)

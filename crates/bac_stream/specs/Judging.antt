@@ -1,12 +1,13 @@
 -- Which octets are accepted, in each mode, and which are canonical.
-use Rattle.std.specs.Prelude.{◌≡◌, ◌≢◌, ◌⊎◌, ℕ, List, Option, Some, Result, IfOk, IfErr}
+use Rattle.std.specs.Prelude.{◌≡◌, ◌≢◌, ◌⊎◌, ℕ, List, Option, Some, None, Result, Ok, Err}
 use Rattle.bac_tag.specs.declared.refusals.Refusal.{Refusal}
 use Rattle.bac_tag.specs.declared.refusals.Why.TheVariants.{NotCanonical, OutOfMemory}
 use Rattle.bac_tag.specs.Octets.{IsMark}
 use Rattle.bac_tag.specs.Spelling.{IsLeast, HasMark, IsWholeRefusal}
-use Rattle.bac_npdu.specs.declared.frame.Frame.{Frame}
-use Rattle.bac_npdu.specs.Frames.{FrameValue, SpellsFrame, value_of}
+use Rattle.bac_npdu.specs.Frames.{FrameValue, SpellsFrame}
 use Rattle.bac_npdu.specs.Decoded.{IsFrameReason}
+use Rattle.bac_record.specs.declared.dealing.DealFault.{DealFault}
+use Rattle.bac_record.specs.declared.dealing.DealFault.TheVariants.{Stop, Memory}
 use Rattle.bac_stream.specs.declared.modes.Mode.{Mode}
 use Rattle.bac_stream.specs.declared.modes.Mode.TheVariants.{Tolerant, Strict}
 
@@ -41,8 +42,15 @@ abbrev pub Refuses : Mode → List ℕ → Refusal → Type 0
 Refuses Tolerant octets refusal = IsHopeless octets refusal
 Refuses Strict octets refusal = IsHopeless octets refusal ⊎ IsNotCanonical octets refusal
 
--- What the octets were decoded to: the frame that they spell and its mark, or a refusal.
-pub record IsDecodedOf (octets : List ℕ) (decoded : Result (Frame × Option ℕ) Refusal) : Type 0 where
-  pub found : IfOk decoded (λ found. SpellsFrame (value_of found.0) octets)
-  pub mark : IfOk decoded (λ found. HasMark (SpellsFrame (value_of found.0)) octets found.1)
-  pub refused : IfErr decoded (λ refusal. refusal.why ≢ OutOfMemory → IsHopeless octets refusal)
+-- What is made of a frame with this mark: it is appended for where the mode accepts it.
+abbrev pub IsJudged : (List ℕ → List ℕ → Type 0) → Mode → Option ℕ → List ℕ → List ℕ → Result (Option ℕ) DealFault → Type 0
+IsJudged appended mode mark old new (Ok told) = (told ≡ mark) × (mode ≡ Strict → mark ≡ None) × appended old new
+IsJudged appended mode mark old new (Err (Stop refusal)) = (mode ≡ Strict) × (mark ≡ Some refusal.place) × (refusal.why ≡ NotCanonical) × (new ≡ old)
+IsJudged appended mode mark old new (Err Memory) = new ≡ old
+
+-- The octets are accepted as a frame, with this mark, and this was appended for it.
+pub record IsAccepted (appends : FrameValue → Option ℕ → List ℕ → List ℕ → Type 0) (mode : Mode) (octets : List ℕ) (mark : Option ℕ) (old new : List ℕ) : Type 0 where
+  pub frame : FrameValue
+  pub accepted : Accepts mode frame octets
+  pub marked : HasMark (SpellsFrame frame) octets mark
+  pub appended : appends frame mark old new

@@ -7,7 +7,8 @@ use Rattle.bac_tag.specs.Refusals.{name_of}
 use Rattle.std.specs.List.{AllByRecursion}
 use Rattle.bac_record.specs.Outputs.{Outputs}
 use Rattle.bac_record.specs.Records.{record_of, joined, IsRecord}
-use Rattle.bac_npdu.specs.Frames.{FrameValue, SpellsFrame, value_of}
+use Rattle.bac_npdu.specs.FrameHeads.{frame_with}
+use Rattle.bac_npdu.specs.Frames.{FrameValue, SpellsFrame, body_value}
 use Rattle.bac_text.specs.FrameText.{text}
 use Rattle.bac_stream.specs.Judging.{Accepts, Refuses, IsCanonicalFor, IsCanonical}
 use Rattle.bac_stream.specs.declared.modes.Mode.{Mode}
@@ -27,7 +28,7 @@ abbrev pub said_by : Line → Said
 said_by line.Canonical = ok
 said_by (line.Tolerated place) = tolerated place
 said_by (line.Refused refusal) = refused refusal
-said_by (line.Shown frame) = shown (value_of frame.now)
+said_by (line.Shown head body) = shown (frame_with head.now (body_value body.now))
 
 abbrev pub said_text : Said → List ℕ
 said_text ok = codes "ok"
@@ -76,6 +77,11 @@ pub record AppendsRecord (frame : FrameValue) (old new : List ℕ) : Type 0 wher
   pub canonical : List ℕ
   pub is_canonical : IsCanonicalFor frame canonical
   pub new_is : new ≡ old ++ record_of canonical
+
+-- what normalise writes for a frame where it was decoded: the canonical octets, if the octets were others, and if those fit in a record
+abbrev pub IsRewritten : FrameValue → Option ℕ → List ℕ → List ℕ → Type 0
+IsRewritten frame None old new = new ≡ old
+IsRewritten frame (Some place) old new = ((canonical : List ℕ) → IsCanonicalFor frame canonical → IsRecord canonical) → AppendsRecord frame old new
 
 -- The octets are records, and in each mode what normalise writes of these are the octets, and nothing else.
 pub record IsKept (file : List ℕ) : Type 0 where

@@ -8,10 +8,12 @@ ghost use Rattle.bac_record.specs.Records.{Records};
 ghost use Rattle.bac_record.specs.Runs.{RanThrough, RunCounts, Stopped};
 ghost use Rattle.bac_record.specs.Files.{RunsOver};
 
-use crate::judging::{decode, judge};
+use crate::judging::{Appending, judge};
 use crate::lines::Line;
 use crate::{Input, Mode, Output, RunFault, Summary};
+use bac_npdu::{Body, FrameHead};
 use bac_record::{DealFault, Dealt, Job, run};
+use bac_tag::OutOfMemory;
 use std::alloc::Global;
 
 /// Tells of each record whether it is canonical.
@@ -19,6 +21,27 @@ use std::alloc::Global;
 struct Check {
     alloc: Global,
     mode: Mode,
+}
+
+/// Appends nothing.
+#[derive(Drop)]
+struct Nothing;
+
+impl Appending for Nothing {
+    ghost use Rattle.std.specs.Prelude.{◌≡◌};
+
+    ghost appends = { λ _ _ _ old new. new ≡ old };
+
+    #[inline(always)]
+    fn append(
+        self,
+        _head: &FrameHead<'_>,
+        _body: &Body,
+        _mark: Option<usize>,
+        _out: &mut Vec<u8>,
+    ) -> Result<(), OutOfMemory> {
+        Ok(())
+    }
 }
 
 /// The first place where accepted octets differ from the canonical ones of their frame.
@@ -32,9 +55,8 @@ fn mark_of(alloc: Global, mode: Mode, octets: &[u8]) -> Result<Option<usize>, De
     ensures fault { IfErr result (DealFails (Refuses mode octets.now)) }
     ensures refused { IfErr result (DealFails (λ _. IsRefused mode octets.now)) }
 {
-    let decoded = decode(alloc, octets);
-    let judged = judge(mode, octets, &decoded)?;
-    Ok(judged.mark)
+    // A vector takes no memory before something is appended.
+    judge(alloc, mode, octets, Nothing, &mut Vec::new(alloc))
 }
 
 /// What is said of the octets, and how the record counts.

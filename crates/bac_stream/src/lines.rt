@@ -4,10 +4,10 @@ ghost use Rattle.std.specs.Prelude.{◌≡◌, ◌++◌, codes, OnOk, OnErr};
 ghost use Rattle.bac_tag.specs.Octets.{Extends};
 ghost use Rattle.bac_stream.specs.Lines.{said_by, said_of, said_text, numbered};
 
-use bac_npdu::Frame;
+use bac_npdu::{Body, FrameHead};
 use bac_record::push_decimal;
 use bac_tag::{OutOfMemory, Refusal};
-use bac_text::append_text;
+use bac_text::append_text_of;
 
 /// What a line says of a record, behind its number.
 #[derive(Clone, Copy, Debug)]
@@ -18,8 +18,8 @@ pub(crate) enum Line<'a> {
     Tolerated(usize),
     /// `refused WHY at P`.
     Refused(Refusal),
-    /// The frame as it is shown.
-    Shown(&'a Frame),
+    /// The frame with this head and this body as it is shown.
+    Shown(&'a FrameHead<'a>, &'a Body),
 }
 
 impl Line<'_> {
@@ -55,9 +55,9 @@ impl Line<'_> {
                 push_decimal(out, refusal.place as u64)?;
                 out.push(b'\n')?;
             }
-            Line::Shown(frame) => {
+            Line::Shown(head, body) => {
                 out.push(b' ')?;
-                append_text(frame, out)?;
+                append_text_of(head, body, out)?;
                 out.push(b'\n')?;
             }
         }

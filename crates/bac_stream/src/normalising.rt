@@ -1,19 +1,19 @@
 //! The run of `normalise`.
 
-ghost use Rattle.std.specs.Prelude.{◌≡◌, ◌++◌, IfErr, IfOk, OnErr, OnOk, MatchResult, List, ℕ, Some};
+ghost use Rattle.std.specs.Prelude.{◌≡◌, ◌≤◌, ◌++◌, IfErr, IfOk, OnErr, OnOk, MatchResult, List, ℕ, Some};
 ghost use Rattle.bac_tag.specs.Octets.{Extends};
-ghost use Rattle.bac_tag.specs.Spelling.{HasMark};
-ghost use Rattle.bac_npdu.specs.Frames.{SpellsFrame, value_of};
+ghost use Rattle.bac_npdu.specs.FrameHeads.{frame_with};
+ghost use Rattle.bac_npdu.specs.Frames.{body_value};
 ghost use Rattle.bac_stream.specs.Judging.{IsCanonicalFor, IsCanonical, IsRefused, Refuses};
 ghost use Rattle.bac_stream.specs.Lines.{AppendsRecord, NormalisesTo};
-ghost use Rattle.bac_record.specs.Records.{Records, IsRecord, record_of};
+ghost use Rattle.bac_record.specs.Records.{Records, IsRecord, LONGEST, record_of};
 ghost use Rattle.bac_record.specs.Runs.{RanThrough, RunCounts, Stopped};
 ghost use Rattle.bac_record.specs.Files.{RunsOver};
 
-use crate::judging::{decode, judge};
+use crate::judging::{Appending, judge};
 use crate::{Input, Mode, Output, RunFault, Summary};
-use bac_npdu::{Frame, append_frame};
-use bac_record::{DealFault, Dealt, Job, run};
+use bac_npdu::{Body, FrameHead};
+use bac_record::{DealFault, Dealt, Job, LONGEST, run};
 use bac_tag::OutOfMemory;
 use std::alloc::Global;
 
@@ -22,6 +22,18 @@ use std::alloc::Global;
 struct Normalise {
     alloc: Global,
     mode: Mode,
+}
+
+/// A number of octets as the length of a record, which has no more than [`LONGEST`].
+#[inline(always)]
+fn length_of(count: usize) -> u16
+    ensures { count ≤ LONGEST → result ≡ count }
+{
+    if count <= LONGEST {
+        count as u16
+    } else {
+        u16::MAX
+    }
 }
 
 /// Appends the octets as a record. Where memory is refused some of it may be there.
@@ -36,47 +48,64 @@ fn append_octets(octets: &[u8], out: &mut Vec<u8>) -> Result<(), OutOfMemory>
     Ok(())
 }
 
-/// Appends the canonical octets of the frame as a record. Where memory is refused some of it may be there.
+/// Appends the octets as a record. Where memory is refused `out` stays as it was.
+#[inline(always)]
+fn push_octets(octets: &[u8], out: &mut Vec<u8>) -> Result<(), OutOfMemory>
+    requires { IsRecord octets.now }
+    ensures ok { OnOk result (out.new.items ≡ out.old.items ++ record_of octets.now) }
+    ensures err { OnErr result (out.new.items ≡ out.old.items) }
+{
+    let start = out.len();
+    let appended = append_octets(octets, out);
+    if appended.is_err() {
+        out.truncate(start);
+    }
+    appended
+}
+
+/// Appends the canonical octets of a frame as a record. Where memory is refused some of it may be there.
 ///
-/// They are written where they are to stand, and their length in front of them when it is known.
-fn append_record(frame: &Frame, out: &mut Vec<u8>) -> Result<(), OutOfMemory>
-    requires { (canonical : List ℕ) → IsCanonicalFor (value_of frame.now) canonical → IsRecord canonical }
-    ensures ok { OnOk result (AppendsRecord (value_of frame.now) out.old.items out.new.items) }
+/// They are written where they are to stand, and their length in front of them when it is known. They are no longer than
+/// the octets of the record that was read, so their length fits.
+fn append_record(head: &FrameHead<'_>, body: &Body, out: &mut Vec<u8>) -> Result<(), OutOfMemory>
+    ensures ok { OnOk result (((canonical : List ℕ) → IsCanonicalFor (frame_with head.now (body_value body.now)) canonical → IsRecord canonical) → AppendsRecord (frame_with head.now (body_value body.now)) out.old.items out.new.items) }
     ensures err { OnErr result (Extends out.old.items out.new.items) }
 {
     let start = out.len();
     out.extend_from_slice(&[0, 0])?;
-    append_frame(frame, out)?;
-    let length = (out.len() - start - 2) as u16;
-    let [high, low] = length.to_be_bytes();
+    head.append_frame(body, out)?;
+    let [high, low] = length_of(out.len() - start - 2).to_be_bytes();
     out[start] = high;
     out[start + 1] = low;
     Ok(())
 }
 
-/// Appends the canonical octets of the frame that these octets spell as a record: they themselves, where nothing
-/// marks them. Where memory is refused `out` stays as it was.
-fn push_canonical(
-    frame: &Frame,
-    mark: Option<usize>,
-    octets: &[u8],
-    out: &mut Vec<u8>,
-) -> Result<(), OutOfMemory>
-    requires small { IsRecord octets.now }
-    requires marked { HasMark (SpellsFrame (value_of frame.now)) octets.now mark }
-    requires spelled { SpellsFrame (value_of frame.now) octets.now }
-    ensures ok { OnOk result (AppendsRecord (value_of frame.now) out.old.items out.new.items) }
-    ensures err { OnErr result (out.new.items ≡ out.old.items) }
-{
-    let start = out.len();
-    let appended = match mark {
-        None => append_octets(octets, out),
-        Some(_) => append_record(frame, out),
-    };
-    if appended.is_err() {
-        out.truncate(start);
+/// Appends the canonical octets of a frame as a record, where the octets that were read are others.
+#[derive(Drop)]
+struct Rewritten;
+
+impl Appending for Rewritten {
+    ghost use Rattle.bac_stream.specs.Lines.{IsRewritten};
+
+    ghost appends = { λ _. IsRewritten };
+
+    fn append(
+        self,
+        head: &FrameHead<'_>,
+        body: &Body,
+        mark: Option<usize>,
+        out: &mut Vec<u8>,
+    ) -> Result<(), OutOfMemory> {
+        if mark.is_none() {
+            return Ok(());
+        }
+        let start = out.len();
+        let appended = append_record(head, body, out);
+        if appended.is_err() {
+            out.truncate(start);
+        }
+        appended
     }
-    appended
 }
 
 impl Job for Normalise {
@@ -89,10 +118,13 @@ impl Job for Normalise {
     ghost is_refused = { λ normalise. IsRefused normalise.mode };
 
     fn deal(&self, _number: u32, octets: &[u8], out: &mut Vec<u8>) -> Result<Dealt, DealFault> {
-        let decoded = decode(self.alloc, octets);
-        let judged = judge(self.mode, octets, &decoded)?;
-        push_canonical(judged.frame, judged.mark, octets, out)?;
-        Ok(Dealt::accepted(judged.mark))
+        let mark = judge(self.alloc, self.mode, octets, Rewritten, out)?;
+        // What is tolerated was rewritten where it was decoded.
+        if mark.is_some() {
+            return Ok(Dealt::accepted(mark));
+        }
+        push_octets(octets, out)?;
+        Ok(Dealt::accepted(mark))
     }
 }
 

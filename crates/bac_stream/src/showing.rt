@@ -7,10 +7,12 @@ ghost use Rattle.bac_record.specs.Records.{Records};
 ghost use Rattle.bac_record.specs.Runs.{RanThrough, RunCounts, Stopped};
 ghost use Rattle.bac_record.specs.Files.{RunsOver};
 
-use crate::judging::{decode, judge};
+use crate::judging::{Appending, judge};
 use crate::lines::Line;
 use crate::{Input, Mode, Output, RunFault, Summary};
+use bac_npdu::{Body, FrameHead};
 use bac_record::{DealFault, Dealt, Job, run};
+use bac_tag::OutOfMemory;
 use std::alloc::Global;
 
 /// Shows each record as a line.
@@ -18,6 +20,30 @@ use std::alloc::Global;
 struct Show {
     alloc: Global,
     mode: Mode,
+}
+
+/// Appends the line of a frame with this number.
+#[derive(Drop)]
+struct Shown {
+    number: u32,
+}
+
+impl Appending for Shown {
+    ghost use Rattle.std.specs.Prelude.{◌≡◌, ◌++◌};
+    ghost use Rattle.bac_text.specs.FrameText.{text};
+    ghost use Rattle.bac_stream.specs.Lines.{numbered};
+
+    ghost appends = { λ shown frame _ old new. new ≡ old ++ numbered shown.number (text frame) };
+
+    fn append(
+        self,
+        head: &FrameHead<'_>,
+        body: &Body,
+        _mark: Option<usize>,
+        out: &mut Vec<u8>,
+    ) -> Result<(), OutOfMemory> {
+        Line::Shown(head, body).push(self.number, out)
+    }
 }
 
 impl Job for Show {
@@ -30,17 +56,14 @@ impl Job for Show {
     ghost is_refused = { λ show. IsRefused show.mode };
 
     fn deal(&self, number: u32, octets: &[u8], out: &mut Vec<u8>) -> Result<Dealt, DealFault> {
-        let decoded = decode(self.alloc, octets);
-        let judged = match judge(self.mode, octets, &decoded) {
-            Ok(judged) => judged,
+        match judge(self.alloc, self.mode, octets, Shown { number }, out) {
+            Ok(mark) => Ok(Dealt::accepted(mark)),
             Err(DealFault::Stop(refusal)) => {
                 Line::Refused(refusal).push(number, out)?;
-                return Ok(Dealt::refused());
+                Ok(Dealt::refused())
             }
-            Err(DealFault::Memory) => return Err(DealFault::Memory),
-        };
-        Line::Shown(judged.frame).push(number, out)?;
-        Ok(Dealt::accepted(judged.mark))
+            Err(DealFault::Memory) => Err(DealFault::Memory),
+        }
     }
 }
 

@@ -2,13 +2,14 @@
 
 ghost use Rattle.std.specs.Prelude.{◌≡◌, ◌++◌, ◌<◌, OnOk, OnErr};
 ghost use Rattle.bac_tag.specs.Octets.{Extends};
-ghost use Rattle.bac_npdu.specs.Frames.{value_of};
+ghost use Rattle.bac_npdu.specs.FrameHeads.{frame_with};
+ghost use Rattle.bac_npdu.specs.Frames.{body_value, value_of};
 ghost use Rattle.bac_text.specs.FrameText.{address_text, text};
 ghost use Rattle.bac_text.specs.Words.{field, number, truth};
 
 use crate::scalars::push_octets;
 use crate::texts::{HasText, push_field, push_optional};
-use bac_npdu::{Body, Dest, Frame, Source};
+use bac_npdu::{Addressed, Body, Frame, FrameHead};
 use bac_record::push_hexadecimal;
 use bac_tag::OutOfMemory;
 
@@ -38,29 +39,30 @@ fn push_control(out: &mut Vec<u8>, priority: u8, reply: bool) -> Result<(), OutO
     Ok(())
 }
 
-/// `NET/HEX hops=H`, with `*` for an address without octets.
-impl HasText for Dest {
-    ghost use Rattle.bac_text.specs.FrameText.{destination_text};
+/// `NET/HEX`.
+impl HasText for Addressed<'_> {
+    ghost use Rattle.bac_text.specs.FrameText.{source_text};
 
-    ghost text = { λ dest. destination_text (record { network = dest.network; address = dest.address; hops = dest.hops }) };
+    ghost text = { λ from. source_text (record { network = from.network; address = from.address.now }) };
 
     fn push_text(&self, out: &mut Vec<u8>) -> Result<(), OutOfMemory> {
         self.network.push_text(out)?;
-        out.push(b'/')?;
-        push_address(out, self.address.octets())?;
-        push_field(out, b" hops=", &self.hops)
+        push_octets(out, b"/", self.address)
     }
 }
 
-/// `NET/HEX`.
-impl HasText for Source {
-    ghost use Rattle.bac_text.specs.FrameText.{source_text};
+/// `NET/HEX hops=H`, with `*` for an address without octets.
+impl HasText for (Addressed<'_>, u8) {
+    ghost use Rattle.bac_text.specs.FrameText.{destination_text};
 
-    ghost text = { source_text };
+    ghost text = { λ to. destination_text (record { network = to.0.network; address = to.0.address.now; hops = to.1 }) };
 
     fn push_text(&self, out: &mut Vec<u8>) -> Result<(), OutOfMemory> {
-        self.network().push_text(out)?;
-        push_octets(out, b"/", self.address().octets())
+        let (to, hops) = self;
+        to.network.push_text(out)?;
+        out.push(b'/')?;
+        push_address(out, to.address)?;
+        push_field(out, b" hops=", hops)
     }
 }
 
@@ -78,19 +80,36 @@ impl HasText for Body {
     }
 }
 
-/// `prio=P reply=R [dest=NET/ADR hops=H] [src=NET/HEX]` and the body.
-impl HasText for Frame {
-    ghost use Rattle.bac_npdu.specs.Frames.{value_of};
-    ghost use Rattle.bac_text.specs.FrameText.{text as frame_text};
+/// Appends `prio=P reply=R [dest=NET/ADR hops=H] [src=NET/HEX]` and the body. Where memory is refused some of it may be
+/// there.
+fn push_parts(head: &FrameHead<'_>, body: &Body, out: &mut Vec<u8>) -> Result<(), OutOfMemory>
+    ensures ok { OnOk result (out.new.items ≡ out.old.items ++ text (frame_with head.now (body_value body.now))) }
+    ensures err { OnErr result (Extends out.old.items out.new.items) }
+{
+    push_control(out, head.priority().number(), head.reply())?;
+    push_optional(out, b" dest=", &head.destination())?;
+    push_optional(out, b" src=", &head.source())?;
+    push_field(out, b" ", body)
+}
 
-    ghost text = { λ frame. frame_text (value_of frame) };
-
-    fn push_text(&self, out: &mut Vec<u8>) -> Result<(), OutOfMemory> {
-        push_control(out, self.priority.number(), self.reply)?;
-        push_optional(out, b" dest=", &self.dest)?;
-        push_optional(out, b" src=", &self.source)?;
-        push_field(out, b" ", &self.body)
+/// Appends the text of the frame with this head and this body, as [`append_text`] does of a frame.
+///
+/// # Errors
+/// `OutOfMemory` where memory is refused. `out` then stays as it was.
+pub fn append_text_of(
+    head: &FrameHead<'_>,
+    body: &Body,
+    out: &mut Vec<u8>,
+) -> Result<(), OutOfMemory>
+    ensures written { OnOk result (out.new.items ≡ out.old.items ++ text (frame_with head.now (body_value body.now))) }
+    ensures unchanged { OnErr result (out.new.items ≡ out.old.items) }
+{
+    let start = out.len();
+    let appended = push_parts(head, body, out);
+    if appended.is_err() {
+        out.truncate(start);
     }
+    appended
 }
 
 /// Appends the text of a frame, without a line feed behind it:
@@ -117,10 +136,5 @@ pub fn append_text(frame: &Frame, out: &mut Vec<u8>) -> Result<(), OutOfMemory>
     ensures written { OnOk result (out.new.items ≡ out.old.items ++ text (value_of frame.now)) }
     ensures unchanged { OnErr result (out.new.items ≡ out.old.items) }
 {
-    let start = out.len();
-    let appended = frame.push_text(out);
-    if appended.is_err() {
-        out.truncate(start);
-    }
-    appended
+    append_text_of(&frame.head(), &frame.body, out)
 }
