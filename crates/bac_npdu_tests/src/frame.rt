@@ -9,6 +9,7 @@ mod heads;
 mod meanings;
 mod messages;
 mod sizes;
+mod visitors;
 
 use bac_npdu::{Frame, append_frame, decode_marked, decode_strict, encode_frame, normalise_frame};
 use bac_tables::{Outcome, octets_of, places_of, rows_of};
@@ -16,6 +17,7 @@ use bac_tag::{OutOfMemory, Refusal, Why};
 use std::alloc::Global;
 use std::process::Abort;
 use std::test::Fail;
+use visitors::rewritten;
 
 /// What `decode_marked` gives. Where memory is refused it is told at 0, and the octets are read again.
 fn decoded(
@@ -71,12 +73,18 @@ fn comes_to(
             let told = strictly(alloc, octets).map(|refusal| (refusal.why, refusal.place));
             assert_eq!(rt; told, mark.map(|place| (Why::NotCanonical, place)));
             assert!(rt; normalised(alloc, octets)?.as_slice() == written.as_slice());
+            let mut out = Vec::new(alloc);
+            assert_eq!(rt; rewritten(alloc, octets, &mut out)?, mark);
+            assert!(rt; out.as_slice() == written.as_slice());
         }
         Err(refusal) => {
             let told = (refusal.why.name(), refusal.place);
             assert_eq!(rt; Err(told), wanted, "of {octets:?}");
             assert_eq!(rt; strictly(alloc, octets), Some(refusal));
             assert_eq!(rt; normalised(alloc, octets).err(), Some(refusal));
+            let mut out = Vec::new(alloc);
+            assert_eq!(rt; rewritten(alloc, octets, &mut out), Err(refusal));
+            assert!(rt; out.is_empty());
         }
     }
     Ok(())

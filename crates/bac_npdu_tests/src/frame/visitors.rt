@@ -1,0 +1,128 @@
+//! What is made of a frame where it was decoded.
+
+use bac_npdu::{Addressed, Body, FrameHead, FrameVisitor, append_frame, visit_frame};
+use bac_tables::octets_of;
+use bac_tag::{OutOfMemory, Refusal, Why};
+use std::alloc::Global;
+use std::test::Fail;
+
+/// Appends the canonical octets.
+#[derive(Drop)]
+struct Write;
+
+impl FrameVisitor for Write {
+    type Place = Vec<u8>;
+
+    type Made = Result<Option<usize>, Refusal>;
+
+    ghost makes = { λ _ _ _ _ _ _. Unit {0} };
+
+    fn visit(
+        self,
+        head: &FrameHead<'_>,
+        body: Body,
+        mark: Option<usize>,
+        out: &mut Vec<u8>,
+    ) -> Result<Option<usize>, Refusal> {
+        match head.append_frame(&body, out) {
+            Ok(()) => Ok(mark),
+            Err(_) => Err(Refusal::out_of_memory()),
+        }
+    }
+}
+
+/// Appends the canonical octets of the frame, and gives its mark.
+fn written(alloc: Global, octets: &[u8], out: &mut Vec<u8>) -> Result<Option<usize>, Refusal> {
+    visit_frame(alloc, octets, Write, out)?
+}
+
+/// Appends the canonical octets of the frame, at the latest when memory is asked for again.
+pub(super) fn rewritten(
+    alloc: Global,
+    octets: &[u8],
+    out: &mut Vec<u8>,
+) -> Result<Option<usize>, Refusal> {
+    match written(alloc, octets, out) {
+        Err(refusal) if refusal.why == Why::OutOfMemory => written(alloc, octets, out),
+        found => found,
+    }
+}
+
+/// Appends what the head says, and the octets of the frame that is kept.
+#[derive(Drop)]
+struct Tell {
+    alloc: Global,
+}
+
+/// Appends network and address.
+fn push_address(from: Addressed<'_>, out: &mut Vec<u8>) -> Result<(), OutOfMemory> {
+    out.extend_from_slice(&from.network.to_be_bytes())?;
+    out.extend_from_slice(from.address)?;
+    Ok(())
+}
+
+impl Tell {
+    /// Appends all of it.
+    fn push(self, head: &FrameHead<'_>, body: Body, out: &mut Vec<u8>) -> Result<(), OutOfMemory> {
+        out.push(u8::from(head.reply()))?;
+        out.push(head.priority().number())?;
+        if let Some((to, hops)) = head.destination() {
+            push_address(to, out)?;
+            out.push(hops)?;
+        }
+        if let Some(from) = head.source() {
+            push_address(from, out)?;
+        }
+        let frame = head.frame(self.alloc, body)?;
+        append_frame(&frame, out)
+    }
+}
+
+impl FrameVisitor for Tell {
+    type Place = Vec<u8>;
+
+    type Made = Result<(), OutOfMemory>;
+
+    ghost makes = { λ _ _ _ _ _ _. Unit {0} };
+
+    fn visit(
+        self,
+        head: &FrameHead<'_>,
+        body: Body,
+        _mark: Option<usize>,
+        out: &mut Vec<u8>,
+    ) -> Result<(), OutOfMemory> {
+        self.push(head, body, out)
+    }
+}
+
+// Of example 54 of docs/EXAMPLES.md and others; the last address wants memory.
+#[test]
+fn heads_say_what_stands_in_front(rt: HostRuntime) -> Result<(), Fail> {
+    let rows = [
+        (
+            "01 28 00 05 01 0A 00 07 02 01 02 FF 10 08",
+            "00 00 00 05 0A FF 00 07 01 02",
+        ),
+        ("01 20 FF FF 00 FF 10 08", "00 00 FF FF FF"),
+        ("01 06 10 08", "01 02"),
+        (
+            "01 08 00 09 08 01 02 03 04 05 06 07 08 10 08",
+            "00 00 00 09 01 02 03 04 05 06 07 08",
+        ),
+    ];
+    for (octets, told) in rows {
+        let octets = octets_of(octets)?;
+        let told = octets_of(told)?;
+        let alloc = rt.alloc();
+        let mut out = Vec::new(alloc);
+        if visit_frame(alloc, &octets, Tell { alloc }, &mut out)?.is_err() {
+            out.clear();
+            visit_frame(alloc, &octets, Tell { alloc }, &mut out)??;
+        }
+        let (head, frame) = out.split_at_checked(told.len()).ok_or("what is told")?;
+        assert_eq!(rt; head, told.as_slice());
+        assert_eq!(rt; frame, octets.as_slice());
+    }
+    Ok(())
+}
