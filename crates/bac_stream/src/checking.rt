@@ -36,7 +36,7 @@ impl Appending for Nothing {
     fn append(
         self,
         _head: &FrameHead<'_>,
-        _body: &Body,
+        _body: Body,
         _mark: Option<usize>,
         _out: &mut Vec<u8>,
     ) -> Result<(), OutOfMemory> {

@@ -22,11 +22,11 @@ pub(crate) trait Appending: Drop {
     fn append(
         self,
         head: &FrameHead<'_>,
-        body: &Body,
+        body: Body,
         mark: Option<usize>,
         out: &mut Vec<u8>,
     ) -> Result<(), OutOfMemory>
-        ensures ok { OnOk result (appends self (frame_with head.now (body_value body.now)) mark out.old.items out.new.items) }
+        ensures ok { OnOk result (appends self (frame_with head.now (body_value body)) mark out.old.items out.new.items) }
         ensures err { OnErr result (out.new.items ≡ out.old.items) };
 }
 
@@ -60,7 +60,7 @@ impl<A: Appending> FrameVisitor for Judging<A> {
                 Err(DealFault::Stop(Why::NotCanonical.at(place)))
             }
             mark => {
-                appending.append(head, &body, mark, out)?;
+                appending.append(head, body, mark, out)?;
                 Ok(mark)
             }
         }

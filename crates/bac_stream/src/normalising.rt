@@ -80,6 +80,21 @@ fn append_record(head: &FrameHead<'_>, body: &Body, out: &mut Vec<u8>) -> Result
     Ok(())
 }
 
+/// Appends the canonical octets of a frame as a record. Where memory is refused `out` stays as it was.
+// Out of line, so that the decoder that calls it where it decoded a body stays small.
+#[inline(never)]
+fn push_record(head: &FrameHead<'_>, body: Body, out: &mut Vec<u8>) -> Result<(), OutOfMemory>
+    ensures ok { OnOk result (((canonical : List ℕ) → IsCanonicalFor (frame_with head.now (body_value body)) canonical → IsRecord canonical) → AppendsRecord (frame_with head.now (body_value body)) out.old.items out.new.items) }
+    ensures err { OnErr result (out.new.items ≡ out.old.items) }
+{
+    let start = out.len();
+    let appended = append_record(head, &body, out);
+    if appended.is_err() {
+        out.truncate(start);
+    }
+    appended
+}
+
 /// Appends the canonical octets of a frame as a record, where the octets that were read are others.
 #[derive(Drop)]
 struct Rewritten;
@@ -89,22 +104,18 @@ impl Appending for Rewritten {
 
     ghost appends = { λ _. IsRewritten };
 
+    #[inline(always)]
     fn append(
         self,
         head: &FrameHead<'_>,
-        body: &Body,
+        body: Body,
         mark: Option<usize>,
         out: &mut Vec<u8>,
     ) -> Result<(), OutOfMemory> {
         if mark.is_none() {
             return Ok(());
         }
-        let start = out.len();
-        let appended = append_record(head, body, out);
-        if appended.is_err() {
-            out.truncate(start);
-        }
-        appended
+        push_record(head, body, out)
     }
 }
 

@@ -35,14 +35,16 @@ impl Appending for Shown {
 
     ghost appends = { λ shown frame _ old new. new ≡ old ++ numbered shown.number (text frame) };
 
+    // Out of line, so that the decoder that calls it where it decoded a body stays small.
+    #[inline(never)]
     fn append(
         self,
         head: &FrameHead<'_>,
-        body: &Body,
+        body: Body,
         _mark: Option<usize>,
         out: &mut Vec<u8>,
     ) -> Result<(), OutOfMemory> {
-        Line::Shown(head, body).push(self.number, out)
+        Line::Shown(head, &body).push(self.number, out)
     }
 }
 
