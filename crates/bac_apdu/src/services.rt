@@ -12,6 +12,7 @@ use bac_tag::{OutOfMemory, Refusal, Why};
 use std::alloc::Global;
 
 /// Decodes the service behind a head, of which these are the canonical octets.
+#[inline(always)]
 pub(crate) fn decode_behind(
     alloc: Global,
     kind: Kind,

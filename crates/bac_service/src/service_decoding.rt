@@ -91,6 +91,7 @@ fn decode_failure(alloc: Global, choice: u8, octets: &[u8]) -> Result<Marked, Re
 }
 
 /// Decodes a service of any kind.
+#[inline(always)]
 fn decode_kind(alloc: Global, kind: Kind, choice: u8, octets: &[u8]) -> Result<Marked, Refusal>
     ensures { IsDecoded kind choice octets.now result }
 {
@@ -117,6 +118,7 @@ fn decode_kind(alloc: Global, kind: Kind, choice: u8, octets: &[u8]) -> Result<M
 /// let (_, mark) = decode_service_marked(rt.alloc(), Kind::Confirmed, 12, &octets)?;
 /// assert_eq!(rt; mark, Some(5));
 /// ```
+#[inline(always)]
 pub fn decode_service_marked(
     alloc: Global,
     kind: Kind,
