@@ -101,6 +101,7 @@ fn read_control(octets: &[u8]) -> Result<Control, Refusal>
 }
 
 /// Reads the octets in front of the APDU or the network message.
+#[inline(always)]
 pub(crate) fn read_head(octets: &[u8]) -> Result<HeadRead<'_>, Refusal>
     ensures { IsHeadRead octets.now result }
 {
