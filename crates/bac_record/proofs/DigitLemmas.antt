@@ -1,38 +1,9 @@
--- Decimal digits, the last one first.
-use Rattle.std.proofs.Common.{◌≡◌, ℕ, zero, suc, ◌+◌, ◌-◌, ◌*◌, ◌/◌, ◌%◌, ◌^◌, ◌<◌, ◌≤◌, List, [], ◌∷◌, ◌++◌, length, drop, take, get_or, set, arith, refl, sym, ap, ◌∙◌, append_assoc}
+-- Numbers and octets as digits.
+use Rattle.std.proofs.Common.{◌≡◌, ℕ, ◌+◌, ◌/◌, ◌%◌, ◌^◌, ◌<◌, ◌≤◌, List, [], ◌∷◌, ◌++◌, length, take, get_or, arith, refl, sym, ap, ◌∙◌, append_assoc}
 use Rattle.std.specs.Fmt.{decimal}
 use Rattle.std.proofs.lemmas.Fmt.{decimal_step, decimal_digit}
-use Rattle.std.proofs.lemmas.List.{drop-set, take_more}
-use Rattle.bac_record.specs.Digits.{digit, hexadecimal}
-use Rattle.std.proofs.Math.Nat.{pow-suc}
-
-pub some_left : (r first : ℕ) → 10 ≤ r → r < 10 ^ (first + 1) → 1 ≤ first
-some_left r zero ten few = absurd (omega arith)
-some_left r (suc first) ten few = omega arith
-
--- the rest without its last digit has one place less
-pub fewer_left : (r first : ℕ) → 10 ≤ r → r < 10 ^ (first + 1) → r / 10 < 10 ^ (first - 1 + 1)
-fewer_left r zero ten few = absurd (omega arith)
-fewer_left r (suc first) ten few =
-    let place : 10 ^ (suc first + 1) ≡ 10 ^ suc first * 10 = ap (λ (k : ℕ). 10 ^ k) (omega arith) ∙ pow-suc 10 (suc first) in
-    let same : 10 ^ (suc first - 1 + 1) ≡ 10 ^ suc first = ap (λ (k : ℕ). 10 ^ k) (omega arith) in
-    omega arith
-
--- the last digit of the rest stands in front of the digits behind it
-pub digit_more : (n r first : ℕ) (digits : List ℕ) → decimal n ≡ decimal r ++ drop (first + 1) digits → 10 ≤ r → r < 2 ^ 64 → r < 10 ^ (first + 1) → first < length digits
-    → decimal n ≡ decimal (r / 10) ++ drop (first - 1 + 1) (set digits first (48 + r % 10))
-digit_more n r first digits e ten fits few within =
-    let some : 1 ≤ first = some_left r first ten few in
-    let same : first - 1 + 1 ≡ first = omega arith in
-    e ∙ ap (λ (l : List ℕ). l ++ drop (first + 1) digits) (decimal_step r ten fits)
-    ∙ append_assoc (decimal (r / 10)) ((48 + r % 10) ∷ []) (drop (first + 1) digits)
-    ∙ ap (λ (l : List ℕ). decimal (r / 10) ++ l) (sym (ap (λ (k : ℕ). drop k (set digits first (48 + r % 10))) same ∙ drop-set digits first (48 + r % 10) within))
-
--- the rest is one digit
-pub digit_last : (n r first : ℕ) (digits : List ℕ) → decimal n ≡ decimal r ++ drop (first + 1) digits → r < 10 → first < length digits
-    → drop first (set digits first (48 + r)) ≡ decimal n
-digit_last n r first digits e one within =
-    drop-set digits first (48 + r) within ∙ sym (e ∙ ap (λ (l : List ℕ). l ++ drop (first + 1) digits) (decimal_digit r one))
+use Rattle.std.proofs.lemmas.List.{take_more}
+use Rattle.bac_record.specs.Digits.{digit, hexadecimal, two, four}
 
 -- ---- numbers of few digits
 
@@ -43,45 +14,55 @@ pub two_digits : (n a b : ℕ) → 10 ≤ n → n < 100 → a ≡ 48 + n / 10 �
 two_digits n a b ten few p q =
     ap (λ (d : ℕ). a ∷ d ∷ []) q ∙ ap (λ (l : List ℕ). l ++ (48 + n % 10) ∷ []) (one_digit (n / 10) a (omega arith) p) ∙ sym (decimal_step n ten (omega arith))
 
+-- ---- longer ones
+
 -- two digits behind those of the hundreds
-pub pair_more : (n a b : ℕ) (front : List ℕ) → 100 ≤ n → n < 2 ^ 64 → front ≡ decimal (n / 100) → a ≡ 48 + n % 100 / 10 → b ≡ 48 + n % 100 % 10 → front ++ a ∷ b ∷ [] ≡ decimal n
-pair_more n a b front more fits is p q =
+pub two_more : (n : ℕ) → 100 ≤ n → n < 2 ^ 64 → decimal (n / 100) ++ two (n % 100) ≡ decimal n
+two_more n least fits =
     let hundreds : n / 100 ≡ n / 10 / 10 = omega arith in
     let tens : n % 100 / 10 ≡ n / 10 % 10 = omega arith in
     let ones : n % 100 % 10 ≡ n % 10 = omega arith in
-    ap (λ (l : List ℕ). l ++ a ∷ b ∷ []) (is ∙ ap decimal hundreds)
-    ∙ ap (λ (k : ℕ). decimal (n / 10 / 10) ++ k ∷ b ∷ []) (p ∙ ap (λ (k : ℕ). 48 + k) tens)
-    ∙ ap (λ (k : ℕ). decimal (n / 10 / 10) ++ (48 + n / 10 % 10) ∷ k ∷ []) (q ∙ ap (λ (k : ℕ). 48 + k) ones)
+    ap (λ (k : ℕ). decimal k ++ two (n % 100)) hundreds
+    ∙ ap (λ (k : ℕ). decimal (n / 10 / 10) ++ (48 + k) ∷ (48 + n % 100 % 10) ∷ []) tens
+    ∙ ap (λ (k : ℕ). decimal (n / 10 / 10) ++ (48 + n / 10 % 10) ∷ (48 + k) ∷ []) ones
     ∙ sym (append_assoc (decimal (n / 10 / 10)) ((48 + n / 10 % 10) ∷ []) ((48 + n % 10) ∷ []))
     ∙ ap (λ (l : List ℕ). l ++ (48 + n % 10) ∷ []) (sym (decimal_step (n / 10) (omega arith) (omega arith)))
     ∙ sym (decimal_step n (omega arith) fits)
 
-pub three_digits : (n a b c : ℕ) → 100 ≤ n → n < 1000 → a ≡ 48 + n / 100 → b ≡ 48 + n % 100 / 10 → c ≡ 48 + n % 100 % 10 → a ∷ b ∷ c ∷ [] ≡ decimal n
-three_digits n a b c least few p q r = pair_more n b c (a ∷ []) least (omega arith) (one_digit (n / 100) a (omega arith) p) q r
-
-pub four_digits : (n a b c d : ℕ) → 1000 ≤ n → n < 10000 → a ≡ 48 + n / 100 / 10 → b ≡ 48 + n / 100 % 10 → c ≡ 48 + n % 100 / 10 → d ≡ 48 + n % 100 % 10 → a ∷ b ∷ c ∷ d ∷ [] ≡ decimal n
-four_digits n a b c d least few p q r s = pair_more n c d (a ∷ b ∷ []) (omega arith) (omega arith) (two_digits (n / 100) a b (omega arith) (omega arith) p q) r s
-
-pub five_digits : (n a b c d e : ℕ) → 10000 ≤ n → n < 100000 → a ≡ 48 + n / 10000 → b ≡ 48 + n / 100 % 100 / 10 → c ≡ 48 + n / 100 % 100 % 10 → d ≡ 48 + n % 100 / 10 → e ≡ 48 + n % 100 % 10
-    → a ∷ b ∷ c ∷ d ∷ e ∷ [] ≡ decimal n
-five_digits n a b c d e least few p q r s t =
+-- four digits behind those of the myriads
+pub four_more : (n : ℕ) → 10000 ≤ n → n < 2 ^ 64 → decimal (n / 10000) ++ four (n % 10000) ≡ decimal n
+four_more n least fits =
     let front : n / 10000 ≡ n / 100 / 100 = omega arith in
-    pair_more n d e (a ∷ b ∷ c ∷ []) (omega arith) (omega arith) (three_digits (n / 100) a b c (omega arith) (omega arith) (p ∙ ap (λ (k : ℕ). 48 + k) front) q r) s t
+    let third : n % 10000 / 100 ≡ n / 100 % 100 = omega arith in
+    let last : n % 10000 % 100 ≡ n % 100 = omega arith in
+    ap (λ (k : ℕ). decimal k ++ four (n % 10000)) front
+    ∙ ap (λ (k : ℕ). decimal (n / 100 / 100) ++ (two k ++ two (n % 10000 % 100))) third
+    ∙ ap (λ (k : ℕ). decimal (n / 100 / 100) ++ (two (n / 100 % 100) ++ two k)) last
+    ∙ sym (append_assoc (decimal (n / 100 / 100)) (two (n / 100 % 100)) (two (n % 100)))
+    ∙ ap (λ (l : List ℕ). l ++ two (n % 100)) (two_more (n / 100) (omega arith) (omega arith))
+    ∙ two_more n (omega arith) fits
 
-pub six_digits : (n a b c d e f : ℕ) → 100000 ≤ n → n < 1000000 → a ≡ 48 + n / 10000 / 10 → b ≡ 48 + n / 10000 % 10 → c ≡ 48 + n / 100 % 100 / 10 → d ≡ 48 + n / 100 % 100 % 10 → e ≡ 48 + n % 100 / 10
-    → f ≡ 48 + n % 100 % 10 → a ∷ b ∷ c ∷ d ∷ e ∷ f ∷ [] ≡ decimal n
-six_digits n a b c d e f least few p q r s t u =
-    let front : n / 10000 ≡ n / 100 / 100 = omega arith in
-    pair_more n e f (a ∷ b ∷ c ∷ d ∷ []) (omega arith) (omega arith)
-    (four_digits (n / 100) a b c d (omega arith) (omega arith) (p ∙ ap (λ (k : ℕ). 48 + k / 10) front) (q ∙ ap (λ (k : ℕ). 48 + k % 10) front) r s) t u
+-- a number below 1,000 that has three digits
+pub three_digits : (n a : ℕ) → 100 ≤ n → n < 1000 → a ≡ 48 + n / 100 → a ∷ two (n % 100) ≡ decimal n
+three_digits n a least few p =
+    ap (λ (l : List ℕ). l ++ two (n % 100)) (one_digit (n / 100) a (omega arith) p) ∙ two_more n least (omega arith)
 
-pub seven_digits : (n a b c d e f g : ℕ) → 1000000 ≤ n → n < 10000000 → a ≡ 48 + n / 1000000 → b ≡ 48 + n / 10000 % 100 / 10 → c ≡ 48 + n / 10000 % 100 % 10 → d ≡ 48 + n / 100 % 100 / 10
-    → e ≡ 48 + n / 100 % 100 % 10 → f ≡ 48 + n % 100 / 10 → g ≡ 48 + n % 100 % 10 → a ∷ b ∷ c ∷ d ∷ e ∷ f ∷ g ∷ [] ≡ decimal n
-seven_digits n a b c d e f g least few p q r s t u v =
-    let millions : n / 1000000 ≡ n / 100 / 10000 = omega arith in
-    let front : n / 10000 ≡ n / 100 / 100 = omega arith in
-    pair_more n f g (a ∷ b ∷ c ∷ d ∷ e ∷ []) (omega arith) (omega arith)
-    (five_digits (n / 100) a b c d e (omega arith) (omega arith) (p ∙ ap (λ (k : ℕ). 48 + k) millions) (q ∙ ap (λ (k : ℕ). 48 + k % 100 / 10) front) (r ∙ ap (λ (k : ℕ). 48 + k % 100 % 10) front) s t) u v
+-- a number below 10,000 that has four digits
+pub four_digits : (n : ℕ) → 1000 ≤ n → n < 10000 → four n ≡ decimal n
+four_digits n least few =
+    ap (λ (l : List ℕ). l ++ two (n % 100)) (two_digits (n / 100) (48 + n / 100 / 10) (48 + n / 100 % 10) (omega arith) (omega arith) refl refl)
+    ∙ two_more n (omega arith) (omega arith)
+
+-- behind a front of the myriads
+pub four_behind : (old out new : List ℕ) (n : ℕ) → 10000 ≤ n → n < 2 ^ 64 → out ≡ old ++ decimal (n / 10000) → new ≡ out ++ four (n % 10000) → new ≡ old ++ decimal n
+four_behind old out new n least fits p q =
+    q ∙ ap (λ (l : List ℕ). l ++ four (n % 10000)) p ∙ append_assoc old (decimal (n / 10000)) (four (n % 10000)) ∙ ap (λ (l : List ℕ). old ++ l) (four_more n least fits)
+
+-- behind a front of the hundreds of millions
+pub eight_behind : (old front out new : List ℕ) (n : ℕ) → 100000000 ≤ n → n < 2 ^ 64 → front ≡ old ++ decimal (n / 100000000) → out ≡ front ++ four (n / 10000 % 10000) → new ≡ out ++ four (n % 10000) → new ≡ old ++ decimal n
+eight_behind old front out new n least fits p q r =
+    let same : n / 100000000 ≡ n / 10000 / 10000 = omega arith in
+    four_behind old out new n (omega arith) fits (four_behind old front out (n / 10000) (omega arith) (omega arith) (p ∙ ap (λ (k : ℕ). old ++ decimal k) same) q) r
 
 -- ---- hexadecimal digits
 

@@ -1,5 +1,13 @@
--- Octets as digits.
-use Rattle.std.specs.Prelude.{ℕ, List, [], ◌∷◌, ◌/◌, ◌%◌, slice_index, codes}
+-- Numbers and octets as digits.
+use Rattle.std.specs.Prelude.{ℕ, List, [], ◌∷◌, ◌++◌, ◌+◌, ◌/◌, ◌%◌, slice_index, codes}
+
+-- the two decimal digits of a number below 100
+abbrev pub two : ℕ → List ℕ
+two n = (48 + n / 10) ∷ (48 + n % 10) ∷ []
+
+-- the four decimal digits of a number below 10,000
+abbrev pub four : ℕ → List ℕ
+four n = two (n / 100) ++ two (n % 100)
 
 -- a hexadecimal digit
 abbrev pub digit : ℕ → ℕ

@@ -1,9 +1,9 @@
 //! Numbers and octets as digits.
 
-ghost use Rattle.std.specs.Prelude.{◌≡◌, ◌<◌, ◌≤◌, ◌+◌, ◌/◌, ◌%◌, ◌∷◌, ◌++◌, [], OnOk, OnErr};
+ghost use Rattle.std.specs.Prelude.{◌≡◌, ◌<◌, ◌≤◌, ◌+◌, ◌/◌, ◌%◌, ◌∷◌, ◌++◌, [], OnOk, OnErr, vec_capacity, vec_len};
 ghost use Rattle.std.specs.Fmt.{decimal, signed_decimal};
 ghost use Rattle.bac_tag.specs.Octets.{Extends};
-ghost use Rattle.bac_record.specs.Digits.{digit as hexadecimal_digit, hexadecimal};
+ghost use Rattle.bac_record.specs.Digits.{digit as hexadecimal_digit, hexadecimal, two, four};
 
 use bac_tag::OutOfMemory;
 
@@ -34,74 +34,118 @@ fn pair(number: u64) -> (u8, u8)
     (PAIRS[first], PAIRS[first + 1])
 }
 
-/// Appends the decimal digits of a number, from the last one on. Where memory is refused `out` stays as it was.
-fn push_long_number(out: &mut Vec<u8>, number: u64) -> Result<(), OutOfMemory>
-    ensures ok { OnOk result (out.new.items ≡ out.old.items ++ decimal number) }
-    ensures err { OnErr result (out.new.items ≡ out.old.items) }
+/// Appends the two digits of a number below 100, where there is room for them.
+#[inline(always)]
+fn push_two(out: &mut Vec<u8>, number: u64)
+    requires few { number < 100 }
+    requires room { vec_len out.old + 2 ≤ vec_capacity out.old }
+    ensures digits { out.new.items ≡ out.old.items ++ two number }
+    ensures len { vec_len out.new ≡ vec_len out.old + 2 }
+    ensures capacity { vec_capacity out.new ≡ vec_capacity out.old }
 {
-    let mut digits = [0; 20];
-    let mut first = 19;
-    let mut rest = number;
-    while rest >= 10 {
-        digits[first] = b'0' + (rest % 10) as u8;
-        first -= 1;
-        rest /= 10;
-    }
-    digits[first] = b'0' + rest as u8;
-    out.extend_from_slice(&digits[first..])?;
-    Ok(())
+    let (first, second) = pair(number);
+    out.push_reserved(first);
+    out.push_reserved(second);
 }
 
-/// Appends the digits of a number from 10,000 on. Five, six or seven digits are appended at once.
-fn push_large_number(out: &mut Vec<u8>, number: u64) -> Result<(), OutOfMemory>
-    requires { 10000 ≤ number }
-    ensures ok { OnOk result (out.new.items ≡ out.old.items ++ decimal number) }
-    ensures err { OnErr result (out.new.items ≡ out.old.items) }
+/// Appends the four digits of a number below 10,000, where there is room for them.
+#[inline(always)]
+fn push_four(out: &mut Vec<u8>, number: u64)
+    requires few { number < 10000 }
+    requires room { vec_len out.old + 4 ≤ vec_capacity out.old }
+    ensures digits { out.new.items ≡ out.old.items ++ four number }
+    ensures len { vec_len out.new ≡ vec_len out.old + 4 }
+    ensures capacity { vec_capacity out.new ≡ vec_capacity out.old }
 {
-    if number < 100_000 {
-        let first = digit(number / 10_000);
-        let (second, third) = pair(number / 100 % 100);
-        let (fourth, fifth) = pair(number % 100);
-        out.extend_from_slice(&[first, second, third, fourth, fifth])?;
-        Ok(())
-    } else if number < 1_000_000 {
-        let (first, second) = pair(number / 10_000);
-        let (third, fourth) = pair(number / 100 % 100);
-        let (fifth, sixth) = pair(number % 100);
-        out.extend_from_slice(&[first, second, third, fourth, fifth, sixth])?;
-        Ok(())
-    } else if number < 10_000_000 {
-        let first = digit(number / 1_000_000);
-        let (second, third) = pair(number / 10_000 % 100);
-        let (fourth, fifth) = pair(number / 100 % 100);
-        let (sixth, seventh) = pair(number % 100);
-        out.extend_from_slice(&[first, second, third, fourth, fifth, sixth, seventh])?;
-        Ok(())
+    push_two(out, number / 100);
+    push_two(out, number % 100);
+}
+
+/// Appends the digits of a number below 10,000 without leading zeros, where there is room for four.
+#[inline(always)]
+fn push_front(out: &mut Vec<u8>, number: u64)
+    requires few { number < 10000 }
+    requires room { vec_len out.old + 4 ≤ vec_capacity out.old }
+    ensures digits { out.new.items ≡ out.old.items ++ decimal number }
+    ensures len { vec_len out.new ≤ vec_len out.old + 4 }
+    ensures capacity { vec_capacity out.new ≡ vec_capacity out.old }
+{
+    if number < 10 {
+        out.push_reserved(digit(number));
+    } else if number < 100 {
+        push_two(out, number);
+    } else if number < 1_000 {
+        out.push_reserved(digit(number / 100));
+        push_two(out, number % 100);
     } else {
-        push_long_number(out, number)
+        push_four(out, number);
     }
 }
 
-/// Appends the digits of a number from 100 on. Three or four digits are appended at once.
+/// Appends the digits of a number below 100,000,000 without leading zeros, where there is room for eight.
+#[inline(always)]
+fn push_eight(out: &mut Vec<u8>, number: u64)
+    requires few { number < 100000000 }
+    requires room { vec_len out.old + 8 ≤ vec_capacity out.old }
+    ensures digits { out.new.items ≡ out.old.items ++ decimal number }
+    ensures len { vec_len out.new ≤ vec_len out.old + 8 }
+    ensures capacity { vec_capacity out.new ≡ vec_capacity out.old }
+{
+    if number < 10_000 {
+        push_front(out, number);
+    } else {
+        push_front(out, number / 10_000);
+        push_four(out, number % 10_000);
+    }
+}
+
+/// Appends the digits of a number below 1,000,000,000,000 without leading zeros, where there is room for twelve.
+#[inline(always)]
+fn push_twelve(out: &mut Vec<u8>, number: u64)
+    requires few { number < 1000000000000 }
+    requires room { vec_len out.old + 12 ≤ vec_capacity out.old }
+    ensures digits { out.new.items ≡ out.old.items ++ decimal number }
+    ensures len { vec_len out.new ≤ vec_len out.old + 12 }
+    ensures capacity { vec_capacity out.new ≡ vec_capacity out.old }
+{
+    if number < 100_000_000 {
+        push_eight(out, number);
+    } else {
+        push_eight(out, number / 10_000);
+        push_four(out, number % 10_000);
+    }
+}
+
+/// Appends the digits of a number without leading zeros, where there is room for twenty.
+#[inline(never)]
+fn push_long_number(out: &mut Vec<u8>, number: u64)
+    requires { vec_len out.old + 20 ≤ vec_capacity out.old }
+    ensures { out.new.items ≡ out.old.items ++ decimal number }
+{
+    if number < 100_000_000 {
+        push_eight(out, number);
+    } else {
+        push_twelve(out, number / 100_000_000);
+        push_four(out, number / 10_000 % 10_000);
+        push_four(out, number % 10_000);
+    }
+}
+
+/// Appends the digits of a number from 100 on.
 #[inline(never)]
 fn push_further_number(out: &mut Vec<u8>, number: u64) -> Result<(), OutOfMemory>
     requires { 100 ≤ number }
     ensures ok { OnOk result (out.new.items ≡ out.old.items ++ decimal number) }
     ensures err { OnErr result (out.new.items ≡ out.old.items) }
 {
-    if number < 1_000 {
-        let first = digit(number / 100);
-        let (second, third) = pair(number % 100);
-        out.extend_from_slice(&[first, second, third])?;
-        Ok(())
-    } else if number < 10_000 {
-        let (first, second) = pair(number / 100);
-        let (third, fourth) = pair(number % 100);
-        out.extend_from_slice(&[first, second, third, fourth])?;
-        Ok(())
+    // Room is asked for once, and not for each digit.
+    out.reserve(20)?;
+    if number < 10_000 {
+        push_front(out, number);
     } else {
-        push_large_number(out, number)
+        push_long_number(out, number);
     }
+    Ok(())
 }
 
 /// Appends the decimal digits of a number, without leading zeros.
