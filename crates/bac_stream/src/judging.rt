@@ -30,6 +30,11 @@ pub(crate) trait Appending: Drop {
         ensures err { OnErr result (out.new.items ≡ out.old.items) };
 }
 
+/// Frees a body. By itself and out of line, behind what was appended for it: so the decoder that calls it stays small, and
+/// no body is moved as soon as its parts were written, which would have to be waited for.
+#[inline(never)]
+pub(crate) fn discard(_body: Body) {}
+
 /// Appends for a frame where the mode accepts it.
 #[derive(Drop)]
 struct Judging<A> {

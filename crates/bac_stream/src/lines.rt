@@ -74,6 +74,8 @@ impl Line<'_> {
     }
 
     /// Appends the line of the record with this number. Where memory is refused `out` stays as it was.
+    // Out of line, so that the decoder that calls it where it decoded a body stays small.
+    #[inline(never)]
     pub(crate) fn push(&self, number: u32, out: &mut Vec<u8>) -> Result<(), OutOfMemory>
         ensures ok { OnOk result (out.new.items ≡ out.old.items ++ numbered number (said_text (said_by self.now))) }
         ensures err { OnErr result (out.new.items ≡ out.old.items) }

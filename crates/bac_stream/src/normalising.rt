@@ -10,7 +10,7 @@ ghost use Rattle.bac_record.specs.Records.{Records, IsRecord, LONGEST, record_of
 ghost use Rattle.bac_record.specs.Runs.{RanThrough, RunCounts, Stopped};
 ghost use Rattle.bac_record.specs.Files.{RunsOver};
 
-use crate::judging::{Appending, judge};
+use crate::judging::{Appending, discard, judge};
 use crate::{Input, Mode, Output, RunFault, Summary};
 use bac_npdu::{Body, FrameHead};
 use bac_record::{DealFault, Dealt, Job, LONGEST, run};
@@ -83,12 +83,12 @@ fn append_record(head: &FrameHead<'_>, body: &Body, out: &mut Vec<u8>) -> Result
 /// Appends the canonical octets of a frame as a record. Where memory is refused `out` stays as it was.
 // Out of line, so that the decoder that calls it where it decoded a body stays small.
 #[inline(never)]
-fn push_record(head: &FrameHead<'_>, body: Body, out: &mut Vec<u8>) -> Result<(), OutOfMemory>
-    ensures ok { OnOk result (((canonical : List ℕ) → IsCanonicalFor (frame_with head.now (body_value body)) canonical → IsRecord canonical) → AppendsRecord (frame_with head.now (body_value body)) out.old.items out.new.items) }
+fn push_record(head: &FrameHead<'_>, body: &Body, out: &mut Vec<u8>) -> Result<(), OutOfMemory>
+    ensures ok { OnOk result (((canonical : List ℕ) → IsCanonicalFor (frame_with head.now (body_value body.now)) canonical → IsRecord canonical) → AppendsRecord (frame_with head.now (body_value body.now)) out.old.items out.new.items) }
     ensures err { OnErr result (out.new.items ≡ out.old.items) }
 {
     let start = out.len();
-    let appended = append_record(head, &body, out);
+    let appended = append_record(head, body, out);
     if appended.is_err() {
         out.truncate(start);
     }
@@ -115,7 +115,9 @@ impl Appending for Rewritten {
         if mark.is_none() {
             return Ok(());
         }
-        push_record(head, body, out)
+        let appended = push_record(head, &body, out);
+        discard(body);
+        appended
     }
 }
 

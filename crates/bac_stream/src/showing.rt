@@ -7,7 +7,7 @@ ghost use Rattle.bac_record.specs.Records.{Records};
 ghost use Rattle.bac_record.specs.Runs.{RanThrough, RunCounts, Stopped};
 ghost use Rattle.bac_record.specs.Files.{RunsOver};
 
-use crate::judging::{Appending, judge};
+use crate::judging::{Appending, discard, judge};
 use crate::lines::Line;
 use crate::{Input, Mode, Output, RunFault, Summary};
 use bac_npdu::{Body, FrameHead};
@@ -35,8 +35,7 @@ impl Appending for Shown {
 
     ghost appends = { λ shown frame _ old new. new ≡ old ++ numbered shown.number (text frame) };
 
-    // Out of line, so that the decoder that calls it where it decoded a body stays small.
-    #[inline(never)]
+    #[inline(always)]
     fn append(
         self,
         head: &FrameHead<'_>,
@@ -44,7 +43,9 @@ impl Appending for Shown {
         _mark: Option<usize>,
         out: &mut Vec<u8>,
     ) -> Result<(), OutOfMemory> {
-        Line::Shown(head, &body).push(self.number, out)
+        let appended = Line::Shown(head, &body).push(self.number, out);
+        discard(body);
+        appended
     }
 }
 

@@ -9,18 +9,17 @@ use crate::texts::{HasText, push_field};
 use bac_apdu::{ConfirmedRequest, RequestHead, UnconfirmedRequest};
 use bac_tag::OutOfMemory;
 
-/// Appends ` sa=A segs=S` at once.
+/// Appends ` sa=A segs=S resp=` at once, and M.
 #[inline(always)]
-fn push_segments(out: &mut Vec<u8>, sa: bool, segs: u8) -> Result<(), OutOfMemory>
+fn push_limits(out: &mut Vec<u8>, sa: bool, segs: u8, resp: u8) -> Result<(), OutOfMemory>
     requires { segs < 10 }
-    ensures ok { OnOk result (out.new.items ≡ out.old.items ++ (field " sa=" (truth sa) ++ field " segs=" (number segs))) }
+    ensures ok { OnOk result (out.new.items ≡ out.old.items ++ (field " sa=" (truth sa) ++ field " segs=" (number segs) ++ field " resp=" (number resp))) }
     ensures err { OnErr result (Extends out.old.items out.new.items) }
 {
-    let mut text = *b" sa=A segs=S";
+    let mut text = *b" sa=A segs=S resp=";
     text[4] = b'0' + u8::from(sa);
     text[11] = b'0' + segs;
-    out.extend_from_slice(&text)?;
-    Ok(())
+    push_field(out, &text, &resp)
 }
 
 /// Appends a name, and `I sa=A segs=S resp=M` of the head of a request with invoke id I.
@@ -34,8 +33,7 @@ pub(crate) fn push_request_head(
     ensures err { OnErr result (Extends out.old.items out.new.items) }
 {
     push_field(out, name, &head.invoke)?;
-    push_segments(out, head.sa, head.segs.number())?;
-    push_field(out, b" resp=", &head.resp.number())
+    push_limits(out, head.sa, head.segs.number(), head.resp.number())
 }
 
 /// `conf id=I sa=A segs=S resp=M` and the service.
