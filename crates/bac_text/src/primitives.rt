@@ -11,7 +11,7 @@ ghost use Rattle.bac_record.specs.Digits.{hexadecimal};
 ghost use Rattle.bac_text.specs.PrimitiveText.{is_plain_octet, is_plain, string_text, bit_digit, primitive_text};
 
 use crate::scalars::push_octets;
-use crate::texts::{HasText, push_field};
+use crate::texts::{HasText, push_field, push_word};
 use bac_record::push_signed_decimal;
 use bac_tag::OutOfMemory;
 use bac_value::{Boolean, Null, PrimRef};
@@ -51,7 +51,7 @@ fn push_string(out: &mut Vec<u8>, set: u8, octets: &[u8]) -> Result<(), OutOfMem
     ensures err { OnErr result (Extends out.old.items out.new.items) }
 {
     if is_plain(set, octets) {
-        out.extend_from_slice(b"s:\"")?;
+        push_word(out, b"s:\"")?;
         out.extend_from_slice(octets)?;
         out.push(b'"')?;
         Ok(())
@@ -80,7 +80,7 @@ fn push_bits(out: &mut Vec<u8>, packed: &[u8], count: usize) -> Result<(), OutOf
     ensures ok { OnOk result (out.new.items ≡ out.old.items ++ (codes "b:" ++ map bit_digit (bits_in packed.now count))) }
     ensures err { OnErr result (Extends out.old.items out.new.items) }
 {
-    out.extend_from_slice(b"b:")?;
+    push_word(out, b"b:")?;
     out.reserve(count)?;
     for place in 0..count {
         out.push(bit_digit(packed, place))?;
@@ -93,8 +93,7 @@ fn push_null(out: &mut Vec<u8>, _null: Null) -> Result<(), OutOfMemory>
     ensures ok { OnOk result (out.new.items ≡ out.old.items ++ codes "null") }
     ensures err { OnErr result (Extends out.old.items out.new.items) }
 {
-    out.extend_from_slice(b"null")?;
-    Ok(())
+    push_word(out, b"null")
 }
 
 /// Appends `true` or `false`.
@@ -102,8 +101,11 @@ fn push_boolean(out: &mut Vec<u8>, value: Boolean) -> Result<(), OutOfMemory>
     ensures ok { OnOk result (out.new.items ≡ out.old.items ++ (if value.0 then codes "true" else codes "false")) }
     ensures err { OnErr result (Extends out.old.items out.new.items) }
 {
-    out.extend_from_slice(if value.0 { b"true" } else { b"false" })?;
-    Ok(())
+    if value.0 {
+        push_word(out, b"true")
+    } else {
+        push_word(out, b"false")
+    }
 }
 
 /// Appends the bits of a Double.
@@ -125,7 +127,7 @@ pub(crate) fn push_primitive(out: &mut Vec<u8>, prim: &PrimRef<'_>) -> Result<()
         PrimRef::Boolean(value) => push_boolean(out, *value),
         PrimRef::Unsigned(value) => push_field(out, b"u:", &value.0),
         PrimRef::Signed(value) => {
-            out.extend_from_slice(b"i:")?;
+            push_word(out, b"i:")?;
             push_signed_decimal(out, value.0)
         }
         PrimRef::RealBits(value) => push_octets(out, b"r:", &value.0.to_be_bytes()),

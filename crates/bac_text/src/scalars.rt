@@ -4,18 +4,22 @@ ghost use Rattle.std.specs.Prelude.{◌≡◌, ◌++◌, OnOk, OnErr};
 ghost use Rattle.bac_tag.specs.Octets.{Extends};
 ghost use Rattle.bac_record.specs.Digits.{hexadecimal};
 
-use crate::texts::HasText;
+use crate::texts::{HasText, push_word};
 use bac_record::{push_decimal, push_hexadecimal};
 use bac_tag::OutOfMemory;
 use bac_value::{Enumerated, Instance, ObjectId, Priority, Unsigned16, Unsigned32};
 
 /// Appends a name, and two digits for each octet.
 #[inline(always)]
-pub(crate) fn push_octets(out: &mut Vec<u8>, name: &[u8], octets: &[u8]) -> Result<(), OutOfMemory>
+pub(crate) fn push_octets<const N: usize>(
+    out: &mut Vec<u8>,
+    name: &[u8; N],
+    octets: &[u8],
+) -> Result<(), OutOfMemory>
     ensures ok { OnOk result (out.new.items ≡ out.old.items ++ (name.now ++ hexadecimal octets.now)) }
     ensures err { OnErr result (Extends out.old.items out.new.items) }
 {
-    out.extend_from_slice(name)?;
+    push_word(out, name)?;
     push_hexadecimal(out, octets)
 }
 

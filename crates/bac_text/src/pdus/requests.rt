@@ -24,9 +24,9 @@ fn push_limits(out: &mut Vec<u8>, sa: bool, segs: u8, resp: u8) -> Result<(), Ou
 
 /// Appends a name, and `I sa=A segs=S resp=M` of the head of a request with invoke id I.
 #[inline(always)]
-pub(crate) fn push_request_head(
+pub(crate) fn push_request_head<const N: usize>(
     out: &mut Vec<u8>,
-    name: &[u8],
+    name: &[u8; N],
     head: &RequestHead,
 ) -> Result<(), OutOfMemory>
     ensures ok { OnOk result (out.new.items ≡ out.old.items ++ (name.now ++ request_head_text head.now)) }

@@ -5,7 +5,7 @@ ghost use Rattle.bac_tag.specs.Octets.{Extends};
 ghost use Rattle.bac_service.specs.ServiceValues.{notification_kind};
 ghost use Rattle.bac_text.specs.CovNotificationText.{notification_name};
 
-use crate::texts::{HasText, push_field};
+use crate::texts::{HasText, push_field, push_word};
 use bac_service::CovNotification;
 use bac_tag::OutOfMemory;
 
@@ -16,11 +16,10 @@ fn push_name(out: &mut Vec<u8>, confirmed: bool) -> Result<(), OutOfMemory>
     ensures err { OnErr result (Extends out.old.items out.new.items) }
 {
     if confirmed {
-        out.extend_from_slice(b"ConfirmedCOVNotification")?;
+        push_word(out, b"ConfirmedCOVNotification")
     } else {
-        out.extend_from_slice(b"UnconfirmedCOVNotification")?;
+        push_word(out, b"UnconfirmedCOVNotification")
     }
-    Ok(())
 }
 
 /// `ConfirmedCOVNotification` or `UnconfirmedCOVNotification`, and

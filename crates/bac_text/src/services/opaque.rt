@@ -4,7 +4,7 @@ ghost use Rattle.std.specs.Prelude.{◌≡◌};
 ghost use Rattle.bac_text.specs.OpaqueText.{choice_name};
 
 use crate::scalars::push_octets;
-use crate::texts::{HasText, push_field};
+use crate::texts::HasText;
 use bac_service::{Kind, Opaque};
 use bac_tag::OutOfMemory;
 
@@ -25,7 +25,8 @@ impl HasText for Opaque {
     ghost text = { λ service. opaque_text service.kind service.choice service.octets };
 
     fn push_text(&self, out: &mut Vec<u8>) -> Result<(), OutOfMemory> {
-        push_field(out, choice_name(self.kind()), &self.choice())?;
+        out.extend_from_slice(choice_name(self.kind()))?;
+        self.choice().push_text(out)?;
         push_octets(out, b" octets=", self.octets())
     }
 }

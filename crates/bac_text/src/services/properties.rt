@@ -11,9 +11,9 @@ use bac_value::Enumerated;
 
 /// Appends a name, and `N [index=N]` of a property or of one element of it.
 #[inline(always)]
-pub(crate) fn push_property(
+pub(crate) fn push_property<const N: usize>(
     out: &mut Vec<u8>,
-    name: &[u8],
+    name: &[u8; N],
     property: Enumerated,
     index: &Option<Unsigned32>,
 ) -> Result<(), OutOfMemory>
@@ -26,9 +26,9 @@ pub(crate) fn push_property(
 
 /// Appends a name, and `N code=N` of an error with this class and this code.
 #[inline(always)]
-pub(crate) fn push_cause(
+pub(crate) fn push_cause<const N: usize>(
     out: &mut Vec<u8>,
-    name: &[u8],
+    name: &[u8; N],
     class: u32,
     code: u32,
 ) -> Result<(), OutOfMemory>
