@@ -7,4 +7,4 @@ use Rattle.bac_text.proofs.pdus.requests.push_limits.Goals as goal
 pub returns-clause-ok : goal.returns-clause-ok
 returns-clause-ok c =
     let sa : truth c.args.sa ≡ (48 + c.from.result) ∷ [] = truth_digit c.args.sa ∙ ap (λ n. (48 + n) ∷ []) (sym c.from.ensures) in
-    rw (decimal_digit c.args.segs c.requires, sa) c.in_ok-push_field.ensures.items
+    rw (decimal_digit c.args.segs c.requires, sa) c.push_field.ensures.ok
