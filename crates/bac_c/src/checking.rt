@@ -8,9 +8,34 @@ ghost use Rattle.bac_c.specs.Outcomes.{IsCanonical, IsRefusedBy, Tells, differs_
 
 use crate::writing::refuse;
 use crate::{BACTOOL_NO_MEMORY, BACTOOL_OK, BACTOOL_REFUSED, BACTOOL_TOLERATED, Outcome};
-use bac_npdu::decode_marked;
+use bac_npdu::{Body, FrameHead, FrameVisitor, visit_frame};
 use bac_tag::{Refusal, Why};
 use std::alloc::Global;
+
+/// Tells the mark of a frame, and keeps nothing of it.
+#[derive(Drop)]
+struct TellMark;
+
+impl FrameVisitor for TellMark {
+    type Place = ();
+
+    type Made = Option<usize>;
+
+    ghost use Rattle.std.specs.Prelude.{◌≡◌};
+
+    ghost makes = { λ _ _ mark _ _ made. made ≡ mark };
+
+    #[inline(always)]
+    fn visit(
+        self,
+        _head: &FrameHead<'_>,
+        _body: Body,
+        mark: Option<usize>,
+        _place: &mut (),
+    ) -> Option<usize> {
+        mark
+    }
+}
 
 /// The first place where accepted octets differ from the canonical ones.
 fn mark_of(alloc: Global, octets: &[u8], strict: bool) -> Result<Option<usize>, Refusal>
@@ -20,7 +45,7 @@ fn mark_of(alloc: Global, octets: &[u8], strict: bool) -> Result<Option<usize>, 
     ensures refused { IfErr result (λ refusal. refusal.why ≢ OutOfMemory → IsRefusedBy strict octets.now refusal) }
     ensures memory { IfErr result (λ refusal. refusal.why ≡ OutOfMemory → (refusal.place ≡ 0) × (begins_small octets.now ≡ false)) }
 {
-    let (_, mark) = decode_marked(alloc, octets)?;
+    let mark = visit_frame(alloc, octets, TellMark, &mut ())?;
     match mark {
         None => Ok(None),
         Some(place) if strict => Err(Why::NotCanonical.at(place)),
