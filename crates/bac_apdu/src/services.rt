@@ -37,6 +37,7 @@ pub(crate) fn decode_behind(
 
 /// Appends the octets of a head, and the canonical ones of a service behind it. Where memory is refused `out` stays as
 /// it was.
+#[inline(always)]
 pub(crate) fn append_behind(
     head: &[u8],
     service: &Service,

@@ -1,6 +1,6 @@
 -- Heads: their least octets, and their marks.
 use Rattle.std.specs.Prelude.{◌^◌, nat_eq}
-use Rattle.std.proofs.Common.{◌≡◌, ℕ, zero, suc, ◌/◌, ◌%◌, ◌<◌, ◌≤◌, inr, List, [], ◌∷◌, ◌++◌, length, Option, None, Some, Bool, true, false, refl, ap, arith}
+use Rattle.std.proofs.Common.{◌≡◌, ℕ, zero, suc, ◌/◌, ◌%◌, ◌<◌, ◌≤◌, List, [], ◌∷◌, ◌++◌, length, Option, None, Some, Bool, true, false, refl, ap, arith}
 use Rattle.bac_tag.specs.Octets.{NoGreater, IsMark, joined_mark}
 use Rattle.bac_tag.specs.Laws.Octets.{NoGreater-append, one_no_greater, mark-append}
 use Rattle.bac_tag.specs.Spelling.{IsLeast, HasMark}

@@ -174,3 +174,23 @@ pub(crate) fn first_octet(head: TagHead) -> u8
         TagHead::Close(number) => narrow_initial(true, number, 7),
     }
 }
+
+/// The second of the octets that [`write_head`] writes of a head, where they are two: the number octet, or where the
+/// nibble has room for the number that of the length.
+#[inline(always)]
+pub(crate) fn second_octet(head: TagHead) -> u8
+    requires { IsValid head }
+    ensures { (b : List ℕ) → IsLeast (Heads head) b → length b ≡ 2 → slice_index b 1 ≡ result }
+{
+    match head {
+        TagHead::App { number, len } | TagHead::Ctx { number, len } => {
+            if number >= 15 {
+                number
+            } else {
+                (len % 256) as u8
+            }
+        }
+        TagHead::AppBool(_) => 0,
+        TagHead::Open(number) | TagHead::Close(number) => number,
+    }
+}

@@ -123,8 +123,24 @@ pub fn mark_number(number: u64, octets: &[u8]) -> Option<usize>
     first_difference(octets, significant(&number.to_be_bytes()))
 }
 
+/// Appends the fewest octets that spell a number of more than one octet. Where memory is refused `out` stays as it was.
+fn write_several(number: u64, out: &mut Vec<u8>) -> Result<(), OutOfMemory>
+    ensures ok { OnOk result (out.new.items ≡ out.old.items ++ least_number number) }
+    ensures err { OnErr result (out.new.items ≡ out.old.items) }
+{
+    let octets = number.to_be_bytes();
+    // Copied without a call where they are few.
+    match significant(&octets) {
+        [a, b] => out.extend_from_slice(&[*a, *b])?,
+        [a, b, c] => out.extend_from_slice(&[*a, *b, *c])?,
+        [a, b, c, d] => out.extend_from_slice(&[*a, *b, *c, *d])?,
+        others => out.extend_from_slice(others)?,
+    }
+    Ok(())
+}
+
 /// Appends the fewest octets that spell a number. Where memory is refused `out` stays as it was.
-#[inline]
+#[inline(always)]
 pub fn write_number(number: u64, out: &mut Vec<u8>) -> Result<(), OutOfMemory>
     ensures ok { OnOk result (out.new.items ≡ out.old.items ++ least_number number) }
     ensures err { OnErr result (out.new.items ≡ out.old.items) }
@@ -134,6 +150,5 @@ pub fn write_number(number: u64, out: &mut Vec<u8>) -> Result<(), OutOfMemory>
         out.push(number as u8)?;
         return Ok(());
     }
-    out.extend_from_slice(significant(&number.to_be_bytes()))?;
-    Ok(())
+    write_several(number, out)
 }

@@ -13,6 +13,9 @@ use bac_tag::OutOfMemory;
 use bac_tag::layers::joined_marks;
 use std::alloc::Global;
 
+/// How many items a list has room for at first. Most have no more.
+const ROOM: usize = 8;
+
 /// Records one behind the other; the list ends where no further one can be read.
 impl<R: Record> Production for Vec<R> {
     ghost Value = { List R.Value };
@@ -32,7 +35,9 @@ impl<R: Record> Production for Vec<R> {
     ghost wants_memory = { true };
 
     fn read_spelling(alloc: Global, octets: &[u8]) -> Option<Spelling<Vec<R>>> {
-        let mut items = Vec::new(alloc);
+        let Ok(mut items) = Vec::with_capacity(alloc, ROOM) else {
+            return None;
+        };
         let mut taken = 0;
         let mut mark = None;
         while let Some(item) = Fields::<R>::read_spelling(alloc, &octets[taken..]) {
@@ -50,7 +55,9 @@ impl<R: Record> Production for Vec<R> {
     }
 
     fn read(alloc: Global, octets: &[u8]) -> Result<Front<Vec<R>>, ReadFault> {
-        let mut items = Vec::new(alloc);
+        let Ok(mut items) = Vec::with_capacity(alloc, ROOM) else {
+            return Err(ReadFault::OutOfMemory);
+        };
         let mut taken = 0;
         let mut mark = None;
         let mut reach = complete_at(octets, 0);

@@ -9,17 +9,17 @@ use Rattle.bac_service.specs.Laws.List.{items_start, items_shrink, items_next, i
 use Rattle.bac_service.proofs.production.list.VecProduction.read.Goals as goal
 
 pub loop-item-init : goal.loop-item-init
-loop-item-init g c = rw c.new-items.ensures.items (items_start g.R.Record.spells c.args.octets.now c.complete_at-reach.result c.complete_at-reach.ensures.place c.complete_at-reach.ensures.short c.complete_at-reach.ensures.reason)
+loop-item-init g c = rw c.in-Ok.ensures.items (items_start g.R.Record.spells c.args.octets.now c.complete_at-reach.result c.complete_at-reach.ensures.place c.complete_at-reach.ensures.short c.complete_at-reach.ensures.reason)
 
 pub loop-item-smaller : goal.loop-item-smaller
-loop-item-smaller g c = items_shrink g.R.Parts.Production.is_sound (λ sound. record_lawful g.met.R.Record.of_parts (g.met.R.Parts.Production.lawful sound)) c.requires c.loop-item.invariant (rw take_rest at c.in-Ok.ensures.found)
+loop-item-smaller g c = items_shrink g.R.Parts.Production.is_sound (λ sound. record_lawful g.met.R.Record.of_parts (g.met.R.Parts.Production.lawful sound)) c.requires c.loop-item.invariant (rw take_rest at c.in-Ok-read.ensures.found)
 
 pub loop-item-preserved : goal.loop-item-preserved
 loop-item-preserved g c =
     let view = g.R.Record.view in
-    let pushed = ap (map view) c.in_ok-push-in-Ok.ensures.items ∙ map-append view c.loop-item.items.items (c.in-Ok.item.value.0 ∷ []) in
+    let pushed = ap (map view) c.in_ok-push-in-Ok-read.ensures.items ∙ map-append view c.loop-item.items.items (c.in-Ok-read.item.value.0 ∷ []) in
     rw pushed (items_next g.R.Parts.Production.is_sound (λ sound. record_lawful g.met.R.Record.of_parts (g.met.R.Parts.Production.lawful sound)) c.requires c.loop-item.invariant
-    c.joined_marks-mark.result c.farther-reach.result (rw take_rest at c.in-Ok.ensures.found) (rw take_rest at c.in-Ok.ensures.mark) (rw take_rest at c.in-Ok.ensures.reach) c.in-Ok.ensures.trailing c.joined_marks-mark.ensures (rw c.behind.ensures at c.farther-reach.ensures))
+    c.joined_marks-mark.result c.farther-reach.result (rw take_rest at c.in-Ok-read.ensures.found) (rw take_rest at c.in-Ok-read.ensures.mark) (rw take_rest at c.in-Ok-read.ensures.reach) c.in-Ok-read.ensures.trailing c.joined_marks-mark.ensures (rw c.behind.ensures at c.farther-reach.ensures))
 
 pub returns-in-Err-Refused-clause-found : goal.returns-in-Err-Refused-clause-found
 returns-in-Err-Refused-clause-found g c =

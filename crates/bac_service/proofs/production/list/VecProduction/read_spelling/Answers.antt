@@ -5,7 +5,7 @@ use Rattle.bac_service.specs.Laws.List.{takes_none, takes_next, takes_shrink}
 use Rattle.bac_service.proofs.production.list.VecProduction.read_spelling.Goals as goal
 
 pub loop-item-init : goal.loop-item-init
-loop-item-init g c = rw c.new-items.ensures.items (takes_none g.R.Record.spells c.args.octets.now)
+loop-item-init g c = rw c.in-Ok.ensures.items (takes_none g.R.Record.spells c.args.octets.now)
 
 pub loop-item-smaller : goal.loop-item-smaller
 loop-item-smaller g c = takes_shrink c.loop-item.invariant g.R.Parts.Production.is_sound (λ sound. record_lawful g.met.R.Record.of_parts (g.met.R.Parts.Production.lawful sound)) c.requires (rw take_rest at c.in-Some.ensures.found)
@@ -13,5 +13,5 @@ loop-item-smaller g c = takes_shrink c.loop-item.invariant g.R.Parts.Production.
 pub loop-item-preserved : goal.loop-item-preserved
 loop-item-preserved g c =
     let view = g.R.Record.view in
-    let pushed = ap (map view) c.in-Ok.ensures.items ∙ map-append view c.loop-item.items.items (c.in-Some.item.value.0 ∷ []) in
+    let pushed = ap (map view) c.in-Ok-push.ensures.items ∙ map-append view c.loop-item.items.items (c.in-Some.item.value.0 ∷ []) in
     rw pushed (takes_next c.loop-item.invariant c.joined_marks-mark.result (rw take_rest at c.in-Some.ensures.found) (rw take_rest at c.in-Some.ensures.mark) c.joined_marks-mark.ensures)
