@@ -58,7 +58,7 @@ pub record HasRead (n : ℕ) (input : List ℕ) (place : ℕ) (es : List Event) 
   pub within : place ≤ length input
   pub spelled : SpellsEvents (opening n ∷ es) (take place input)
 
-opening_is : (n : ℕ) (head : TagHead) (b : List ℕ) → Opening n head b → Heads (Open n) b
+pub opening_is : (n : ℕ) (head : TagHead) (b : List ℕ) → Opening n head b → Heads (Open n) b
 opening_is n (Open m) b h = subst (λ (k : ℕ). Heads (Open k) b) h.fits h.spelled
 opening_is n (App m len) b h = absurd h.fits
 opening_is n (AppBool bit) b h = absurd h.fits

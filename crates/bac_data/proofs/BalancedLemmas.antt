@@ -1,6 +1,5 @@
 -- Events that open and close in order are those of a value.
-use Rattle.std.proofs.Common.{◌≡◌, ℕ, ◌+◌, ◌≤◌, List, [], ◌∷◌, ◌++◌, map, length, refl, sym, ◌∙◌, ap, subst, arith, append_assoc}
-use Rattle.std.proofs.lemmas.List.{length-map}
+use Rattle.std.proofs.Common.{◌≡◌, ℕ, ◌+◌, ◌≤◌, List, [], ◌∷◌, ◌++◌, length, refl, sym, ◌∙◌, ap, subst, arith, append_assoc}
 use Rattle.bac_data.specs.OpenValue.{Element, primitive, context, group, Elements, none, more, element_depth, depth}
 use Rattle.bac_data.specs.Events.{Event, application, contextual, opening, closing, element_events, events, Opens}
 use Rattle.bac_data.specs.Laws.Events.{levels, first_of, others_of, value_of_events}
@@ -91,11 +90,3 @@ pub events-value_of_events : (limit : ℕ) (es : List Event) → Opens limit [] 
 events-value_of_events limit es o =
     let e : events (value_of_events es) ≡ es = alone (levels es).0 (levels es).1 es (rebuilds limit es [] o) in
     (e, (let d = depth-opens limit (value_of_events es) [] [] (omega arith) (subst (λ l. Opens limit [] l []) (sym e) o) in omega (arith, d)))
-
--- as many as their value has
-pub count_is : {X : Type 0} (limit : ℕ) (f : X → Event) (xs : List X) (n : ℕ) (v : Elements) → n ≡ length xs → Opens limit [] (map f xs) [] → value_of_events (map f xs) ≡ v → n ≡ length (events v)
-count_is limit f xs n v e o view = e ∙ sym (length-map xs f) ∙ ap length (sym (events-value_of_events limit (map f xs) o).0) ∙ ap (λ (v : Elements). length (events v)) view
-
--- a walk over them has the events of their value
-pub walk_is : (limit : ℕ) (es walk : List Event) (v : Elements) → walk ≡ es → Opens limit [] es [] → value_of_events es ≡ v → walk ≡ events v
-walk_is limit es walk v e o view = e ∙ sym (events-value_of_events limit es o).0 ∙ ap events view

@@ -1,6 +1,5 @@
 -- The least spelling of an event.
-use Rattle.std.proofs.Common.{◌≡◌, ◌≢◌, ℕ, ◌<◌, ◌≤◌, Bool, true, false, List, [], ◌∷◌, ◌++◌, length, get_or, refl, sym, ◌∙◌, ap, subst, inl, inr, arith, length-append}
-use Rattle.std.specs.Prelude.{◌==◌, if◌then◌else◌}
+use Rattle.std.proofs.Common.{◌≡◌, ◌≢◌, ℕ, Bool, List, ◌++◌, length, refl, sym, ap, subst, inl, inr, arith, length-append}
 use Rattle.bac_tag.specs.declared.heads.TagHead.TheVariants.{App, AppBool, Ctx}
 use Rattle.bac_tag.specs.Octets.{NoGreater}
 use Rattle.bac_tag.specs.Laws.Octets.{NoGreater-append, NoGreater-refl}
@@ -9,19 +8,32 @@ use Rattle.bac_tag.specs.Heads.{Heads}
 use Rattle.bac_tag.proofs.WritingLemmas.{app_grows}
 use Rattle.bac_value.specs.declared.types.boolean_value.Boolean.{Boolean as BooleanValue}
 use Rattle.bac_value.specs.declared.prim.PrimitiveValue.{PrimitiveValue}
-use Rattle.bac_value.specs.declared.prim.PrimitiveValue.TheVariants.{Boolean}
+use Rattle.bac_value.specs.declared.prim.PrimitiveValue.TheVariants.{Null, Boolean, Unsigned, Signed, RealBits, DoubleBits, Octets, Text, Bits, Enumerated, Date, Time, ObjectId}
 use Rattle.bac_value.specs.OctetStringContents.{IsOctetString}
-use Rattle.bac_value.specs.PrimContents.{application_number, PrimContents, prim_written, IsWrittenOf}
-use Rattle.bac_value.specs.Laws.Prim.{prim_written_least, prim_limit}
-use Rattle.bac_value.specs.PrimOfContents.{prim_of_contents}
-use Rattle.bac_value.specs.Laws.PrimOfContents.{prim_of_contents_is}
-use Rattle.bac_value.specs.Laws.VariantsOfPrim.{boolean_variant}
+use Rattle.bac_value.specs.PrimContents.{application_number, PrimContents, prim_written}
+use Rattle.bac_value.specs.Laws.Prim.{prim_written_least}
 use Rattle.bac_data.specs.Spells.{SpellsContents, SpellsPrimitive, SpellsContext}
 
 -- ---- application primitives
 
 boolean_number : (prim : PrimitiveValue) (value : BooleanValue) → prim ≡ Boolean value → application_number prim ≡ 1
 boolean_number prim value e = ap application_number e
+
+-- only Booleans have that number
+pub number_of_others : (prim : PrimitiveValue) → ((value : BooleanValue) → prim ≡ Boolean value → ⊥) → application_number prim ≢ 1
+number_of_others (Boolean value) other e = other value refl
+number_of_others (Null value) other e = omega (arith, e)
+number_of_others (Unsigned value) other e = omega (arith, e)
+number_of_others (Signed value) other e = omega (arith, e)
+number_of_others (RealBits value) other e = omega (arith, e)
+number_of_others (DoubleBits value) other e = omega (arith, e)
+number_of_others (Octets value) other e = omega (arith, e)
+number_of_others (Text value) other e = omega (arith, e)
+number_of_others (Bits value) other e = omega (arith, e)
+number_of_others (Enumerated value) other e = omega (arith, e)
+number_of_others (Date value) other e = omega (arith, e)
+number_of_others (Time value) other e = omega (arith, e)
+number_of_others (ObjectId value) other e = omega (arith, e)
 
 -- the contents under the narrowest head
 pub least_contents : (prim : PrimitiveValue) (contents head : List ℕ) → application_number prim ≢ 1 → PrimContents prim contents → contents ≡ prim_written prim → IsLeast (Heads (App (application_number prim) (length contents))) head
@@ -43,11 +55,6 @@ least_contents prim contents head other spelled is h = record {
     no_less c (inl p) = absurd (other (boolean_number prim p.value p.is))
     no_less c (inr p) = rw p.octets (by_length c p (rw is (prim_written_least prim p.contents p.spelled)))
 
-pub least_application : (number : ℕ) (contents head : List ℕ) → number ≢ 1 → IsWrittenOf number contents → IsLeast (Heads (App number (length contents))) head → IsLeast (SpellsPrimitive (prim_of_contents number contents)) (head ++ contents)
-least_application number contents head other w h =
-    let is : prim_of_contents number contents ≡ w.value = prim_of_contents_is number w.value contents w.spelled in
-    rw is (least_contents w.value contents head (λ e. other (sym w.spelled.0 ∙ e)) w.spelled.1 w.is (subst (λ (n : ℕ). IsLeast (Heads (App n (length contents))) head) (sym w.spelled.0) h))
-
 -- a Boolean has its head alone
 pub least_boolean_of : (value : BooleanValue) (head : List ℕ) → IsLeast (Heads (AppBool value.0)) head → IsLeast (SpellsPrimitive (Boolean value)) head
 least_boolean_of value head h = record {
@@ -62,21 +69,6 @@ least_boolean_of value head h = record {
     no_less c (inl p) = h.least c (subst (λ (bit : Bool). Heads (AppBool bit) c) (same_value value p.value p.is) p.headed)
     no_less c (inr p) = absurd (p.headed.valid.1 refl)
 
-bit_back : (bit : Bool) (contents : List ℕ) → contents ≡ (if bit then 1 else 0) ∷ [] → (get_or contents 0 0 == 1) ≡ bit
-bit_back true contents e = ap (λ (l : List ℕ). get_or l 0 0 == 1) e
-bit_back false contents e = ap (λ (l : List ℕ). get_or l 0 0 == 1) e
-
-pub least_boolean : (contents head : List ℕ) → IsWrittenOf 1 contents → IsLeast (Heads (AppBool (get_or contents 0 0 == 1))) head → IsLeast (SpellsPrimitive (prim_of_contents 1 contents)) head
-least_boolean contents head w h =
-    let (value, same, spelled) = boolean_variant.from w.value contents w.spelled in
-    let is : prim_of_contents 1 contents ≡ Boolean value = prim_of_contents_is 1 w.value contents w.spelled ∙ same in
-    rw is (least_boolean_of value head (subst (λ (bit : Bool). IsLeast (Heads (AppBool bit)) head) (bit_back value.0 contents spelled.is) h))
-
-pub boolean_some : (contents : List ℕ) → IsWrittenOf 1 contents → 0 < length contents
-boolean_some contents w =
-    let (value, same, spelled) = boolean_variant.from w.value contents w.spelled in
-    omega (arith, ap length spelled.is)
-
 -- ---- context primitives
 
 pub least_context : (number : ℕ) (octets head : List ℕ) → IsOctetString octets → IsLeast (Heads (Ctx number (length octets))) head → IsLeast (SpellsContext number octets) (head ++ octets)
@@ -84,8 +76,3 @@ least_context number octets head within h = record {
   member = record { head = head; headed = h.member; within = within; joined = refl };
   least = λ c p. rw p.joined (NoGreater-append head p.head octets octets (h.least p.head p.headed) (NoGreater-refl octets));
 }
-
--- ---- limits
-
-pub written_limit : (number : ℕ) (contents : List ℕ) → IsWrittenOf number contents → length contents ≤ 1048576
-written_limit number contents w = prim_limit w.value contents w.spelled.1

@@ -1,8 +1,7 @@
 -- What is least, of parts that are least.
-use Rattle.std.proofs.Common.{◌≡◌, ℕ, suc, ◌+◌, ◌<◌, ◌≤◌, List, [], ◌∷◌, ◌++◌, map, take, length, get_or, take-suc, refl, sym, ◌∙◌, ap, subst, arith}
+use Rattle.std.proofs.Common.{◌≡◌, ℕ, ◌≤◌, List, [], ◌∷◌, ◌++◌, refl, sym, subst}
 use Rattle.bac_tag.specs.Octets.{NoGreater}
 use Rattle.bac_tag.specs.Laws.Octets.{NoGreater-append, NoGreater-same}
-use Rattle.std.proofs.lemmas.List.{map-append}
 use Rattle.bac_tag.specs.declared.heads.TagHead.TheVariants.{Open, Close}
 use Rattle.bac_tag.specs.Spelling.{IsLeast}
 use Rattle.bac_tag.specs.Heads.{Heads}
@@ -39,15 +38,6 @@ least_open limit n v b h p = record { member = spells_whole limit n v b h p.memb
 -- nothing
 pub least_none : (es : List Event) → es ≡ [] → IsLeast (SpellsEvents es) []
 least_none es e = rw e (record { member = refl; least = λ c p. NoGreater-same [] c (sym p) })
-
--- one more of nodes: f gives the event of each
-pub least_next : {X : Type 0} (f : X → Event) (xs : List X) (place : ℕ) (d : X) (b c : List ℕ) → place < length xs → IsLeast (SpellsEvents (map f (take place xs))) b → IsLeast (SpellsEvent (f (get_or xs place d))) c
-    → IsLeast (SpellsEvents (map f (take (place + 1) xs))) (b ++ c)
-least_next f xs place d b c inside p q =
-    let one : place + 1 ≡ suc place = omega arith in
-    let more : map f (take (place + 1) xs) ≡ map f (take place xs) ++ f (get_or xs place d) ∷ [] =
-    ap (λ (n : ℕ). map f (take n xs)) one ∙ ap (map f) (take-suc xs place d inside) ∙ map-append f (take place xs) (get_or xs place d ∷ []) in
-    rw more (least_more (map f (take place xs)) (f (get_or xs place d)) b c p q)
 
 -- the whole of an open value: its tags and the events between them
 pub least_whole : (number : ℕ) (v : Elements) (es : List Event) (a b c : List ℕ) → events v ≡ es → IsLeast (Heads (Open number)) a → IsLeast (SpellsEvents es) b → IsLeast (Heads (Close number)) c

@@ -1,11 +1,9 @@
 pub mod EventLemmas
-mod HeadLemmas
 pub mod OpenLemmas
 mod BalancedLemmas
 mod ViableLemmas
 pub mod LeastLemmas
-mod NodeLemmas
-mod EndingLemmas
+mod ResultLemmas
 mod BuildingLemmas
 pub mod EventLeastLemmas
 mod ReadingLemmas
@@ -15,8 +13,9 @@ mod AnyLemmas
 mod EventCounts
 mod MarkLemmas
 mod ReasonLemmas
-mod RangeLemmas
 mod DepthLemmas
 pub mod ValueLemmas
 mod PartLemmas
-mod SameLemmas
+mod HeldLemmas
+mod WalkLemmas
+mod ReadingSteps

@@ -1,5 +1,5 @@
 -- Marks of what was read.
-use Rattle.std.proofs.Common.{◌≡◌, ◌≢◌, ℕ, ◌+◌, ◌<◌, ◌≤◌, Bool, List, [], ◌∷◌, ◌++◌, Option, None, Some, take, drop, length, refl, sym, ◌∙◌, ap, subst, arith, Bor, append-nil, length-take, length-drop, take-add}
+use Rattle.std.proofs.Common.{◌≡◌, ◌≢◌, ℕ, ◌+◌, ◌^◌, ◌<◌, ◌≤◌, Bool, List, [], ◌∷◌, ◌++◌, Option, None, Some, take, drop, length, refl, sym, ◌∙◌, ap, subst, arith, Bor, append-nil, length-take, length-append, take-add}
 use Rattle.std.specs.Prelude.{false, true, is_some, IfNone, IfSome}
 use Rattle.bac_tag.specs.declared.heads.TagHead.{TagHead}
 use Rattle.bac_tag.specs.declared.heads.TagHead.TheVariants.{App, AppBool, Ctx, Open, Close}
@@ -14,7 +14,7 @@ use Rattle.bac_tag.proofs.ShortLemmas.{one_is_least}
 use Rattle.bac_value.specs.declared.prim.PrimitiveValue.{PrimitiveValue}
 use Rattle.bac_value.specs.declared.prim.PrimitiveValue.TheVariants.{Boolean}
 use Rattle.bac_value.specs.OctetStringContents.{IsOctetString}
-use Rattle.bac_value.specs.PrimContents.{application_number, PrimContents, ContentsOf, prim_written}
+use Rattle.bac_value.specs.PrimContents.{PrimContents, ContentsOf, prim_written}
 use Rattle.bac_value.specs.Laws.Prim.{prim_limit, prim_written_contents, prim_only_values}
 use Rattle.bac_value.specs.PrimOfContents.{prim_of_contents}
 use Rattle.bac_value.specs.Laws.PrimOfContents.{prim_of_contents_is}
@@ -79,15 +79,15 @@ module _ (number : ℕ) (prim : PrimitiveValue) (contents : List ℕ) (s : Conte
   mark_below (Some place) h = difference_below contents (prim_written prim) place 1048576 (prim_limit prim contents s.1) written_small (h prim s)
 
   -- the least spelling of an application primitive
+  pub least_by_head : number ≢ 1 → (head : List ℕ) → IsLeast (Heads (App number (length (prim_written prim)))) head → IsLeast (SpellsPrimitive (prim_of_contents number contents)) (head ++ prim_written prim)
+  least_by_head other head h =
+      subst (λ (p : PrimitiveValue). IsLeast (SpellsPrimitive p) (head ++ prim_written prim)) (sym (prim_of_contents_is number prim contents s))
+      (least_contents prim (prim_written prim) head (λ e. other (sym s.0 ∙ e)) written_spelled refl (subst (λ (n : ℕ). IsLeast (Heads (App n (length (prim_written prim)))) head) (sym s.0) h))
+
   pub least_by_contents : number ≤ 12 → number ≢ 1 → (b : List ℕ) × IsLeast (Heads (App number (length (prim_written prim)))) b × IsLeast (SpellsPrimitive (prim_of_contents number contents)) (b ++ prim_written prim)
   least_by_contents fits other =
       let l = some_least (App number (length (prim_written prim))) (fits, other) (omega (arith, written_small)) in
-      let own : IsLeast (Heads (App (application_number prim) (length (prim_written prim)))) l.0 = subst (λ (n : ℕ). IsLeast (Heads (App n (length (prim_written prim)))) l.0) (sym s.0) l.1 in (
-        l.0,
-        l.1,
-        subst (λ (p : PrimitiveValue). IsLeast (SpellsPrimitive p) (l.0 ++ prim_written prim)) (sym (prim_of_contents_is number prim contents s))
-            (least_contents prim (prim_written prim) l.0 (λ e. other (sym s.0 ∙ e)) written_spelled refl own),
-      )
+      (l.0, l.1, least_by_head other l.0 l.1)
 
   pub mark_application : (head : List ℕ) (m o r : Option ℕ) → number ≤ 12 → number ≢ 1 → Heads (App number (length contents)) head → HeadMark head (App number (length (prim_written prim))) m
       → IfNone o ((p : PrimitiveValue) → ContentsOf number p contents → contents ≡ prim_written p) → IfSome o (λ place. (p : PrimitiveValue) → ContentsOf number p contents → FirstDifference contents (prim_written p) place)
@@ -150,6 +150,11 @@ least_item (item.Context number octets) (fits, within) = let l = least_under_con
 least_item (item.Open number) h = some_least (Open number) h tt
 least_item (item.Close number) h = some_least (Close number) h tt
 
+-- its mark is a place of few octets
+pub mark_fits : (place : ℕ) (head : List ℕ) (i : Item) (o : Option ℕ) → IsItem i → place + (length head + length (item_contents i)) < 2 ^ 64 → ItemMark head i o → IfSome o (λ k. place + k < 2 ^ 64)
+mark_fits place head i None is small mark = tt
+mark_fits place head i (Some k) is small mark = let l = least_item i is in omega (arith, (mark l.0 l.1).0, length-append head (item_contents i))
+
 -- ---- the value so far
 
 pub marked_opening : (n : ℕ) (input : List ℕ) (place : ℕ) (es : List Event) (m : Option ℕ) → n ≤ 254 → ((b : List ℕ) → IsLeast (Heads (Open n)) b → IsMark (take place input) b m) → es ≡ [] → HasMark n input place es m
@@ -171,9 +176,6 @@ module _ (input : List ℕ) (place start taken : ℕ) (i : Item) (o : Option ℕ
             (mark-append (take place input) (take start (drop place input) ++ item_contents i) h.least l.0 m o h.is_mark (mark l.0 l.1)));
       }
 
-  place_inside : (k : ℕ) → IsMark (take start (drop place input) ++ item_contents i) (least_item i is).0 (Some k) → place + k < length input
-  place_inside k h = omega (arith, within, h.0, ap length lies.octets_are, length-take taken (drop place input), length-drop place input)
-
 -- an item behind a difference changes no mark
 pub marked_already : (input : List ℕ) (place taken : ℕ) (i : Item) (n : ℕ) (es fs : List Event) (m : Option ℕ) → IsItem i → is_some m ≡ true
     → HasMark n input place es m → fs ≡ es ++ item_event i ∷ [] → HasMark n input (place + taken) fs m
@@ -186,11 +188,6 @@ marked_already input place taken i n es fs (Some p) is some h f =
       is_least = rw f (least_more (opening n ∷ es) (item_event i) h.least l.0 h.is_least l.1);
       is_mark = rw octets (mark_first (take place input) (take taken (drop place input)) h.least l.0 p h.is_mark);
     }
-
-pub mark_inside : (input : List ℕ) (place start taken : ℕ) (i : Item) (o : Option ℕ) → place ≤ length input → IsItem i → LiesInFront i start taken (drop place input)
-    → ((b : List ℕ) → IsLeast (SpellsEvent (item_event i)) b → IsMark (take start (drop place input) ++ item_contents i) b o) → IfSome o (λ k. place + k < length input)
-mark_inside input place start taken i None within is lies mark = tt
-mark_inside input place start taken i (Some k) within is lies mark = let l = least_item i is in place_inside input place start taken i (Some k) within is lies mark k (mark l.0 l.1)
 
 pub value_marked : (n : ℕ) (input : List ℕ) (place : ℕ) (v : Elements) (m : Option ℕ) → depth v ≤ 32 → HasMark n input place (events v ++ closing n ∷ []) m → (b : List ℕ) → IsLeast (SpellsOpen 32 n v) b → IsMark (take place input) b m
 value_marked n input place v m deep h b p = by_least (SpellsOpen 32 n v) h.least b (take place input) m (least_open 32 n v h.least deep h.is_least) h.is_mark p

@@ -20,7 +20,7 @@ use Rattle.bac_value.specs.PrimContents.{ContentsOf}
 use Rattle.bac_data.specs.Events.{Event, application, contextual, opening, closing, SpellsEvent}
 use Rattle.bac_data.specs.Reading.{MayStand, SpellsStanding, next_heads}
 use Rattle.bac_data.specs.Under.{Under, HasContents}
-use Rattle.bac_data.proofs.HeadLemmas.{headed, event_headed}
+use Rattle.bac_data.specs.Laws.Heads.{headed, event_headed}
 use Rattle.bac_data.proofs.NextHeadLemmas.{application_head, context_head, opening_head, closing_head, application_fits, boolean_fits, context_fits, closing_fits, opening_fits}
 
 module _ (room : Bool) (number : ℕ) where
@@ -169,7 +169,3 @@ some_heads true number count heads e (inl (r, n)) = rw (e, n) refl
 some_heads false number count heads e (inr (r, n)) = rw (e, n) refl
 some_heads true number count heads e (inr (r, n)) = absurd (let i : true ≡ false = r in cc)
 some_heads false number count heads e (inl (r, n)) = absurd (let i : false ≡ true = r in cc)
-
--- a head has an octet
-pub head_some : (head : TagHead) (b : List ℕ) → Heads head b → 0 < length b
-head_some head b h = omega (arith, ap length h.octets, length-append h.front h.back, ap length h.opening.octets)

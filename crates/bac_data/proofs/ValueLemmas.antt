@@ -19,13 +19,13 @@ use Rattle.bac_data.proofs.LeastLemmas.{least_open, least_none}
 
 -- ---- what is spelled has a least spelling
 
-least_joined : {P Q : List ℕ → Type 0} {a b : List ℕ} → IsLeast P a → IsLeast Q b → IsLeast (Joins P Q) (a ++ b)
+pub least_joined : {P Q : List ℕ → Type 0} {a b : List ℕ} → IsLeast P a → IsLeast Q b → IsLeast (Joins P Q) (a ++ b)
 least_joined {P} {Q} {a} {b} L M = record {
   member = record { front = a; back = b; first = L.member; second = M.member; octets = refl };
   least = λ c j. subst (NoGreater (a ++ b)) (sym j.octets) (NoGreater-append a j.front b j.back (L.least j.front j.first) (M.least j.back j.second));
 }
 
-least_event : (e : Event) (b : List ℕ) → SpellsEvent e b → (w : List ℕ) × IsLeast (SpellsEvent e) w
+pub least_event : (e : Event) (b : List ℕ) → SpellsEvent e b → (w : List ℕ) × IsLeast (SpellsEvent e) w
 least_event (application prim) b (inl p) =
     let l = some_least (AppBool p.value.0) tt tt in
     (l.0, subst (λ (k : PrimitiveValue). IsLeast (SpellsPrimitive k) l.0) (sym p.is) (least_boolean_of p.value l.0 l.1))
@@ -39,7 +39,7 @@ least_event (contextual number octets) b p =
 least_event (opening number) b p = some_least (Open number) p.valid tt
 least_event (closing number) b p = some_least (Close number) p.valid tt
 
-least_events : (es : List Event) (b : List ℕ) → SpellsEvents es b → (w : List ℕ) × IsLeast (SpellsEvents es) w
+pub least_events : (es : List Event) (b : List ℕ) → SpellsEvents es b → (w : List ℕ) × IsLeast (SpellsEvents es) w
 least_events [] b p = ([], least_none [] refl)
 least_events (e ∷ es) b p =
     let first = least_event e p.front p.first in
@@ -118,7 +118,7 @@ mutual
   element_value (context number octets) b p = (p.headed.valid, p.within)
   element_value (group number inner) b p = (p.first.valid, elements_value inner p.second.front p.second.first)
 
-  elements_value : (v : Elements) (b : List ℕ) → SpellsAll v b → AreElements v
+  pub elements_value : (v : Elements) (b : List ℕ) → SpellsAll v b → AreElements v
   elements_value none b p = tt
   elements_value (more e rest) b p = (element_value e p.front p.first, elements_value rest p.back p.second)
 

@@ -2,11 +2,9 @@ pub mod OpenValue
 pub mod Spells
 pub mod Parts
 pub mod Events
-pub mod Nodes
-pub mod Endings
+pub mod Held
 pub mod Walks
 pub mod Building
-pub mod Adding
 pub mod Refusals
 pub mod Under
 pub mod Reading

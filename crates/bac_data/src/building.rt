@@ -1,22 +1,22 @@
 //! Building an open value, event by event.
 
-ghost use Rattle.std.specs.Prelude.{◌≡◌, ◌≢◌, ◌<◌, ◌≤◌, ◌↔◌, ◌⊎◌, ℕ, [], ◌∷◌, ◌++◌, take, length, IfOk, IfErr, IsOk, IsTrue, OnOk, OnErr, IsErrOf};
+ghost use Rattle.std.specs.Prelude.{◌≡◌, ◌≢◌, ◌<◌, ◌↔◌, ◌⊎◌, ℕ, [], ◌∷◌, ◌++◌, length, IfOk, IfErr, IsOk, OnOk, OnErr, IsErrOf};
 ghost use Rattle.bac_data.specs.Events.{application, contextual, opening, closing, events};
-ghost use Rattle.bac_data.specs.Building.{HasOpen, IsInnermost, IsPlace, MayFollow};
-ghost use Rattle.bac_data.specs.Reading.{item_event, IsItem};
+ghost use Rattle.bac_data.specs.Building.{HasOpen, IsInnermost};
+ghost use Rattle.bac_data.specs.Held.{Holds, Holds-prop};
 
 use crate::build_faults::BuildFault;
-use crate::items::Item;
-use crate::nodes::{Node, append_application, append_context, append_primitive};
 use crate::open_value::Any;
+use crate::writing::{append_context, append_primitive};
 use arrayvec::ArrayVec;
-use bac_tag::OutOfMemory;
+use bac_tag::layers::append_head;
+use bac_tag::{OutOfMemory, TagHead};
 use bac_value::{Octets, Prim, Primitive};
 use std::alloc::Global;
 use std::marker::Model;
 
 /// How many groups nest at most.
-const MAX_GROUPS: usize = 32;
+pub(crate) const MAX_GROUPS: usize = 32;
 
 /// An open value (clause 20.2) that is being built, event by event. After each fault it is as it was.
 ///
@@ -35,27 +35,30 @@ const MAX_GROUPS: usize = 32;
 /// ```
 #[derive(Debug, Drop)]
 pub struct AnyBuilder {
+    /// The canonical octets of the events so far.
     octets: Vec<u8>,
-    nodes: Vec<Node>,
-    /// The indices of the nodes that begin the open groups, the outermost first.
-    groups: ArrayVec<usize, MAX_GROUPS>,
+    /// How many events there are.
+    count: usize,
+    /// The numbers of the open groups, the outermost first.
+    groups: ArrayVec<u8, MAX_GROUPS>,
+    ghost told: { Holds octets.items } by { Holds-prop octets.items },
 }
 
 impl Model for AnyBuilder {
     ghost use Rattle.std.specs.Prelude.{List};
     ghost use Rattle.std.specs.Coded.{coded_list};
     ghost use Rattle.bac_data.specs.Events.{Event};
+    ghost use Rattle.bac_data.specs.Held.{held_events};
     ghost use Rattle.bac_data.specs.Laws.Events.{event_code};
-    ghost use Rattle.bac_data.specs.Nodes.{nodes_events};
     ghost use Rattle.bac_data.specs.Building.{IsBuilding};
 
     ghost Value = { List Event };
 
     ghost coded = { coded_list event_code };
 
-    ghost view = { λ builder. nodes_events builder.octets.items builder.nodes.items };
+    ghost view = { λ builder. held_events builder.octets.items builder.told };
 
-    ghost invariant = { λ builder. IsBuilding builder.octets.items builder.nodes.items builder.groups.items };
+    ghost invariant = { λ builder. IsBuilding (held_events builder.octets.items builder.told) builder.octets.items builder.count builder.groups.items };
 }
 
 impl AnyBuilder {
@@ -69,7 +72,7 @@ impl AnyBuilder {
         // room for a small value, as most are
         Ok(AnyBuilder {
             octets: Vec::with_capacity(alloc, 64)?,
-            nodes: Vec::with_capacity(alloc, 8)?,
+            count: 0,
             groups: ArrayVec::new(),
         })
     }
@@ -82,7 +85,11 @@ impl AnyBuilder {
         ensures ok { OnOk result (self.new ≡ self.old ++ application prim ∷ []) }
         ensures err { IfErr result (λ back. (back.0 ≡ prim) × (back.1 ≡ BuildFault.OutOfMemory) × (self.new ≡ self.old)) }
     {
-        append_primitive(&mut self.octets, &mut self.nodes, prim)
+        if append_primitive(&prim, &mut self.octets).is_err() {
+            return Err((prim, BuildFault::OutOfMemory));
+        }
+        self.count += 1;
+        Ok(())
     }
 
     /// Appends a context primitive (clause 20.2.1.5) with this number, at most 254, and a copy of these contents, at
@@ -107,7 +114,11 @@ impl AnyBuilder {
         if octets.len() > Octets::LONGEST {
             return Err(BuildFault::TooLong);
         }
-        append_context(&mut self.octets, &mut self.nodes, number, octets)
+        if append_context(number, octets, &mut self.octets).is_err() {
+            return Err(BuildFault::OutOfMemory);
+        }
+        self.count += 1;
+        Ok(())
     }
 
     /// Begins a group with this number, at most 254 (clause 20.2.1.3.2).
@@ -131,13 +142,11 @@ impl AnyBuilder {
         if self.groups.len() >= MAX_GROUPS {
             return Err(BuildFault::Depth);
         }
-        let opening = self.nodes.len();
-        // `close` sets the index
-        let node = Node::Open { number, closing: 0 };
-        if self.nodes.push(node).is_err() {
+        if append_head(TagHead::Open(number), &mut self.octets).is_err() {
             return Err(BuildFault::OutOfMemory);
         }
-        self.groups.push(opening);
+        self.groups.push(number);
+        self.count += 1;
         Ok(())
     }
 
@@ -157,55 +166,13 @@ impl AnyBuilder {
         if self.groups.is_empty() {
             return Err(BuildFault::NothingOpen);
         }
-        let opening = self.groups[self.groups.len() - 1];
-        let number = self.nodes[opening].number();
-        let closing = self.nodes.len();
-        if self.nodes.push(Node::Close(number)).is_err() {
+        let number = self.groups[self.groups.len() - 1];
+        if append_head(TagHead::Close(number), &mut self.octets).is_err() {
             return Err(BuildFault::OutOfMemory);
         }
-        self.nodes[opening] = Node::Open { number, closing };
         self.groups.pop();
+        self.count += 1;
         Ok(())
-    }
-
-    /// Whether another group may begin, and the number of the innermost open group: where none is open, that of
-    /// the value, which is handed in.
-    pub(crate) fn place(&self, number: u8) -> (bool, u8)
-        requires { number ≤ 254 }
-        ensures place { IsPlace 32 number self.now result.0 result.1 }
-        ensures small { result.1 ≤ 254 }
-    {
-        let room = self.groups.len() < MAX_GROUPS;
-        match self.groups.as_slice() {
-            [] => (room, number),
-            [.., innermost] => (room, self.nodes[*innermost].number()),
-        }
-    }
-
-    /// Whether no group is open.
-    pub(crate) fn is_complete(&self) -> bool
-        ensures { IsTrue result ↔ HasOpen 32 self.now 0 }
-    {
-        self.groups.is_empty()
-    }
-
-    /// Appends what stands next.
-    pub(crate) fn take(&mut self, item: Item<'_>) -> Result<(), BuildFault>
-        requires item { IsItem item }
-        requires follows { MayFollow 32 self.old (item_event item) }
-        ensures ok { OnOk result (self.new ≡ self.old ++ item_event item.entry ∷ []) }
-    {
-        match item {
-            Item::Boolean(bit) => {
-                append_application(&mut self.octets, &mut self.nodes, 1, &[u8::from(bit)])
-            }
-            Item::Application { number, contents } => {
-                append_application(&mut self.octets, &mut self.nodes, number, contents)
-            }
-            Item::Context { number, octets } => self.push_ctx(number, octets),
-            Item::Open(number) => self.open(number),
-            Item::Close(_) => self.close(),
-        }
     }
 
     /// Returns the value with the events so far. It takes no memory.
@@ -220,6 +187,6 @@ impl AnyBuilder {
         if !self.groups.is_empty() {
             return Err((self, BuildFault::StillOpen));
         }
-        Ok(Any::of_nodes(self.octets, self.nodes))
+        Ok(Any::of_octets(self.octets, self.count))
     }
 }

@@ -9,7 +9,6 @@ mod build_faults;
 mod building;
 mod items;
 pub mod laws;
-mod nodes;
 mod open_value;
 mod reading;
 mod walking;

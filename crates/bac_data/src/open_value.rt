@@ -2,14 +2,13 @@
 
 ghost use Rattle.std.specs.Prelude.{◌≡◌, ◌≤◌, ◌↔◌, IsTrue, ℕ, List, [], length};
 ghost use Rattle.std.specs.Cmp.{partial_equiv_from_equiv};
+ghost use Rattle.bac_tag.specs.Spelling.{IsLeast};
 ghost use Rattle.bac_data.specs.OpenValue.{depth, IsOpenValue};
 ghost use Rattle.bac_data.specs.Spells.{SpellsAll};
-ghost use Rattle.bac_data.specs.Events.{events, Opens};
-ghost use Rattle.bac_data.specs.Nodes.{nodes_events, AreNodes};
-ghost use Rattle.bac_data.specs.Endings.{HoldEndings};
+ghost use Rattle.bac_data.specs.Events.{Event as EventOf, events, Opens, SpellsEvents};
+ghost use Rattle.bac_data.specs.Held.{Holds, Holds-prop};
 ghost use Rattle.bac_data.specs.Same.{same_values, same_values_equiv};
 
-use crate::nodes::{Node, is_held_alike};
 use crate::walking::{Event, Events};
 use std::alloc::AllocError;
 use std::marker::Model;
@@ -19,8 +18,11 @@ use std::marker::Model;
 /// most 1,048,576 octets, and at most 32 groups nest.
 #[derive(Debug)]
 pub struct Any {
+    /// The canonical octets of its events.
     octets: Vec<u8>,
-    nodes: Vec<Node>,
+    /// How many events it has.
+    count: usize,
+    ghost told: { Holds octets.items } by { Holds-prop octets.items },
 }
 
 impl Drop for Any {
@@ -29,26 +31,26 @@ impl Drop for Any {
     fn drop(self) {
         let Any {
             octets: _,
-            nodes: _,
+            count: _,
         } = self;
     }
 }
 
 impl Model for Any {
-    ghost use Rattle.std.specs.Prelude.{[]};
+    ghost use Rattle.std.specs.Prelude.{◌≡◌, [], length};
+    ghost use Rattle.bac_tag.specs.Spelling.{IsLeast};
     ghost use Rattle.bac_data.specs.OpenValue.{Elements};
+    ghost use Rattle.bac_data.specs.Held.{held_events};
     ghost use Rattle.bac_data.specs.Laws.Events.{elements_code, value_of_events};
-    ghost use Rattle.bac_data.specs.Nodes.{nodes_events, AreNodes};
-    ghost use Rattle.bac_data.specs.Events.{Opens};
-    ghost use Rattle.bac_data.specs.Endings.{HoldEndings};
+    ghost use Rattle.bac_data.specs.Events.{Opens, SpellsEvents};
 
     ghost Value = { Elements };
 
     ghost coded = { elements_code };
 
-    ghost view = { λ any. value_of_events (nodes_events any.octets.items any.nodes.items) };
+    ghost view = { λ any. value_of_events (held_events any.octets.items any.told) };
 
-    ghost invariant = { λ any. AreNodes any.octets.items 0 any.nodes.items × Opens 32 [] (nodes_events any.octets.items any.nodes.items) [] × HoldEndings 0 any.nodes.items };
+    ghost invariant = { λ any. IsLeast (SpellsEvents (held_events any.octets.items any.told)) any.octets.items × Opens 32 [] (held_events any.octets.items any.told) [] × (any.count ≡ length (held_events any.octets.items any.told)) };
 }
 
 /// A walk over the value, as [`Any::events`] gives it.
@@ -77,7 +79,7 @@ impl PartialEq for Any {
         ensures answer { result ≡ same_values self.now other.now }
         ensures same { IsTrue result ↔ (self.now ≡ other.now) }
     {
-        is_held_alike(&self.octets, &self.nodes, &other.octets, &other.nodes)
+        self.octets == other.octets
     }
 }
 
@@ -94,30 +96,29 @@ impl Clone for Any {
     fn clone(&self) -> Result<Any, AllocError> {
         let alloc = *self.octets.allocator();
         let octets = Vec::from_slice(alloc, &self.octets)?;
-        let nodes = Vec::from_slice(alloc, &self.nodes)?;
-        Ok(Any { octets, nodes })
+        Ok(Any {
+            octets,
+            count: self.count,
+        })
     }
 }
 
 impl Any {
-    /// The value of nodes in which each group that is opened is closed, and each opening holds the index of its
-    /// closing.
-    pub(crate) fn of_nodes(octets: Vec<u8>, nodes: Vec<Node>) -> Any
-        requires nodes { AreNodes octets.items 0 nodes.items }
-        requires closed { Opens 32 [] (nodes_events octets.items nodes.items) [] }
-        requires endings { HoldEndings 0 nodes.items }
-        ensures { events result ≡ nodes_events octets.items nodes.items }
+    /// The value with so many events, of which these are the canonical octets.
+    pub(crate) fn of_octets(octets: Vec<u8>, count: usize) -> Any
+        requires { (es : List EventOf) × IsLeast (SpellsEvents es) octets.items × Opens 32 [] es [] × (count ≡ length es) }
+        ensures { (es : List EventOf) → IsLeast (SpellsEvents es) octets.items → events result ≡ es }
     {
-        Any { octets, nodes }
+        Any { octets, count }
     }
 
-    /// The contents of its primitives, joined, and its nodes.
-    pub(crate) fn parts(&self) -> (&[u8], &[Node])
-        ensures nodes { AreNodes result.0.now 0 result.1.now }
-        ensures events { nodes_events result.0.now result.1.now ≡ events self.now }
+    /// The canonical octets of its events.
+    #[inline(always)]
+    pub(crate) fn octets(&self) -> &[u8]
+        ensures least { IsLeast (SpellsEvents (events self.now)) result.now }
         ensures depth { depth self.now ≤ 32 }
     {
-        (&self.octets, &self.nodes)
+        &self.octets
     }
 
     /// Returns a walk over the events of the value, in their order. The tags around the value are none of them. The
@@ -140,7 +141,7 @@ impl Any {
         ensures events { result ≡ events self.now }
         ensures value { IsOpenValue 32 self.now }
     {
-        Events::over(&self.octets, &self.nodes)
+        Events::over(&self.octets, self.count)
     }
 
     /// Returns how many events a walk over the value has. They are no more than the octets between the tags of any
@@ -149,6 +150,6 @@ impl Any {
         ensures count { result ≡ length (events self.now) }
         ensures most { (b : List ℕ) → SpellsAll self.now b → result ≤ length b }
     {
-        self.nodes.len()
+        self.count
     }
 }

@@ -1,21 +1,43 @@
 //! Reading an open value.
 
-ghost use Rattle.std.specs.Prelude.{◌≡◌, ◌≢◌, ◌≤◌, ◌↔◌, IsTrue, ℕ, List, take, IfOk, IfErr};
-ghost use Rattle.bac_tag.specs.Octets.{IsMark};
+ghost use Rattle.std.specs.Prelude.{◌≡◌, ◌≢◌, ◌≤◌, ◌<◌, ◌+◌, ◌^◌, ◌↔◌, ◌∷◌, ◌++◌, [], IsTrue, ℕ, List, Option, None, Some, Ok, length, reverse, take, drop, IfOk, IfErr, OnOk};
+ghost use Rattle.std.specs.List.{AllByRecursion};
+ghost use Rattle.bac_tag.specs.Octets.{IsMark, joined_mark};
 ghost use Rattle.bac_tag.specs.Spelling.{IsLeast, IsRefusal, Takes};
+ghost use Rattle.bac_tag.specs.Heads.{Heads};
 ghost use Rattle.bac_data.specs.Spells.{SpellsOpen};
-ghost use Rattle.bac_data.specs.Events.{closing};
-ghost use Rattle.bac_data.specs.Reading.{item_event};
+ghost use Rattle.bac_data.specs.Events.{Event, closing, events, SpellsEvent, SpellsEvents};
+ghost use Rattle.bac_data.specs.Reading.{item_event, item_contents, item_head, IsItem};
 ghost use Rattle.bac_data.specs.Refusals.{IsOpenValueReason, IsTooDeep};
+ghost use Rattle.bac_data.specs.Building.{AreOpen, Keeps, MayFollow, closing_number};
 
-use crate::building::AnyBuilder;
+use crate::building::MAX_GROUPS;
 use crate::items::{Item, mark_item, read_item};
 use crate::open_value::Any;
+use crate::writing::append_item;
+use arrayvec::ArrayVec;
 use bac_tag::layers::{Expected, joined_marks, mark_read_head, read_expected};
-use bac_tag::{Refusal, TagHead, Why};
+use bac_tag::{OutOfMemory, Refusal, TagHead, Why};
 use std::alloc::Global;
 
+/// Whether another group may begin inside these open ones, and the number of the innermost: where none is open, that of
+/// the value.
+#[inline(always)]
+fn place_in(groups: &ArrayVec<u8, MAX_GROUPS>, number: u8) -> (bool, u8)
+    requires number { number ≤ 254 }
+    requires numbers { AllByRecursion (λ group. group ≤ 254) groups.now.items }
+    ensures room { IsTrue result.0 ↔ (length groups.now.items < 32) }
+    ensures closing { result.1 ≡ closing_number number (reverse groups.now.items) }
+    ensures small { result.1 ≤ 254 }
+{
+    match groups.as_slice() {
+        [] => (true, number),
+        [.., innermost] => (groups.len() < MAX_GROUPS, *innermost),
+    }
+}
+
 /// Whether the item is the end of a group with this number.
+#[inline(always)]
 fn ends(item: Item<'_>, number: u8) -> bool
     ensures { IsTrue result ↔ (item_event item.entry ≡ closing number) }
 {
@@ -25,51 +47,88 @@ fn ends(item: Item<'_>, number: u8) -> bool
     }
 }
 
-/// The open value at the front of the octets, how many octets it takes, and where marks are asked for its mark.
-fn read_value(
-    alloc: Global,
-    octets: &[u8],
-    number: u8,
-    marks: bool,
-) -> Result<(Any, usize, Option<usize>), Refusal>
-    requires { number ≤ 254 }
-    ensures found { IfOk result (λ found. Takes (SpellsOpen 32 number) octets.now (found.0, found.1)) }
-    ensures mark { IfOk result (λ found. IsTrue marks → (b : List ℕ) → IsLeast (SpellsOpen 32 number found.0) b → IsMark (take found.1 octets.now) b found.2) }
-    ensures refused { IfErr result (λ refusal. refusal.why ≢ Why.OutOfMemory → IsRefusal (SpellsOpen 32 number) octets.now refusal) }
-    ensures memory { IfErr result (λ refusal. refusal.why ≡ Why.OutOfMemory → refusal.place ≡ 0) }
-    ensures depth { IfErr result (λ refusal. refusal.why ≡ Why.Depth → IsTooDeep 32 number octets.now refusal.place) }
-    ensures reasons { IfErr result (λ refusal. IsOpenValueReason refusal.why) }
+/// Opens or closes a group, where the item does that.
+#[inline(always)]
+fn follow(groups: &mut ArrayVec<u8, MAX_GROUPS>, item: Item<'_>)
+    requires item { IsItem item }
+    requires follows { (es : List Event) × AreOpen es groups.old.items × MayFollow 32 es (item_event item) }
+    ensures { (es : List Event) → AreOpen es groups.old.items → MayFollow 32 es (item_event item.entry) → AreOpen (es ++ item_event item.entry ∷ []) groups.new.items }
 {
-    let (opening, mut place) = read_expected(octets, Expected::Open(Some(number)))?;
-    let mut mark = if marks {
-        mark_read_head(&octets[..place], opening, TagHead::Open(number))
-    } else {
-        None
-    };
-    let Ok(mut builder) = AnyBuilder::new(alloc) else {
-        return Err(Refusal::out_of_memory());
-    };
-    loop {
-        let (room, closing) = builder.place(number);
-        let (item, start, taken) = match read_item(&octets[place..], room, closing) {
-            Ok(found) => found,
-            Err(refusal) => return Err(refusal.behind(place)),
-        };
-        // Behind the first difference none is looked for.
-        if marks && mark.is_none() {
-            mark = joined_marks(mark, place, mark_item(&octets[place..place + start], item));
+    match item {
+        Item::Open(number) => groups.push(number),
+        Item::Close(_) => {
+            groups.pop();
         }
-        place += taken;
-        if builder.is_complete() && ends(item, number) {
-            return match builder.finish() {
-                Ok(value) => Ok((value, place, mark)),
-                Err(_) => Err(Refusal::out_of_memory()),
-            };
-        }
-        if builder.take(item).is_err() {
-            return Err(Refusal::out_of_memory());
-        }
+        _ => {}
     }
+}
+
+/// The mark behind an item, of which the head has these octets: behind the first difference none is looked for.
+#[inline(always)]
+fn mark_behind(mark: Option<usize>, place: usize, head: &[u8], item: Item<'_>) -> Option<usize>
+    requires item { IsItem item }
+    requires headed { Heads (item_head item) head.now }
+    requires fits { place + (length head.now + length (item_contents item)) < 2 ^ 64 }
+    ensures { (own : Option ℕ) × (mark ≡ None → (b : List ℕ) → IsLeast (SpellsEvent (item_event item.entry)) b → IsMark (head.now ++ item_contents item.entry) b own) × (result ≡ joined_mark mark place own) }
+{
+    match mark {
+        None => joined_marks(None, place, mark_item(head, item)),
+        Some(_) => mark,
+    }
+}
+
+/// Keeps an item, where its octets or those of an item in front of it are not the canonical ones. `front` are the octets
+/// of those in front, of which nothing is kept while all are canonical.
+#[inline(always)]
+fn keep(
+    front: &[u8],
+    before: Option<usize>,
+    behind: Option<usize>,
+    item: Item<'_>,
+    kept: &mut Vec<u8>,
+) -> Result<(), OutOfMemory>
+    requires item { IsItem item }
+    requires front { (es : List Event) × Keeps before es kept.old.items × (before ≡ None → IsLeast (SpellsEvents es) front.now) }
+    requires marks { behind ≡ None → before ≡ None }
+    ensures { OnOk result ((es : List Event) → Keeps before es kept.old.items → (before ≡ None → IsLeast (SpellsEvents es) front.now) → Keeps behind (es ++ item_event item.entry ∷ []) kept.new.items) }
+{
+    if behind.is_none() {
+        return Ok(());
+    }
+    if before.is_none() {
+        begin(front, kept)?;
+    }
+    append_item(item, kept)
+}
+
+/// Room for what follows the first octet that is not canonical. Most values have less.
+const ROOM: usize = 48;
+
+/// Keeps the octets of the items in front of the first that is not canonical.
+fn begin(front: &[u8], kept: &mut Vec<u8>) -> Result<(), OutOfMemory>
+    ensures { OnOk result (kept.new.items ≡ kept.old.items ++ front.now) }
+{
+    kept.reserve(front.len().saturating_add(ROOM))?;
+    kept.extend_from_slice(front)?;
+    Ok(())
+}
+
+/// The value with so many events, whose octets these are. They are the canonical ones where nothing is kept.
+#[inline(always)]
+fn finish(
+    front: &[u8],
+    mark: Option<usize>,
+    kept: Vec<u8>,
+    count: usize,
+) -> Result<Any, OutOfMemory>
+    requires { (es : List Event) × Keeps mark es kept.items × (mark ≡ None → IsLeast (SpellsEvents es) front.now) × AreOpen es [] × (count ≡ length es) }
+    ensures { IfOk result (λ value. (es : List Event) → Keeps mark es kept.items → (mark ≡ None → IsLeast (SpellsEvents es) front.now) → events value ≡ es) }
+{
+    let mut octets = kept;
+    if mark.is_none() {
+        octets.extend_from_slice(front)?;
+    }
+    Ok(Any::of_octets(octets, count))
 }
 
 /// Reads the open value (clause 20.2) at the front of the octets, in any tolerated spelling. Returns it, and how
@@ -111,7 +170,7 @@ pub fn read_any(alloc: Global, octets: &[u8], number: u8) -> Result<(Any, usize)
     ensures depth { IfErr result (λ refusal. refusal.why ≡ Why.Depth → IsTooDeep 32 number octets.now refusal.place) }
     ensures reasons { IfErr result (λ refusal. IsOpenValueReason refusal.why) }
 {
-    let (value, taken, _) = read_value(alloc, octets, number, false)?;
+    let (value, taken, _) = read_any_marked(alloc, octets, number)?;
     Ok((value, taken))
 }
 
@@ -134,5 +193,32 @@ pub fn read_any_marked(
     ensures depth { IfErr result (λ refusal. refusal.why ≡ Why.Depth → IsTooDeep 32 number octets.now refusal.place) }
     ensures reasons { IfErr result (λ refusal. IsOpenValueReason refusal.why) }
 {
-    read_value(alloc, octets, number, true)
+    let (opening, start) = read_expected(octets, Expected::Open(Some(number)))?;
+    let mut mark = mark_read_head(&octets[..start], opening, TagHead::Open(number));
+    let mut groups = ArrayVec::new();
+    let mut kept = Vec::new(alloc);
+    let mut count = 0;
+    let mut place = start;
+    loop {
+        let (room, closing) = place_in(&groups, number);
+        let (item, head, taken) = match read_item(&octets[place..], room, closing) {
+            Ok(found) => found,
+            Err(refusal) => return Err(refusal.behind(place)),
+        };
+        let front = &octets[start..place];
+        let behind = mark_behind(mark, place, &octets[place..place + head], item);
+        if groups.is_empty() && ends(item, number) {
+            return match finish(front, mark, kept, count) {
+                Ok(value) => Ok((value, place + taken, behind)),
+                Err(_) => Err(Refusal::out_of_memory()),
+            };
+        }
+        if keep(front, mark, behind, item, &mut kept).is_err() {
+            return Err(Refusal::out_of_memory());
+        }
+        follow(&mut groups, item);
+        mark = behind;
+        count += 1;
+        place += taken;
+    }
 }

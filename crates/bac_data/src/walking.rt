@@ -1,12 +1,16 @@
 //! The events of a walk over an open value, one after another.
 
-ghost use Rattle.std.specs.Prelude.{◌≡◌, length};
+ghost use Rattle.std.specs.Prelude.{◌≡◌, ◌≤◌, ◌∷◌, List, ℕ, drop, length, IfSome};
 ghost use Rattle.std.specs.Iterator.{item_count};
-ghost use Rattle.bac_data.specs.Nodes.{node_event, nodes_events, IsWithin, IsNode, AreNodes};
+ghost use Rattle.bac_tag.specs.Heads.{Heads};
+ghost use Rattle.bac_tag.specs.Spelling.{IsLeast, Takes};
+ghost use Rattle.bac_data.specs.Events.{Event as EventOf, SpellsEvents};
+ghost use Rattle.bac_data.specs.Held.{Holds, Holds-prop};
 ghost use Rattle.bac_data.specs.Walks.{event_of, IsPackedStep, GivesStep};
 
-use crate::nodes::Node;
-use bac_value::PrimRef;
+use bac_tag::layers::short_len;
+use bac_tag::{TagHead, read_head};
+use bac_value::{Boolean, PrimRef};
 use std::marker::Model;
 
 /// One step of a walk over an open value: a primitive, or the opening or closing tag of a group (clause 20.2.1).
@@ -26,51 +30,96 @@ pub enum Event<'a> {
 /// A walk over an open value, which gives its events one after another. It takes no memory.
 #[derive(Debug, Drop)]
 pub struct Events<'a> {
+    /// The canonical octets of the events that are left.
     octets: &'a [u8],
-    nodes: &'a [Node],
+    /// How many are left.
+    count: usize,
+    ghost told: { Holds octets.now } by { Holds-prop octets.now },
 }
 
 impl<'a> Model for Events<'a> {
-    ghost use Rattle.std.specs.Prelude.{ℕ, List};
+    ghost use Rattle.std.specs.Prelude.{◌≡◌, List, length};
     ghost use Rattle.std.specs.Coded.{coded_list};
-    ghost use Rattle.bac_data.specs.Events.{Event};
+    ghost use Rattle.bac_tag.specs.Spelling.{IsLeast};
+    ghost use Rattle.bac_data.specs.Events.{Event, SpellsEvents};
+    ghost use Rattle.bac_data.specs.Held.{held_events};
     ghost use Rattle.bac_data.specs.Laws.Events.{event_code};
-    ghost use Rattle.bac_data.specs.Nodes.{nodes_events, AreNodes};
 
     ghost Value = { List Event };
 
     ghost coded = { coded_list event_code };
 
-    ghost view = { λ walk. nodes_events walk.octets.now walk.nodes.now };
+    ghost view = { λ walk. held_events walk.octets.now walk.told };
 
-    ghost invariant = { λ walk. (place : ℕ) × AreNodes walk.octets.now place walk.nodes.now };
+    ghost invariant = { λ walk. IsLeast (SpellsEvents (held_events walk.octets.now walk.told)) walk.octets.now × (walk.count ≡ length (held_events walk.octets.now walk.told)) };
 }
 
 impl<'a> Events<'a> {
-    /// The walk over nodes, whose contents these octets have.
-    pub(crate) fn over(octets: &'a [u8], nodes: &'a [Node]) -> Events<'a>
-        requires { AreNodes octets.now 0 nodes.now }
-        ensures { result ≡ nodes_events octets.now nodes.now }
+    /// The walk over so many events, of which these are the canonical octets.
+    pub(crate) fn over(octets: &'a [u8], count: usize) -> Events<'a>
+        requires { (es : List EventOf) × IsLeast (SpellsEvents es) octets.now × (count ≡ length es) }
+        ensures { (es : List EventOf) → IsLeast (SpellsEvents es) octets.now → result ≡ es }
     {
-        Events { octets, nodes }
+        Events { octets, count }
     }
 }
 
-/// The step that a node is, with the contents among these octets.
-fn step_of(octets: &[u8], node: Node) -> Event<'_>
-    requires within { IsWithin (length octets.now) node }
-    requires node { IsNode octets.now node }
-    ensures event { event_of result ≡ node_event octets.now node }
-    ensures packed { IsPackedStep result }
+/// The head at the front of the octets, where it is that of an application primitive and has one octet, as most have.
+#[inline(always)]
+fn short_head(octets: &[u8]) -> Option<TagHead>
+    ensures { IfSome result (λ head. Takes Heads octets.now (head, 1)) }
 {
-    match node {
-        Node::Application { number, start, end } => {
-            Event::App(PrimRef::of_contents(number, &octets[start..end]))
-        }
-        Node::Context { number, start, end } => Event::Ctx(number, &octets[start..end]),
-        Node::Open { number, .. } => Event::Open(number),
-        Node::Close(number) => Event::Close(number),
+    let number = *octets.first()? >> 4;
+    if number > 12 || number == 1 {
+        return None;
     }
+    let len = short_len(octets, false, number)? as u32;
+    Some(TagHead::App { number, len })
+}
+
+/// The first of the events of which these are the canonical octets, where its head was read, which takes so many of
+/// them; and how many octets it takes.
+#[inline(always)]
+fn event_under(head: TagHead, start: usize, octets: &[u8]) -> (Event<'_>, usize)
+    requires taken { Takes Heads octets.now (head, start) }
+    requires held { (e : EventOf) × (es : List EventOf) × IsLeast (SpellsEvents (e ∷ es)) octets.now }
+    ensures within { result.1 ≤ length octets.now }
+    ensures event { (e : EventOf) (es : List EventOf) → IsLeast (SpellsEvents (e ∷ es)) octets.now → event_of result.0 ≡ e }
+    ensures others { (e : EventOf) (es : List EventOf) → IsLeast (SpellsEvents (e ∷ es)) octets.now → IsLeast (SpellsEvents es) (drop result.1 octets.now) }
+    ensures packed { IsPackedStep result.0 }
+{
+    match head {
+        TagHead::App { number, len } => {
+            let end = start + len as usize;
+            let contents = &octets[start..end];
+            (Event::App(PrimRef::of_contents(number, contents)), end)
+        }
+        TagHead::AppBool(bit) => (Event::App(PrimRef::Boolean(Boolean(bit))), start),
+        TagHead::Ctx { number, len } => {
+            let end = start + len as usize;
+            (Event::Ctx(number, &octets[start..end]), end)
+        }
+        TagHead::Open(number) => (Event::Open(number), start),
+        TagHead::Close(number) => (Event::Close(number), start),
+    }
+}
+
+/// The first of the events of which these are the canonical octets, and how many octets it takes.
+#[inline(always)]
+fn first_event(octets: &[u8]) -> (Event<'_>, usize)
+    requires { (e : EventOf) × (es : List EventOf) × IsLeast (SpellsEvents (e ∷ es)) octets.now }
+    ensures within { result.1 ≤ length octets.now }
+    ensures event { (e : EventOf) (es : List EventOf) → IsLeast (SpellsEvents (e ∷ es)) octets.now → event_of result.0 ≡ e }
+    ensures others { (e : EventOf) (es : List EventOf) → IsLeast (SpellsEvents (e ∷ es)) octets.now → IsLeast (SpellsEvents es) (drop result.1 octets.now) }
+    ensures packed { IsPackedStep result.0 }
+{
+    if let Some(head) = short_head(octets) {
+        return event_under(head, 1, octets);
+    }
+    let Ok((head, start)) = read_head(octets) else {
+        unreachable!()
+    };
+    event_under(head, start, octets)
 }
 
 impl<'a> Iterator for Events<'a> {
@@ -81,12 +130,16 @@ impl<'a> Iterator for Events<'a> {
     ghost remaining = { item_count (λ walk. walk) };
 
     fn next(&mut self) -> Option<Event<'a>> {
-        let (node, others) = self.nodes.split_first()?;
-        self.nodes = others;
-        Some(step_of(self.octets, *node))
+        if self.count == 0 {
+            return None;
+        }
+        let (event, taken) = first_event(self.octets);
+        self.octets = &self.octets[taken..];
+        self.count -= 1;
+        Some(event)
     }
 
     fn size_hint(&self) -> (usize, Option<usize>) {
-        (self.nodes.len(), Some(self.nodes.len()))
+        (self.count, Some(self.count))
     }
 }

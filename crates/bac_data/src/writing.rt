@@ -1,19 +1,22 @@
 //! Writing an open value.
 
-ghost use Rattle.std.specs.Prelude.{◌≡◌, ◌≤◌, ◌++◌, length, OnOk, OnErr};
-ghost use Rattle.std.specs.List.{AllByRecursion};
+ghost use Rattle.std.specs.Prelude.{◌≡◌, ◌≢◌, ◌≤◌, ◌++◌, length, OnOk, OnErr};
 ghost use Rattle.bac_tag.specs.Spelling.{AppendsLeast};
-ghost use Rattle.bac_value.specs.PrimContents.{IsWrittenOf};
+ghost use Rattle.bac_value.specs.OctetStringContents.{IsOctetString};
+ghost use Rattle.bac_value.specs.declared.prim.PrimitiveValue.{PrimitiveValue};
+ghost use Rattle.bac_value.specs.PrimContents.{ContentsOf};
 ghost use Rattle.bac_value.specs.PrimOfContents.{prim_of_contents};
-ghost use Rattle.bac_data.specs.Spells.{SpellsPrimitive, SpellsOpen};
-ghost use Rattle.bac_data.specs.Events.{SpellsEvent, SpellsEvents};
-ghost use Rattle.bac_data.specs.Nodes.{node_event, nodes_events, IsWithin, IsNode};
+ghost use Rattle.bac_data.specs.Spells.{SpellsPrimitive, SpellsContext, SpellsOpen};
+ghost use Rattle.bac_data.specs.Events.{SpellsEvent};
+ghost use Rattle.bac_data.specs.Reading.{item_event, IsItem};
 ghost use Rattle.bac_tag.specs.Octets.{Extends};
 
-use crate::nodes::Node;
+use crate::items::Item;
 use crate::open_value::Any;
 use bac_tag::layers::append_head;
 use bac_tag::{OutOfMemory, TagHead};
+use bac_value::Prim;
+use bac_value::layers::{append_written, written_len_of};
 
 /// Appends contents. Most have one octet to four, which are copied where they stand, without a call.
 #[inline(always)]
@@ -31,67 +34,94 @@ fn append_contents(contents: &[u8], out: &mut Vec<u8>) -> Result<(), OutOfMemory
     Ok(())
 }
 
-/// Appends an application primitive by its number and its written contents. Where memory is refused some
-/// octets may be there.
+/// Appends an application primitive. Where memory is refused some octets may be there.
+fn append_parts(prim: &Prim, out: &mut Vec<u8>) -> Result<(), OutOfMemory>
+    ensures ok { OnOk result (AppendsLeast (SpellsPrimitive prim.now) out.old.items out.new.items) }
+    ensures err { OnErr result (Extends out.old.items out.new.items) }
+{
+    if let Prim::Boolean(value) = prim {
+        return append_head(TagHead::AppBool(value.0), out);
+    }
+    let number = prim.number();
+    let len = prim.written_len() as u32;
+    append_head(TagHead::App { number, len }, out)?;
+    prim.write(out)
+}
+
+/// Appends an application primitive. Where memory is refused `out` stays as it was.
+pub(crate) fn append_primitive(prim: &Prim, out: &mut Vec<u8>) -> Result<(), OutOfMemory>
+    ensures ok { OnOk result (AppendsLeast (SpellsPrimitive prim.now) out.old.items out.new.items) }
+    ensures err { OnErr result (out.new.items ≡ out.old.items) }
+{
+    let start = out.len();
+    let appended = append_parts(prim, out);
+    if appended.is_err() {
+        out.truncate(start);
+    }
+    appended
+}
+
+/// Appends the application primitive with this number and these contents, which may be others than those that are
+/// written. Where memory is refused some octets may be there.
 #[inline]
-fn append_primitive(number: u8, contents: &[u8], out: &mut Vec<u8>) -> Result<(), OutOfMemory>
+fn append_application(number: u8, contents: &[u8], out: &mut Vec<u8>) -> Result<(), OutOfMemory>
     requires number { number ≤ 12 }
-    requires contents { IsWrittenOf number contents.now }
+    requires other { number ≢ 1 }
+    requires contents { (prim : PrimitiveValue) × ContentsOf number prim contents.now }
     ensures ok { OnOk result (AppendsLeast (SpellsPrimitive (prim_of_contents number contents.now)) out.old.items out.new.items) }
     ensures err { OnErr result (Extends out.old.items out.new.items) }
 {
-    if number == 1 {
-        return append_head(TagHead::AppBool(contents[0] == 1), out);
-    }
-    let len = contents.len() as u32;
+    let len = written_len_of(number, contents) as u32;
     append_head(TagHead::App { number, len }, out)?;
+    append_written(number, contents, out)
+}
+
+/// Appends a context primitive. Where memory is refused some octets may be there.
+#[inline]
+fn append_context_parts(number: u8, contents: &[u8], out: &mut Vec<u8>) -> Result<(), OutOfMemory>
+    requires number { number ≤ 254 }
+    requires contents { IsOctetString contents.now }
+    ensures ok { OnOk result (AppendsLeast (SpellsContext number contents.now) out.old.items out.new.items) }
+    ensures err { OnErr result (Extends out.old.items out.new.items) }
+{
+    let len = contents.len() as u32;
+    append_head(TagHead::Ctx { number, len }, out)?;
     append_contents(contents, out)
 }
 
-/// Appends an event. Where memory is refused some octets may be there.
-#[inline]
-fn append_node(octets: &[u8], node: Node, out: &mut Vec<u8>) -> Result<(), OutOfMemory>
-    requires within { IsWithin (length octets.now) node }
-    requires node { IsNode octets.now node }
-    ensures ok { OnOk result (AppendsLeast (SpellsEvent (node_event octets.now node)) out.old.items out.new.items) }
-    ensures err { OnErr result (Extends out.old.items out.new.items) }
+/// Appends a context primitive. Where memory is refused `out` stays as it was.
+pub(crate) fn append_context(
+    number: u8,
+    contents: &[u8],
+    out: &mut Vec<u8>,
+) -> Result<(), OutOfMemory>
+    requires number { number ≤ 254 }
+    requires contents { IsOctetString contents.now }
+    ensures ok { OnOk result (AppendsLeast (SpellsContext number contents.now) out.old.items out.new.items) }
+    ensures err { OnErr result (out.new.items ≡ out.old.items) }
 {
-    match node {
-        Node::Application { number, start, end } => {
-            append_primitive(number, &octets[start..end], out)
-        }
-        Node::Context { number, start, end } => {
-            let contents = &octets[start..end];
-            let len = contents.len() as u32;
-            append_head(TagHead::Ctx { number, len }, out)?;
-            append_contents(contents, out)
-        }
-        Node::Open { number, .. } => append_head(TagHead::Open(number), out),
-        Node::Close(number) => append_head(TagHead::Close(number), out),
+    let start = out.len();
+    let appended = append_context_parts(number, contents, out);
+    if appended.is_err() {
+        out.truncate(start);
     }
+    appended
 }
 
-/// Appends events. Where memory is refused some octets may be there.
+/// Appends what was read, in its canonical octets. Where memory is refused some octets may be there.
 #[inline]
-fn append_nodes(octets: &[u8], nodes: &[Node], out: &mut Vec<u8>) -> Result<(), OutOfMemory>
-    requires within { AllByRecursion (IsWithin (length octets.now)) nodes.now }
-    requires nodes { AllByRecursion (IsNode octets.now) nodes.now }
-    ensures ok { OnOk result (AppendsLeast (SpellsEvents (nodes_events octets.now nodes.now)) out.old.items out.new.items) }
+pub(crate) fn append_item(item: Item<'_>, out: &mut Vec<u8>) -> Result<(), OutOfMemory>
+    requires { IsItem item }
+    ensures ok { OnOk result (AppendsLeast (SpellsEvent (item_event item.entry)) out.old.items out.new.items) }
     ensures err { OnErr result (Extends out.old.items out.new.items) }
 {
-    for node in nodes {
-        append_node(octets, *node, out)?;
+    match item {
+        Item::Boolean(bit) => append_head(TagHead::AppBool(bit), out),
+        Item::Application { number, contents } => append_application(number, contents, out),
+        Item::Context { number, octets } => append_context_parts(number, octets, out),
+        Item::Open(number) => append_head(TagHead::Open(number), out),
+        Item::Close(number) => append_head(TagHead::Close(number), out),
     }
-    Ok(())
-}
-
-/// Room for most values, so that a large one is not copied while the vector grows: for the contents, for two
-/// octets of head each, and for longer heads of a few.
-fn room_for(octets: &[u8], nodes: &[Node]) -> usize {
-    octets
-        .len()
-        .saturating_add(nodes.len().saturating_mul(2))
-        .saturating_add(16)
 }
 
 /// Appends an open value with its tags. Where memory is refused some octets may be there.
@@ -101,10 +131,8 @@ fn append_any(value: &Any, number: u8, out: &mut Vec<u8>) -> Result<(), OutOfMem
     ensures ok { OnOk result (AppendsLeast (SpellsOpen 32 number value.now) out.old.items out.new.items) }
     ensures err { OnErr result (Extends out.old.items out.new.items) }
 {
-    let (octets, nodes) = value.parts();
-    out.reserve(room_for(octets, nodes))?;
     append_head(TagHead::Open(number), out)?;
-    append_nodes(octets, nodes, out)?;
+    out.extend_from_slice(value.octets())?;
     append_head(TagHead::Close(number), out)
 }
 

@@ -4,7 +4,8 @@ use Rattle.std.proofs.lemmas.Result.{err_from_is_err_and}
 use Rattle.bac_tag.specs.declared.heads.TagHead.{TagHead}
 use Rattle.bac_tag.specs.Heads.{Heads}
 use Rattle.bac_data.specs.Reading.{item_event, item_contents}
-use Rattle.bac_data.proofs.StandingLemmas.{refused_head, refused_under, has_contents, taken_under, head_some}
+use Rattle.bac_data.proofs.StandingLemmas.{refused_head, refused_under, has_contents, taken_under}
+use Rattle.bac_data.specs.Laws.Heads.{head_some}
 use Rattle.bac_data.proofs.items.read_item.Goals as goal
 
 pub returns-in_err-head-clause-refused : goal.returns-in_err-head-clause-refused

@@ -1,6 +1,23 @@
-use Rattle.bac_data.specs.declared.build_faults.BuildFault.TheVariants.{OutOfMemory}
-use Rattle.bac_data.proofs.BuildingLemmas.{building_primitive}
+use Rattle.std.proofs.Common.{List, [], ◌∷◌, ◌++◌, refl, ◌∙◌, ap, arith}
+use Rattle.bac_data.specs.Events.{Event, application}
+use Rattle.bac_data.proofs.BuildingLemmas.{same_events, building_kept, holds_more, more_events, building_more, count_below, open_kept}
+use Rattle.bac_data.proofs.ResultLemmas.{went_well, went_wrong}
 use Rattle.bac_data.proofs.building.AnyBuilder.push.Goals as goal
 
 pub invariant_of-self : goal.invariant_of-self
-invariant_of-self c = building_primitive c.append_primitive.result _ _ _ _ _ c.args.prim OutOfMemory c.self.invariant c.append_primitive.ensures.ok c.append_primitive.ensures.err
+invariant_of-self c = building_kept _ _ c.self.inside.told c.self.inside.count c.self.inside.groups.items c.self.invariant _ (went_wrong c.append_primitive.result c.is_err.result c.is_err.ensures.value c.if-is_err.true c.append_primitive.ensures.err)
+
+pub returns-then-is_err-clause-err : goal.returns-then-is_err-clause-err
+returns-then-is_err-clause-err c = (refl, refl, same_events _ _ c.self.inside.told c.self.inside.count c.self.inside.groups.items c.self.invariant _ (went_wrong c.append_primitive.result c.is_err.result c.is_err.ensures.value c.if-is_err.true c.append_primitive.ensures.err) ∙ c.self.view_is)
+
+pub overflow_add-self : goal.overflow_add-self
+overflow_add-self c = let below = count_below _ _ c.self.inside.told c.self.inside.count c.self.inside.groups.items c.self.invariant (application c.args.prim) (went_well c.append_primitive.result c.is_err.result c.is_err.ensures.value c.if-is_err.false c.append_primitive.ensures.ok) in omega (arith, below, c.append_primitive.new.out.small)
+
+pub invariant_of-self-inside-2 : goal.invariant_of-self-inside-2
+invariant_of-self-inside-2 c = (holds_more _ _ c.self.inside.told c.self.inside.count c.self.inside.groups.items c.self.invariant (application c.args.prim) (went_well c.append_primitive.result c.is_err.result c.is_err.ensures.value c.if-is_err.false c.append_primitive.ensures.ok), tt)
+
+pub invariant_of-self-2 : goal.invariant_of-self-2
+invariant_of-self-2 c = building_more _ _ c.self.inside.told c.self.inside.count c.self.inside.groups.items c.self.invariant (application c.args.prim) (went_well c.append_primitive.result c.is_err.result c.is_err.ensures.value c.if-is_err.false c.append_primitive.ensures.ok) _ _ (open_kept _ (application c.args.prim) _ c.self.invariant.are_open (λ s. refl))
+
+pub returns-clause-ok : goal.returns-clause-ok
+returns-clause-ok c = more_events _ _ c.self.inside.told c.self.inside.count c.self.inside.groups.items c.self.invariant (application c.args.prim) (went_well c.append_primitive.result c.is_err.result c.is_err.ensures.value c.if-is_err.false c.append_primitive.ensures.ok) _ ∙ ap (λ (es : List Event). es ++ application c.args.prim ∷ []) c.self.view_is

@@ -1,0 +1,84 @@
+-- What a reader keeps, step by step.
+use Rattle.std.proofs.Common.{◌≡◌, ℕ, ◌+◌, ◌-◌, ◌<◌, ◌≤◌, Bool, true, false, Option, None, Some, List, [], ◌∷◌, ◌++◌, take, drop, length, reverse, refl, sym, ◌∙◌, ap, subst, arith, take-add}
+use Rattle.std.proofs.lemmas.List.{append_cancel_left, length-reverse}
+use Rattle.std.specs.Prelude.{is_some, IsTrue, ◌↔◌}
+use Rattle.bac_tag.specs.Octets.{IsMark, joined_mark}
+use Rattle.bac_tag.specs.Spelling.{IsLeast, AppendsLeast}
+use Rattle.bac_tag.specs.Heads.{Heads}
+use Rattle.bac_tag.specs.Laws.Heads.{heads_end}
+use Rattle.bac_tag.specs.declared.heads.TagHead.TheVariants.{Open}
+use Rattle.bac_data.specs.declared.items.Item.{Item}
+use Rattle.bac_data.specs.Events.{Event, opening, SpellsEvent, SpellsEvents}
+use Rattle.bac_data.specs.Building.{AreOpen, Keeps, IsPlace, closing_number}
+use Rattle.bac_data.specs.Marks.{HasMark}
+use Rattle.bac_data.specs.Reading.{item_event, item_contents, IsItem, LiesInFront}
+use Rattle.bac_data.proofs.AnyLemmas.{HasRead}
+use Rattle.bac_data.proofs.LeastLemmas.{least_more, least_none}
+use Rattle.bac_data.proofs.MarkLemmas.{marked_more, marked_already}
+use Rattle.bac_data.proofs.WalkLemmas.{in_two}
+
+-- ---- what is kept
+
+-- behind a difference the canonical octets are kept
+pub kept_more : (es : List Event) (e : Event) (behind : Option ℕ) (old new : List ℕ) → (behind ≡ None → ⊥) → IsLeast (SpellsEvents es) old → AppendsLeast (SpellsEvent e) old new → Keeps behind (es ++ e ∷ []) new
+kept_more es e None old new some p a = absurd (some refl)
+kept_more es e (Some place) old new some p a = subst (IsLeast (SpellsEvents (es ++ e ∷ []))) (sym a.new_is) (least_more es e old a.more p a.is_least)
+
+-- at the first difference those in front are begun with
+pub kept_begun : (before : Option ℕ) (es : List Event) (old front new : List ℕ) → is_some before ≡ false → Keeps before es old → (before ≡ None → IsLeast (SpellsEvents es) front) → new ≡ old ++ front → IsLeast (SpellsEvents es) new
+kept_begun None es old front new i k f e = subst (IsLeast (SpellsEvents es)) (sym (e ∙ ap (λ (l : List ℕ). l ++ front) k)) (f refl)
+kept_begun (Some place) es old front new i k f e = absurd (let u : true ≡ false = i in cc)
+
+pub kept_on : (before : Option ℕ) (es : List Event) (old : List ℕ) → is_some before ≡ true → Keeps before es old → IsLeast (SpellsEvents es) old
+kept_on None es old i k = absurd (let u : false ≡ true = i in cc)
+kept_on (Some place) es old i k = k
+
+pub some_told : (m : Option ℕ) → is_some m ≡ true → m ≡ None → ⊥
+some_told m e f = let i : false ≡ true = sym (ap is_some f) ∙ e in cc
+
+-- with no event nothing is kept
+pub keeps_nothing : (m : Option ℕ) (kept : List ℕ) → kept ≡ [] → Keeps m [] kept
+keeps_nothing None kept e = e
+keeps_nothing (Some place) kept e = subst (IsLeast (SpellsEvents [])) (sym e) (least_none [] refl)
+
+-- ---- groups that are open
+
+pub is_place : (number : ℕ) (es : List Event) (groups : List ℕ) (room : Bool) (last : ℕ) → AreOpen es groups → IsTrue room ↔ (length groups < 32) → last ≡ closing_number number (reverse groups) → IsPlace 32 number es room last
+is_place number es groups room last h r e = (reverse groups, h.opened, (λ t. let few = r.0 t in omega (arith, few, length-reverse groups), λ few. r.1 (omega (arith, few, length-reverse groups))), e)
+
+pub all_closed : (es : List Event) (groups : List ℕ) → AreOpen es groups → length groups ≡ 0 → AreOpen es []
+all_closed es [] h e = h
+all_closed es (g ∷ gs) h e = absurd (omega (arith, e))
+
+-- ---- what was read so far
+
+pub record Reading (number : ℕ) (input : List ℕ) (start place count : ℕ) (groups kept : List ℕ) (mark : Option ℕ) : Type 0 where
+  pub es : List Event
+  pub read : HasRead number input place es
+  pub marked : HasMark number input place es mark
+  pub are_open : AreOpen es groups
+  pub counted : count ≡ length es
+  pub keeps : Keeps mark es kept
+  pub begun : start ≤ place
+  pub opened : Heads (Open number) (take start input)
+
+-- while all octets are the canonical ones, those behind the opening tag are the canonical ones of the events
+pub front_least : (number : ℕ) (input : List ℕ) (start place : ℕ) (es : List Event) (m : Option ℕ) → start ≤ place → Heads (Open number) (take start input) → HasMark number input place es m → m ≡ None
+    → IsLeast (SpellsEvents es) (take (place - start) (drop start input))
+front_least number input start place es (Some p) le h k e = absurd (let i : Some p ≡ None = e in cc)
+front_least number input start place es None le h k e =
+    let slice : List ℕ = take (place - start) (drop start input) in
+    let two = in_two (opening number) es k.least k.is_least in
+    let sum : place ≡ start + (place - start) = omega arith in
+    let whole : take place input ≡ take start input ++ slice = ap (λ (n : ℕ). take n input) sum ∙ take-add start (place - start) input in
+    let octets_are : two.front ++ two.back ≡ take start input ++ slice = sym two.octets_are ∙ sym k.is_mark ∙ whole in
+    let same = heads_end (Open number) (Open number) two.front (take start input) two.back slice two.first.member h octets_are in
+    subst (IsLeast (SpellsEvents es)) (append_cancel_left two.front two.back slice (octets_are ∙ ap (λ (l : List ℕ). l ++ slice) (sym same.0))) two.others
+
+-- the mark behind an item
+pub behind_marked : (number : ℕ) (input : List ℕ) (place start taken : ℕ) (i : Item) (es : List Event) (m own r : Option ℕ) → place ≤ length input → IsItem i → LiesInFront i start taken (drop place input)
+    → (m ≡ None → (b : List ℕ) → IsLeast (SpellsEvent (item_event i)) b → IsMark (take start (drop place input) ++ item_contents i) b own) → r ≡ joined_mark m place own
+    → HasMark number input place es m → HasMark number input (place + taken) (es ++ item_event i ∷ []) r
+behind_marked number input place start taken i es None own r within is lies f e k = marked_more input place start taken i own within is lies (f refl) number es (es ++ item_event i ∷ []) None r k e refl
+behind_marked number input place start taken i es (Some p) own r within is lies f e k =
+    subst (HasMark number input (place + taken) (es ++ item_event i ∷ [])) (sym e) (marked_already input place taken i number es (es ++ item_event i ∷ []) (Some p) is refl k refl)
