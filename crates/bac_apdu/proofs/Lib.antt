@@ -15,4 +15,5 @@ mod SegmentLemmas
 mod OnceLemmas
 mod LawLemmas
 mod AppendingLemmas
+mod VisitLemmas
 pub mod FormerLemmas

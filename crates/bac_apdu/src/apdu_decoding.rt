@@ -105,7 +105,24 @@ pub fn decode_apdu_marked(alloc: Global, octets: &[u8]) -> Result<(Apdu, Option<
     ensures windows { IfErr result (λ refusal. (refusal.why ≡ Why.Window) ↔ IsWindowPlace octets.now refusal.place) }
     ensures reasons { IfErr result (λ refusal. IsApduReason refusal.why) }
 {
-    visit_apdu(alloc, octets, Keep, &mut ())
+    decode_pdu(alloc, octets, Keep, &mut ())
+}
+
+/// Keeps the APDU alone.
+#[derive(Drop)]
+struct KeepApdu;
+
+impl ApduVisitor for KeepApdu {
+    type Place = ();
+
+    type Made = Apdu;
+
+    ghost makes = { λ _ value _ _ _ made. value_of made ≡ value };
+
+    #[inline(always)]
+    fn visit(self, apdu: Apdu, _mark: Option<usize>, _place: &mut ()) -> Apdu {
+        apdu
+    }
 }
 
 /// Decodes the APDU that all the octets spell.
@@ -120,6 +137,5 @@ pub fn decode_apdu(alloc: Global, octets: &[u8]) -> Result<Apdu, Refusal>
     ensures windows { IfErr result (λ refusal. (refusal.why ≡ Why.Window) ↔ IsWindowPlace octets.now refusal.place) }
     ensures reasons { IfErr result (λ refusal. IsApduReason refusal.why) }
 {
-    let (apdu, _) = decode_apdu_marked(alloc, octets)?;
-    Ok(apdu)
+    decode_pdu(alloc, octets, KeepApdu, &mut ())
 }

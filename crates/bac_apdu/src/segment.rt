@@ -41,6 +41,9 @@ pub enum SegHead {
 /// canonical form.
 #[derive(Clone, Debug, PartialEq, Eq, Drop)]
 pub struct Segment {
+    // Words stand in front of octets, so that an APDU is moved in whole words.
+    /// Its part of the octets of the service, of which it may have none.
+    pub piece: Vec<u8>,
     /// Of what it is a segment.
     pub head: SegHead,
     /// Its number among the segments.
@@ -51,8 +54,6 @@ pub struct Segment {
     pub more: bool,
     /// The service choice.
     pub choice: u8,
-    /// Its part of the octets of the service, of which it may have none.
-    pub piece: Vec<u8>,
 }
 
 /// Appends the octets of a head, and a piece behind it. Where memory is refused `out` stays as it was.
