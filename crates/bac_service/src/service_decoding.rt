@@ -163,6 +163,7 @@ pub fn decode_service_marked(
 /// let found = decode_service(rt.alloc(), Kind::Unconfirmed, 8, &[0x09, 0x64]);
 /// assert_eq!(rt; found.err(), Some(Why::Short.at(2)));
 /// ```
+#[inline(always)]
 pub fn decode_service(
     alloc: Global,
     kind: Kind,
