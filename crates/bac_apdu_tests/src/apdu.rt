@@ -8,6 +8,7 @@ mod ignored_bits;
 mod sizes;
 mod windows;
 
+use crate::expectations::{assert_holds, assert_same, assert_same_of};
 use bac_apdu::{Apdu, append_apdu, decode_apdu_marked, encode_apdu};
 use bac_tables::{Outcome, octets_of, places_of, rows_of};
 use bac_tag::{OutOfMemory, Refusal, Why};
@@ -23,7 +24,7 @@ fn decoded(
 ) -> Result<(Apdu, Option<usize>), Refusal> {
     match decode_apdu_marked(alloc, octets) {
         Err(refusal) if refusal.why == Why::OutOfMemory => {
-            assert_eq!(rt; refusal.place, 0);
+            assert_same(rt, refusal.place, 0);
             decode_apdu_marked(alloc, octets)
         }
         found => found,
@@ -59,8 +60,8 @@ fn is_equal_to_its_like(
     canonical: &[u8],
 ) -> Result<(), Fail> {
     let (again, _) = decoded(rt, alloc, canonical)?;
-    assert!(rt; are_equal(apdu, &again), "of {canonical:?}");
-    assert!(rt; are_equal(&copied(apdu)?, apdu), "of {canonical:?}");
+    assert_holds(rt, are_equal(apdu, &again), canonical);
+    assert_holds(rt, are_equal(&copied(apdu)?, apdu), canonical);
     Ok(())
 }
 
@@ -74,12 +75,12 @@ fn comes_to(
     match decoded(rt, alloc, octets) {
         Ok((found, mark)) => {
             let written = encoded(alloc, &found)?;
-            assert_eq!(rt; Ok((written.as_slice(), mark)), wanted, "of {octets:?}");
+            assert_same_of(rt, Ok((written.as_slice(), mark)), wanted, octets);
             is_equal_to_its_like(rt, alloc, &found, &written)?;
         }
         Err(refusal) => {
             let told = (refusal.why.name(), refusal.place);
-            assert_eq!(rt; Err(told), wanted, "of {octets:?}");
+            assert_same_of(rt, Err(told), wanted, octets);
         }
     }
     Ok(())
@@ -127,7 +128,7 @@ fn appended(rt: &impl Abort, alloc: Global, front: &[u8], apdu: &Apdu) -> Result
         Err(_) => Vec::from_slice(alloc, front)?,
     };
     if append_apdu(apdu, &mut out).is_err() {
-        assert_eq!(rt; out.as_slice(), front);
+        assert_same(rt, out.as_slice(), front);
         append_apdu(apdu, &mut out)?;
     }
     Ok(out)

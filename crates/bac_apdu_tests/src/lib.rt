@@ -4,3 +4,5 @@
 
 #[cfg(test)]
 mod apdu;
+#[cfg(test)]
+mod expectations;

@@ -11,6 +11,7 @@ mod messages;
 mod sizes;
 mod visitors;
 
+use crate::expectations::{assert_same, assert_same_of};
 use bac_npdu::{Frame, append_frame, decode_marked, decode_strict, encode_frame, normalise_frame};
 use bac_tables::{Outcome, octets_of, places_of, rows_of};
 use bac_tag::{OutOfMemory, Refusal, Why};
@@ -27,7 +28,7 @@ fn decoded(
 ) -> Result<(Frame, Option<usize>), Refusal> {
     match decode_marked(alloc, octets) {
         Err(refusal) if refusal.why == Why::OutOfMemory => {
-            assert_eq!(rt; refusal.place, 0);
+            assert_same(rt, refusal.place, 0);
             decode_marked(alloc, octets)
         }
         found => found,
@@ -69,21 +70,21 @@ fn comes_to(
     match decoded(rt, alloc, octets) {
         Ok((found, mark)) => {
             let written = encoded(alloc, &found)?;
-            assert_eq!(rt; Ok((written.as_slice(), mark)), wanted, "of {octets:?}");
+            assert_same_of(rt, Ok((written.as_slice(), mark)), wanted, octets);
             let told = strictly(alloc, octets).map(|refusal| (refusal.why, refusal.place));
-            assert_eq!(rt; told, mark.map(|place| (Why::NotCanonical, place)));
+            assert_same(rt, told, mark.map(|place| (Why::NotCanonical, place)));
             assert!(rt; normalised(alloc, octets)?.as_slice() == written.as_slice());
             let mut out = Vec::new(alloc);
-            assert_eq!(rt; rewritten(alloc, octets, &mut out)?, mark);
+            assert_same(rt, rewritten(alloc, octets, &mut out)?, mark);
             assert!(rt; out.as_slice() == written.as_slice());
         }
         Err(refusal) => {
             let told = (refusal.why.name(), refusal.place);
-            assert_eq!(rt; Err(told), wanted, "of {octets:?}");
-            assert_eq!(rt; strictly(alloc, octets), Some(refusal));
-            assert_eq!(rt; normalised(alloc, octets).err(), Some(refusal));
+            assert_same_of(rt, Err(told), wanted, octets);
+            assert_same(rt, strictly(alloc, octets), Some(refusal));
+            assert_same(rt, normalised(alloc, octets).err(), Some(refusal));
             let mut out = Vec::new(alloc);
-            assert_eq!(rt; rewritten(alloc, octets, &mut out), Err(refusal));
+            assert_same(rt, rewritten(alloc, octets, &mut out), Err(refusal));
             assert!(rt; out.is_empty());
         }
     }
@@ -132,7 +133,7 @@ fn appended(rt: &impl Abort, alloc: Global, front: &[u8], frame: &Frame) -> Resu
         Err(_) => Vec::from_slice(alloc, front)?,
     };
     if append_frame(frame, &mut out).is_err() {
-        assert_eq!(rt; out.as_slice(), front);
+        assert_same(rt, out.as_slice(), front);
         append_frame(frame, &mut out)?;
     }
     Ok(out)

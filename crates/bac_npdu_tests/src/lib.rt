@@ -3,4 +3,6 @@
 #![tactic(auto)]
 
 #[cfg(test)]
+mod expectations;
+#[cfg(test)]
 mod frame;

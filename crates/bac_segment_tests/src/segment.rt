@@ -7,6 +7,7 @@ mod orders;
 mod sizes;
 mod texts;
 
+use crate::expectations::assert_same;
 use bac_apdu::{Apdu, SegHead, Segment, decode_apdu};
 use bac_segment::{CutFault, CutPlan, Desk, Key, Reassembly, TakeFault, Taken, cut};
 use bac_tables::octets_of;
@@ -79,7 +80,7 @@ fn take(rt: &impl Abort, reassembly: &mut Reassembly, segment: &Segment) -> &'st
     let was_whole = reassembly.octets().is_some();
     match reassembly.take(segment) {
         Err(TakeFault::OutOfMemory) => {
-            assert_eq!(rt; reassembly.octets().is_some(), was_whole);
+            assert_same(rt, reassembly.octets().is_some(), was_whole);
             name_of(reassembly.take(segment))
         }
         found => name_of(found),

@@ -17,7 +17,7 @@ mod who_is;
 mod write_property;
 mod write_property_multiple;
 
-use crate::expectations::assert_same;
+use crate::expectations::{assert_holds, assert_same, assert_same_of};
 use bac_data::{Any, Event};
 use bac_service::{Kind, Service, decode_service_marked, encode_service};
 use bac_tables::{Outcome, joined, octets_of, places_of, rows_of};
@@ -52,7 +52,7 @@ fn canonical(
     octets: &str,
 ) -> Result<Service, Fail> {
     let (found, mark) = decoded(rt, alloc, service, &octets_of(octets)?)?;
-    assert_eq!(rt; mark, None, "of {octets}");
+    assert_same_of(rt, mark, None, octets);
     Ok(found)
 }
 
@@ -84,14 +84,14 @@ fn comes_to(
         Ok((found, mark)) => {
             assert_same(rt, (found.kind(), found.choice()), service);
             let written = encoded(alloc, &found)?;
-            assert_eq!(rt; Ok((written.as_slice(), mark)), wanted, "of {octets:?}");
+            assert_same_of(rt, Ok((written.as_slice(), mark)), wanted, octets);
             let (canonical, _) = decoded(rt, alloc, service, &written)?;
-            assert!(rt; found == canonical, "of {octets:?}");
-            assert!(rt; copied(&found)? == found, "of {octets:?}");
+            assert_holds(rt, found == canonical, octets);
+            assert_holds(rt, copied(&found)? == found, octets);
         }
         Err(refusal) => {
             let told = (refusal.why.name(), refusal.place);
-            assert_eq!(rt; Err(told), wanted, "of {octets:?}");
+            assert_same_of(rt, Err(told), wanted, octets);
         }
     }
     Ok(())

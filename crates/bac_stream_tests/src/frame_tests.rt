@@ -1,5 +1,6 @@
 //! What the runs tell of frames: worked examples of docs/EXAMPLES.md.
 
+use crate::expectations::{assert_holds, assert_same, assert_same_of};
 use bac_stream::{
     Counted, Mode, RunFault, StreamFault, Summary, run_check, run_normalise, run_show,
 };
@@ -48,9 +49,9 @@ fn tells_of(
     let (answer, written) = made(alloc, run, mode, &file);
     let counts = answer.map(|summary| (summary.records, summary.refused));
     let refused = u32::from(told.starts_with("refused"));
-    assert_eq!(rt; counts, Ok((1, refused)), "not {told}");
+    assert_same_of(rt, counts, Ok((1, refused)), told);
     let line = format!(in alloc; "1 {told}\n")?;
-    assert_eq!(rt; written.as_slice(), line.as_bytes(), "not {told}");
+    assert_same_of(rt, written.as_slice(), line.as_bytes(), told);
     Ok(())
 }
 
@@ -253,8 +254,8 @@ fn records_of_each_size_are_dealt_with(rt: HostRuntime) -> Result<(), Fail> {
             (Run::Normalise, Mode::Tolerant, file.as_slice()),
         ] {
             let (answer, written) = made(rt.alloc(), run, mode, &file);
-            assert_eq!(rt; answer, Ok(want), "{run:?} of {size}");
-            assert!(rt; written.as_slice() == output, "{run:?} of {size}");
+            assert_same_of(&rt, answer, Ok(want), (run, size));
+            assert_holds(&rt, written.as_slice() == output, (run, size));
         }
     }
     Ok(())
@@ -286,17 +287,17 @@ fn refused_memory_leaves_whole_lines(rt: HostRuntime) -> Result<(), Fail> {
     let written = taken.get(..end);
     match answer {
         Err(RunFault::Stream { at, fault }) => {
-            assert_eq!(rt; fault, StreamFault::OutOfMemory);
+            assert_same(&rt, fault, StreamFault::OutOfMemory);
             let end = ends
                 .get((at as usize).saturating_sub(1))
                 .copied()
                 .ok_or("a record")?;
-            assert_eq!(rt; written, lines.get(..end));
+            assert_same(&rt, written, lines.get(..end));
         }
         answer => {
             let summary = answer.ok().ok_or("no refusal")?;
-            assert_eq!(rt; (summary.records, summary.canonical), (8, 8));
-            assert_eq!(rt; written, Some(lines.as_slice()));
+            assert_same(&rt, (summary.records, summary.canonical), (8, 8));
+            assert_same(&rt, written, Some(lines.as_slice()));
         }
     }
     Ok(())

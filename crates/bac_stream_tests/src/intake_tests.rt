@@ -1,5 +1,6 @@
 //! What an intake gives of streams of frames: worked examples of docs/EXAMPLES.md.
 
+use crate::expectations::{assert_holds, assert_same, assert_same_of};
 use bac_npdu::{Frame, encode_frame};
 use bac_stream::{FeedFault, Intake, Mode};
 use bac_tables::{octets_of, rows_of};
@@ -114,7 +115,7 @@ fn tells_in_two(
         intake.feed(piece, &mut items)?;
     }
     let text = told(alloc, &items, intake.finish())?;
-    assert_eq!(rt; text.as_str(), want, "cut at {place}");
+    assert_same_of(rt, text.as_str(), want, place);
     Ok(())
 }
 
@@ -133,7 +134,7 @@ fn tells_in_pieces(
         intake.feed(piece, &mut items)?;
     }
     let text = told(alloc, &items, intake.finish())?;
-    assert_eq!(rt; text.as_str(), want, "in pieces of {size}");
+    assert_same_of(rt, text.as_str(), want, size);
     Ok(())
 }
 
@@ -211,7 +212,7 @@ fn finish_tells_of_a_cut_record(rt: HostRuntime) -> Result<(), Fail> {
             15 => Ok(1),
             _ => Err(FeedFault::Truncated),
         };
-        assert_eq!(rt; intake.finish(), want, "after {size}");
+        assert_same_of(&rt, intake.finish(), want, size);
     }
     Ok(())
 }
@@ -257,8 +258,8 @@ fn records_end_at_the_most(rt: HostRuntime) -> Result<(), Fail> {
         items.clear();
     }
     intake.feed(&piece[3..], &mut items)?;
-    assert_eq!(rt; intake.finish(), Err(FeedFault::Truncated));
-    assert_eq!(rt; items.len(), RECORDS - 2);
+    assert_same(&rt, intake.finish(), Err(FeedFault::Truncated));
+    assert_same(&rt, items.len(), RECORDS - 2);
     for (piece, answer) in [
         ([0, 0, 0, 0].as_slice(), Err(FeedFault::TooManyFrames)),
         (&[0, 0, 0, 5, 0], Err(FeedFault::TooManyFrames)),
@@ -268,11 +269,11 @@ fn records_end_at_the_most(rt: HostRuntime) -> Result<(), Fail> {
         (&[0, 0], Err(FeedFault::TooManyFrames)),
     ] {
         let count = items.len();
-        assert_eq!(rt; intake.feed(piece, &mut items), answer, "of {piece:?}");
+        assert_same_of(&rt, intake.feed(piece, &mut items), answer, piece);
         let more = if piece.len() == 3 { 2 } else { 0 };
-        assert_eq!(rt; items.len(), count + more, "of {piece:?}");
+        assert_same_of(&rt, items.len(), count + more, piece);
     }
-    assert_eq!(rt; intake.finish(), Ok(1_000_000));
+    assert_same(&rt, intake.finish(), Ok(1_000_000));
     Ok(())
 }
 
@@ -286,8 +287,8 @@ fn feed_again(
     let before = (items.len(), intake.finish());
     let answer = intake.feed(piece, items);
     if answer.is_err() {
-        assert_eq!(rt; answer, Err(FeedFault::OutOfMemory));
-        assert_eq!(rt; (items.len(), intake.finish()), before);
+        assert_same(rt, answer, Err(FeedFault::OutOfMemory));
+        assert_same(rt, (items.len(), intake.finish()), before);
         intake.feed(piece, items)?;
     }
     Ok(())
@@ -305,7 +306,7 @@ fn refused_memory_changes_nothing(rt: HostRuntime) -> Result<(), Fail> {
         feed_again(&rt, &mut intake, piece, &mut items)?;
     }
     let text = told(rt.alloc(), &items, intake.finish())?;
-    assert_eq!(rt; text.as_str(), "ok, ok, Short at 0, ok, 4");
+    assert_same(&rt, text.as_str(), "ok, ok, Short at 0, ok, 4");
     Ok(())
 }
 
@@ -339,10 +340,10 @@ fn frames_of_every_kind_come_in_pieces(rt: HostRuntime) -> Result<(), Fail> {
         }
     }
     let whole = canonical_in_pieces(rt.alloc(), &stream, stream.len())?;
-    assert_eq!(rt; (stream.len(), whole.len()), (829, 702));
+    assert_same(&rt, (stream.len(), whole.len()), (829, 702));
     for size in [1, 2, 3, 7, 64, 1_000] {
         let found = canonical_in_pieces(rt.alloc(), &stream, size)?;
-        assert!(rt; found.as_slice() == whole.as_slice(), "in pieces of {size}");
+        assert_holds(&rt, found.as_slice() == whole.as_slice(), size);
     }
     Ok(())
 }

@@ -1,5 +1,6 @@
 //! Frames with segments, joined to services: worked examples of docs/EXAMPLES.md.
 
+use crate::expectations::{assert_same, assert_same_of};
 use bac_npdu::{Frame, decode_frame};
 use bac_segment::{Desk, Key, TakeFault};
 use bac_service::encode_service;
@@ -61,7 +62,7 @@ fn tells(
 ) -> Result<(), Fail> {
     for (frame, want) in frames {
         let text = told(alloc, desk, peer, frame)?;
-        assert_eq!(rt; text.as_str(), *want, "{frame}");
+        assert_same_of(rt, text.as_str(), *want, frame);
     }
     Ok(())
 }
@@ -111,7 +112,7 @@ fn a_message_that_is_no_service_is_told(rt: HostRuntime) -> Result<(), Fail> {
     for _ in 0..2 {
         let frames = [(CUT_SHORT, "refused Short at 3"), (CUT_SHORT, "repeat")];
         tells(&rt, rt.alloc(), &mut desk, 5, &frames)?;
-        assert_eq!(rt; desk.octets(key), Some([0x0C, 0, 0].as_slice()));
+        assert_same(&rt, desk.octets(key), Some([0x0C, 0, 0].as_slice()));
         assert!(rt; desk.close(key));
     }
     Ok(())
@@ -161,13 +162,13 @@ fn is_whole_with(
 ) -> Result<bool, Fail> {
     let mut answer = join(alloc, desk, KEY.peer, frame);
     if let Err(JoinFault::Take(fault)) = &answer {
-        assert_eq!(rt; *fault, TakeFault::OutOfMemory);
-        assert_eq!(rt; desk.octets(KEY), None);
+        assert_same(rt, *fault, TakeFault::OutOfMemory);
+        assert_same(rt, desk.octets(KEY), None);
         answer = join(alloc, desk, KEY.peer, frame);
     }
     match answer {
         Err(JoinFault::Content(refusal)) => {
-            assert_eq!(rt; refusal, Why::OutOfMemory.at(0));
+            assert_same(rt, refusal, Why::OutOfMemory.at(0));
             Ok(true)
         }
         Ok(Joined::Message(_)) => Ok(true),
@@ -183,10 +184,10 @@ fn refused_memory_loses_no_message(rt: HostRuntime) -> Result<(), Fail> {
     for (number, whole) in [(2, false), (0, false), (1, true)] {
         let frame = frame_of(rt.alloc(), SEGMENTS[number])?;
         let found = is_whole_with(&rt, rt.alloc(), &mut desk, &frame)?;
-        assert_eq!(rt; found, whole, "{number}");
+        assert_same_of(&rt, found, whole, number);
     }
     let octets = octets_of(SERVICE)?;
-    assert_eq!(rt; desk.octets(KEY), Some(octets.as_slice()));
+    assert_same(&rt, desk.octets(KEY), Some(octets.as_slice()));
     tells(
         &rt,
         rt.alloc(),

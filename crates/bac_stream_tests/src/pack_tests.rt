@@ -1,5 +1,6 @@
 //! Runs over texts at work.
 
+use crate::expectations::{assert_holds, assert_same, assert_same_of};
 use crate::fakes::{Drain, Feed, Interrupted};
 use bac_pack::{PackFault, run_pack};
 use bac_record::Counted;
@@ -69,11 +70,12 @@ fn texts_are_packed_in_pieces_of_any_size(rt: HostRuntime) -> Result<(), Fail> {
         for size in [1, 2, 3, 7, 64, usize::MAX] {
             let mut writer = Counted::new(Vec::new(rt.alloc()));
             let got = run_pack(rt.alloc(), &mut feed(text, size), &mut writer);
-            assert_eq!(rt; got, want, "of {text:?} in pieces of {size}");
-            assert_eq!(rt;
+            assert_same_of(&rt, got, want, (text, size));
+            assert_same_of(
+                &rt,
                 writer.device.as_slice(),
                 records.as_slice(),
-                "of {text:?} in pieces of {size}"
+                (text, size),
             );
         }
     }
@@ -102,28 +104,21 @@ fn a_record_has_at_most_65_535_octets(rt: HostRuntime) -> Result<(), Fail> {
             let mut want = Vec::from_slice(rt.alloc(), &[0xFF, 0xFF])?;
             want.extend_from_slice(&vec![in rt.alloc(); 0x77; 65_535]?)?;
             let (got, written) = packed(rt.alloc(), &text, size);
-            assert_eq!(rt; got, Ok(1), "in pieces of {size}");
-            assert!(rt;
-                written.as_slice() == want.as_slice(),
-                "in pieces of {size}"
-            );
+            assert_same_of(&rt, got, Ok(1), size);
+            assert_holds(&rt, written.as_slice() == want.as_slice(), size);
 
             let text = many(rt.alloc(), b'7', 131_072, last)?;
             let (got, written) = packed(rt.alloc(), &text, size);
-            assert_eq!(rt;
-                got,
-                Err(PackFault::RecordTooLong(1)),
-                "in pieces of {size}"
-            );
-            assert_eq!(rt; written.len(), 0, "in pieces of {size}");
+            assert_same_of(&rt, got, Err(PackFault::RecordTooLong(1)), size);
+            assert_same_of(&rt, written.len(), 0, size);
 
             let text = many(rt.alloc(), b'7', 131_073, last)?;
             let (got, _) = packed(rt.alloc(), &text, size);
-            assert_eq!(rt; got, Err(PackFault::NotHex(1)), "in pieces of {size}");
+            assert_same_of(&rt, got, Err(PackFault::NotHex(1)), size);
 
             let text = many(rt.alloc(), b'Z', 131_072, last)?;
             let (got, _) = packed(rt.alloc(), &text, size);
-            assert_eq!(rt; got, Err(PackFault::NotHex(1)), "in pieces of {size}");
+            assert_same_of(&rt, got, Err(PackFault::NotHex(1)), size);
         }
     }
     Ok(())
@@ -142,20 +137,20 @@ fn a_line_has_at_most_200_000_octets(rt: HostRuntime) -> Result<(), Fail> {
             text.extend_from_slice(&many(rt.alloc(), b' ', count, b'\n')?)?;
             text.extend_from_slice(b"34")?;
             let (got, written) = packed(rt.alloc(), &text, size);
-            assert_eq!(rt; got, want, "{count} in pieces of {size}");
+            assert_same_of(&rt, got, want, (count, size));
             let octets = if want.is_ok() {
                 [0, 1, 0x12, 0, 0, 0, 1, 0x34].as_slice()
             } else {
                 [0, 1, 0x12].as_slice()
             };
-            assert_eq!(rt; written.as_slice(), octets, "{count} in pieces of {size}");
+            assert_same_of(&rt, written.as_slice(), octets, (count, size));
         }
         let text = many(rt.alloc(), b' ', 199_999, b'\r')?;
         let (got, _) = packed(rt.alloc(), &text, size);
-        assert_eq!(rt; got, Ok(1), "in pieces of {size}");
+        assert_same_of(&rt, got, Ok(1), size);
         let text = many(rt.alloc(), b' ', 200_000, b'Z')?;
         let (got, _) = packed(rt.alloc(), &text, size);
-        assert_eq!(rt; got, Err(PackFault::LineTooLong(1)), "in pieces of {size}");
+        assert_same_of(&rt, got, Err(PackFault::LineTooLong(1)), size);
     }
     Ok(())
 }
@@ -169,8 +164,8 @@ fn a_text_has_at_most_1_000_000_lines(rt: HostRuntime) -> Result<(), Fail> {
     ] {
         let text = many(rt.alloc(), b'\n', lines, last)?;
         let (got, records) = packed(rt.alloc(), &text, 1_000);
-        assert_eq!(rt; got, want, "{lines} and {last}");
-        assert_eq!(rt; records.len(), written, "{lines} and {last}");
+        assert_same_of(&rt, got, want, (lines, last));
+        assert_same_of(&rt, records.len(), written, (lines, last));
     }
     Ok(())
 }
@@ -184,14 +179,10 @@ fn a_failed_read_tells_the_next_line(rt: HostRuntime) -> Result<(), Fail> {
         let mut writer = Counted::new(Vec::new(rt.alloc()));
         let got = run_pack(rt.alloc(), &mut reader, &mut writer);
         let lines = calls / 3;
-        assert_eq!(rt;
-            got,
-            Err(PackFault::ReadFault(lines as u32 + 1)),
-            "after {calls} reads"
-        );
-        assert_eq!(rt; reader.failures, 1);
+        assert_same_of(&rt, got, Err(PackFault::ReadFault(lines as u32 + 1)), calls);
+        assert_same(&rt, reader.failures, 1);
         // What is known goes out before the run reads again.
-        assert_eq!(rt; writer.device.len(), 3 * lines, "after {calls} reads");
+        assert_same_of(&rt, writer.device.len(), 3 * lines, calls);
     }
     Ok(())
 }
@@ -211,9 +202,9 @@ fn a_failed_write_counts_what_was_taken(rt: HostRuntime) -> Result<(), Fail> {
                 };
                 let got = run_pack(rt.alloc(), &mut feed(text, size), &mut writer);
                 let fault = PackFault::WriteFault(room as u128);
-                assert_eq!(rt; got, Err(fault), "room {room} in pieces of {size}");
-                assert_eq!(rt; writer.taken.as_slice(), &records[..room]);
-                assert_eq!(rt; writer.failures, 1);
+                assert_same_of(&rt, got, Err(fault), (room, size));
+                assert_same(&rt, writer.taken.as_slice(), &records[..room]);
+                assert_same(&rt, writer.failures, 1);
             }
         }
     }
@@ -234,9 +225,9 @@ fn interrupted_reads_are_tried_again(rt: HostRuntime) -> Result<(), Fail> {
         });
         let mut writer = Counted::new(Vec::new(rt.alloc()));
         let got = run_pack(rt.alloc(), &mut reader, &mut writer);
-        assert_eq!(rt; got, want, "{times} interruptions");
-        assert_eq!(rt; writer.device.as_slice(), written, "{times} interruptions");
-        assert_eq!(rt; reader.failures, u64::from(want.is_err()));
+        assert_same_of(&rt, got, want, times);
+        assert_same_of(&rt, writer.device.as_slice(), written, times);
+        assert_same(&rt, reader.failures, u64::from(want.is_err()));
     }
     Ok(())
 }
@@ -256,7 +247,7 @@ fn faults_are_told(rt: HostRuntime) -> Result<(), Fail> {
         (PackFault::OutOfMemory(1), "out of memory"),
     ] {
         let told = format!(in rt.alloc(); "{fault}")?;
-        assert_eq!(rt; told.as_str(), text);
+        assert_same(&rt, told.as_str(), text);
     }
     Ok(())
 }

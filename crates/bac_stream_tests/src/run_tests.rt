@@ -1,5 +1,6 @@
 //! Runs, records and devices at work.
 
+use crate::expectations::{assert_holds, assert_same, assert_same_of};
 use crate::fakes::{CopyOctets, Drain, Feed, Troubled, Unending};
 use bac_record::{
     Counted, RunFault, StreamFault, Summary, front_record, push_decimal, push_hexadecimal,
@@ -36,8 +37,8 @@ fn pieces_of_any_size_give_the_same(rt: HostRuntime) -> Result<(), Fail> {
             canonical: 1,
             refused: 1,
         };
-        assert_eq!(rt; summary, Ok(want), "in pieces of {size}");
-        assert_eq!(rt; writer.device.as_slice(), [7, 1, 2, 3].as_slice());
+        assert_same_of(&rt, summary, Ok(want), size);
+        assert_same(&rt, writer.device.as_slice(), [7, 1, 2, 3].as_slice());
     }
     Ok(())
 }
@@ -72,8 +73,8 @@ fn each_end_is_told(rt: HostRuntime) -> Result<(), Fail> {
         let mut reader = Counted::new(file);
         let mut writer = Counted::new(Vec::new(rt.alloc()));
         let got = run(rt.alloc(), &CopyOctets, &mut reader, &mut writer);
-        assert_eq!(rt; got, want, "of {file:?}");
-        assert_eq!(rt; writer.device.len(), written, "of {file:?}");
+        assert_same_of(&rt, got, want, file);
+        assert_same_of(&rt, writer.device.len(), written, file);
     }
     Ok(())
 }
@@ -87,12 +88,13 @@ fn a_failed_read_tells_the_next_record(rt: HostRuntime) -> Result<(), Fail> {
         let mut writer = Counted::new(Vec::new(rt.alloc()));
         let got = run(rt.alloc(), &CopyOctets, &mut reader, &mut writer);
         let dealt = calls / 7;
-        assert_eq!(rt;
+        assert_same_of(
+            &rt,
             got,
             stream(dealt as u32 + 1, StreamFault::ReadFault),
-            "after {calls} reads"
+            calls,
         );
-        assert_eq!(rt; writer.device.len(), 5 * dealt, "after {calls} reads");
+        assert_same_of(&rt, writer.device.len(), 5 * dealt, calls);
     }
     Ok(())
 }
@@ -112,9 +114,9 @@ fn a_failed_write_counts_what_was_taken(rt: HostRuntime) -> Result<(), Fail> {
             };
             let got = run(rt.alloc(), &CopyOctets, &mut feed(&file, size), &mut writer);
             let fault = StreamFault::WriteFault(room as u128);
-            assert_eq!(rt; got, stream(at, fault), "room {room} in pieces of {size}");
-            assert_eq!(rt; writer.taken.len(), room);
-            assert_eq!(rt; writer.failures, 1);
+            assert_same_of(&rt, got, stream(at, fault), (room, size));
+            assert_same(&rt, writer.taken.len(), room);
+            assert_same(&rt, writer.failures, 1);
         }
     }
     Ok(())
@@ -130,12 +132,13 @@ fn an_unending_reader_has_too_many_records(rt: HostRuntime) -> Result<(), Fail> 
             &mut Unending { octets },
             &mut writer,
         );
-        assert_eq!(rt;
+        assert_same_of(
+            &rt,
             got,
             stream(1_000_001, StreamFault::TooManyFrames),
-            "of {octets:?}"
+            octets,
         );
-        assert_eq!(rt; writer.device.len(), written, "of {octets:?}");
+        assert_same_of(&rt, writer.device.len(), written, octets);
     }
     Ok(())
 }
@@ -145,12 +148,12 @@ fn records_come_back(rt: HostRuntime) -> Result<(), Fail> {
     let mut writer = Counted::new(Vec::new(rt.alloc()));
     write_record(&mut writer, &[])?;
     write_record(&mut writer, &[7, 8])?;
-    assert_eq!(rt; writer.device.as_slice(), [0, 0, 0, 2, 7, 8].as_slice());
+    assert_same(&rt, writer.device.as_slice(), [0, 0, 0, 2, 7, 8].as_slice());
 
     let mut reader = Counted::new(writer.device.as_slice());
     for want in [[].as_slice(), [7, 8].as_slice()] {
         let got = read_record(rt.alloc(), &mut reader)?;
-        assert_eq!(rt; got.as_deref(), Some(want));
+        assert_same(&rt, got.as_deref(), Some(want));
     }
     assert!(rt; read_record(rt.alloc(), &mut reader)?.is_none());
     Ok(())
@@ -177,17 +180,17 @@ fn records_of_each_size_come_back(rt: HostRuntime) -> Result<(), Fail> {
         let record = record_of(rt.alloc(), size, &octets)?;
         let mut writer = Counted::new(Vec::new(rt.alloc()));
         write_record(&mut writer, &octets)?;
-        assert!(rt; writer.device.as_slice() == record.as_slice(), "{size}");
+        assert_holds(&rt, writer.device.as_slice() == record.as_slice(), size);
 
         let mut reader = Counted::new(record.as_slice());
         let got = read_record(rt.alloc(), &mut reader)?;
-        assert!(rt; got.as_deref() == Some(octets.as_slice()), "{size}");
-        assert_eq!(rt; reader.device.len(), 0, "{size}");
+        assert_holds(&rt, got.as_deref() == Some(octets.as_slice()), size);
+        assert_same_of(&rt, reader.device.len(), 0, size);
 
         let cut = record.len().saturating_sub(1);
         let mut reader = Counted::new(&record[..cut]);
         let fault = read_record(rt.alloc(), &mut reader).err();
-        assert_eq!(rt; fault, Some(StreamFault::Truncated), "{size}");
+        assert_same_of(&rt, fault, Some(StreamFault::Truncated), size);
     }
     Ok(())
 }
@@ -214,10 +217,11 @@ fn a_run_takes_records_of_each_size(rt: HostRuntime) -> Result<(), Fail> {
                 &mut writer,
             );
             let records = got.map(|summary| summary.records);
-            assert_eq!(rt; records, Ok(3), "{size} in pieces of {piece}");
-            assert!(rt;
+            assert_same_of(&rt, records, Ok(3), (size, piece));
+            assert_holds(
+                &rt,
                 writer.device.as_slice() == want.as_slice(),
-                "{size} in pieces of {piece}"
+                (size, piece),
             );
         }
         let cut = file.len().saturating_sub(5);
@@ -228,8 +232,8 @@ fn a_run_takes_records_of_each_size(rt: HostRuntime) -> Result<(), Fail> {
             &mut feed(&file[..cut], 65_536),
             &mut writer,
         );
-        assert_eq!(rt; got, stream(2, StreamFault::Truncated), "{size} cut");
-        assert_eq!(rt; writer.device.len(), 3, "{size} cut");
+        assert_same_of(&rt, got, stream(2, StreamFault::Truncated), size);
+        assert_same_of(&rt, writer.device.len(), 3, size);
     }
     Ok(())
 }
@@ -261,20 +265,22 @@ fn interrupted_calls_are_tried_again(rt: HostRuntime) -> Result<(), Fail> {
             takes,
         };
         let mut reader = Counted::new(troubled());
-        assert_eq!(rt;
+        assert_same_of(
+            &rt,
             read_record(rt.alloc(), &mut reader).err(),
             read,
-            "{times} {error:?}"
+            (times, error),
         );
-        assert_eq!(rt; reader.failures, u64::from(read.is_some()));
+        assert_same(&rt, reader.failures, u64::from(read.is_some()));
 
         let mut writer = Counted::new(troubled());
-        assert_eq!(rt;
+        assert_same_of(
+            &rt,
             write_record(&mut writer, &[5]),
             written,
-            "{times} {error:?}"
+            (times, error),
         );
-        assert_eq!(rt; writer.failures, u64::from(written.is_err()));
+        assert_same(&rt, writer.failures, u64::from(written.is_err()));
     }
     Ok(())
 }
@@ -290,7 +296,7 @@ fn the_record_at_the_front_is_found(rt: HostRuntime) {
         (&[0, 2, 7, 8, 9], Some(&[7, 8])),
         (&[1, 0, 7], None),
     ] {
-        assert_eq!(rt; front_record(octets), want, "of {octets:?}");
+        assert_same_of(&rt, front_record(octets), want, octets);
     }
 }
 
@@ -301,12 +307,8 @@ fn all_octets_are_written(rt: HostRuntime) {
         let mut writer = Counted::new(&mut taken[..room]);
         let octets = &[7, 8, 9][..size];
         let want = if size <= room { Ok(()) } else { Err(room) };
-        assert_eq!(rt; write_whole(&mut writer, octets), want, "{size} in {room}");
-        assert_eq!(rt;
-            writer.failures,
-            u64::from(want.is_err()),
-            "{size} in {room}"
-        );
+        assert_same_of(&rt, write_whole(&mut writer, octets), want, (size, room));
+        assert_same_of(&rt, writer.failures, u64::from(want.is_err()), (size, room));
     }
 }
 
@@ -326,7 +328,7 @@ fn numbers_are_decimal(rt: HostRuntime) -> Result<(), Fail> {
     for (number, text) in numbers {
         let mut out = Vec::new(rt.alloc());
         push_decimal(&mut out, number)?;
-        assert_eq!(rt; out.as_slice(), text.as_bytes(), "the digits of {number}");
+        assert_same_of(&rt, out.as_slice(), text.as_bytes(), number);
     }
     for (number, text) in [
         (i64::MIN, "-9223372036854775808"),
@@ -336,7 +338,7 @@ fn numbers_are_decimal(rt: HostRuntime) -> Result<(), Fail> {
     ] {
         let mut out = Vec::new(rt.alloc());
         push_signed_decimal(&mut out, number)?;
-        assert_eq!(rt; out.as_slice(), text.as_bytes(), "the digits of {number}");
+        assert_same_of(&rt, out.as_slice(), text.as_bytes(), number);
     }
     Ok(())
 }
@@ -345,7 +347,7 @@ fn numbers_are_decimal(rt: HostRuntime) -> Result<(), Fail> {
 fn octets_are_hexadecimal(rt: HostRuntime) -> Result<(), Fail> {
     let mut out = Vec::from_slice(rt.alloc(), b"x")?;
     push_hexadecimal(&mut out, &[0x00, 0x0F, 0xA9, 0xFF])?;
-    assert_eq!(rt; out.as_slice(), b"x000FA9FF".as_slice());
+    assert_same(&rt, out.as_slice(), b"x000FA9FF".as_slice());
     Ok(())
 }
 

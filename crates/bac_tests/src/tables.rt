@@ -1,6 +1,6 @@
 //! Mistakes in the texts of tables are faults, so that no row is passed over.
 
-use crate::expectations::assert_same;
+use crate::expectations::{assert_holds, assert_same};
 use bac_tables::{Outcome, TableFault, octets_of, places_of, rows_of};
 use std::test::Fail;
 
@@ -15,10 +15,10 @@ fn only_pairs_of_hexadecimal_digits_are_octets(rt: HostRuntime) -> Result<(), Fa
     for text in [
         "", "0", "000", "G0", "+1", "-1", "00  00", " 00", "00,00", "00 none",
     ] {
-        assert!(rt; octets_of(text).is_err(), "{text}");
+        assert_holds(&rt, octets_of(text).is_err(), text);
     }
     for text in ["", "x", "+1", "-1", "1  2", "1,2"] {
-        assert!(rt; places_of(text).is_err(), "{text}");
+        assert_holds(&rt, places_of(text).is_err(), text);
     }
     Ok(())
 }
@@ -36,7 +36,7 @@ fn a_line_that_is_no_row_is_told(rt: HostRuntime) -> Result<(), Fail> {
         "00 -> 01, differs at",
     ] {
         for row in rows_of(line)?.iter() {
-            assert!(rt; row.outcome().is_err(), "{line}");
+            assert_holds(&rt, row.outcome().is_err(), line);
         }
     }
     for row in rows_of("\n    00 01 -> itself\n")?.iter() {

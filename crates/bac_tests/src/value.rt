@@ -9,6 +9,7 @@ mod prim;
 mod sizes;
 mod strings;
 
+use crate::expectations::assert_same_of;
 use bac_tables::{Outcome, octets_of, rows_of};
 use bac_value::{Primitive, laws};
 use std::alloc::Global;
@@ -45,16 +46,12 @@ fn comes_to<T: Primitive>(
     let found = match T::read(alloc, octets) {
         Ok(value) => {
             value.write(&mut out)?;
-            assert_eq!(rt;
-                value.written_len(),
-                out.len(),
-                "of the contents {octets:?}"
-            );
+            assert_same_of(rt, value.written_len(), out.len(), octets);
             Ok((out.as_slice(), value.mark(octets)))
         }
         Err(refusal) => Err((refusal.why.name(), refusal.place)),
     };
-    assert_eq!(rt; found, wanted, "of the contents {octets:?}");
+    assert_same_of(rt, found, wanted, octets);
     let refused = match wanted {
         Err((_, place)) => Some(place),
         Ok(_) => None,
@@ -71,7 +68,7 @@ fn foresee<T: Primitive>(rt: &impl Abort, octets: &[u8], refused: Option<usize>)
     for taken in 0..=octets.len() {
         let wanted = refused.filter(|place| *place < taken);
         let found = T::hopeless(&octets[..taken], octets.len());
-        assert_eq!(rt; found, wanted, "of {taken} octets of {octets:?}");
+        assert_same_of(rt, found, wanted, (taken, octets));
     }
 }
 

@@ -8,6 +8,7 @@ mod open_values;
 mod services;
 mod sizes;
 
+use crate::expectations::{assert_same, assert_same_of};
 use bac_npdu::{Frame, decode_frame};
 use bac_tables::{octets_of, rows_of};
 use bac_tag::{Refusal, Why};
@@ -35,12 +36,12 @@ fn shows(rt: &impl Abort, alloc: Global, octets: &[u8], text: &str) -> Result<()
         Err(_) => Vec::from_slice(alloc, b"1 ")?,
     };
     if append_text(&frame, &mut out).is_err() {
-        assert_eq!(rt; out.as_slice(), b"1 ".as_slice());
+        assert_same(rt, out.as_slice(), b"1 ".as_slice());
         append_text(&frame, &mut out)?;
     }
     let (front, rest) = out.split_at_checked(2).ok_or("two octets")?;
-    assert_eq!(rt; front, b"1 ".as_slice());
-    assert_eq!(rt; rest, text.as_bytes(), "not {text}");
+    assert_same(rt, front, b"1 ".as_slice());
+    assert_same_of(rt, rest, text.as_bytes(), text);
     Ok(())
 }
 

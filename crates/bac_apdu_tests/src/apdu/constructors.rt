@@ -1,6 +1,7 @@
 //! Constructors and parts.
 
 use super::{are_equal, decoded, encoded};
+use crate::expectations::assert_same;
 use bac_apdu::{
     Apdu, ComplexAck, ConfirmedRequest, ErrorPdu, MaxResp, MaxSegs, RequestHead, SegHead, Segment,
     UnconfirmedRequest, Window,
@@ -33,9 +34,9 @@ fn services_of_another_kind_come_back(rt: HostRuntime) -> Result<(), Fail> {
     let Ok(request) = UnconfirmedRequest::new(service) else {
         panic!(rt; "a Who-Is is unconfirmed")
     };
-    assert_eq!(rt; request.service().kind(), Kind::Unconfirmed);
+    assert_same(&rt, request.service().kind(), Kind::Unconfirmed);
     let octets = encoded(rt.alloc(), &Apdu::Unconfirmed(request))?;
-    assert_eq!(rt; octets.as_slice(), [0x10, 0x08].as_slice());
+    assert_same(&rt, octets.as_slice(), [0x10, 0x08].as_slice());
     Ok(())
 }
 
@@ -57,20 +58,21 @@ fn parts_are_those_of_the_octets(rt: HostRuntime) -> Result<(), Fail> {
     let SegHead::Request(head) = head else {
         panic!(rt; "no request")
     };
-    assert_eq!(rt; (head.invoke, head.sa), (0xFF, true));
-    assert_eq!(rt; (head.segs.number(), head.resp.number()), (7, 3));
-    assert_eq!(rt; (seq, window.number()), (0x7F, 0x2A));
-    assert_eq!(rt; (more, choice), (false, 0x0C));
-    assert_eq!(rt; piece.as_slice(), [0xAA, 0xBB].as_slice());
+    assert_same(&rt, (head.invoke, head.sa), (0xFF, true));
+    assert_same(&rt, (head.segs.number(), head.resp.number()), (7, 3));
+    assert_same(&rt, (seq, window.number()), (0x7F, 0x2A));
+    assert_same(&rt, (more, choice), (false, 0x0C));
+    assert_same(&rt, piece.as_slice(), [0xAA, 0xBB].as_slice());
     let (apdu, _) = decoded(&rt, rt.alloc(), &[0x42, 1, 2, 3])?;
     let Apdu::SegmentAck(ack) = apdu else {
         panic!(rt; "no SegmentACK")
     };
-    assert_eq!(rt;
+    assert_same(
+        &rt,
         (ack.invoke, ack.nak, ack.srv, ack.seq),
-        (1, true, false, 2)
+        (1, true, false, 2),
     );
-    assert_eq!(rt; Some(ack.window), Window::new(3));
+    assert_same(&rt, Some(ack.window), Window::new(3));
     Ok(())
 }
 

@@ -1,6 +1,7 @@
 //! The fields of network messages.
 
 use super::decoded;
+use crate::expectations::assert_same_of;
 use bac_npdu::{Body, NetMessage, Ports};
 use bac_tables::octets_of;
 use std::alloc::Global;
@@ -103,7 +104,7 @@ fn each_message_has_its_fields(rt: HostRuntime) -> Result<(), Fail> {
             panic!(rt; "no network message")
         };
         let (told, fields) = fields_of(rt.alloc(), message)?;
-        assert_eq!(rt; (told, fields.as_slice()), (name, numbers), "of {octets}");
+        assert_same_of(&rt, (told, fields.as_slice()), (name, numbers), octets);
     }
     Ok(())
 }

@@ -1,5 +1,6 @@
 //! Whether two inputs spell one frame.
 
+use crate::expectations::assert_same;
 use bac_npdu::{Side, same_meaning};
 use bac_tables::octets_of;
 use bac_tag::{Refusal, Why};
@@ -18,7 +19,7 @@ fn told(
     let right = octets_of(right)?;
     match same_meaning(alloc, &left, &right) {
         Err((_, refusal)) if refusal.why == Why::OutOfMemory => {
-            assert_eq!(rt; refusal.place, 0);
+            assert_same(rt, refusal.place, 0);
             Ok(same_meaning(alloc, &left, &right))
         }
         found => Ok(found),
@@ -44,7 +45,7 @@ fn meanings_are_compared(rt: HostRuntime) -> Result<(), Fail> {
         (other, second, false),
         ("01 80 07", "01 80 07 00", false),
     ] {
-        assert_eq!(rt; told(&rt, alloc, left, right)?, Ok(same));
+        assert_same(&rt, told(&rt, alloc, left, right)?, Ok(same));
     }
     Ok(())
 }
@@ -61,8 +62,20 @@ fn the_left_side_is_told_first(rt: HostRuntime) -> Result<(), Fail> {
         why: Why::Short,
     };
     let alloc = rt.alloc();
-    assert_eq!(rt; told(&rt, alloc, first, "02")?, Err((Side::Right, version)));
-    assert_eq!(rt; told(&rt, alloc, "none", first)?, Err((Side::Left, short)));
-    assert_eq!(rt; told(&rt, alloc, "02", "none")?, Err((Side::Left, version)));
+    assert_same(
+        &rt,
+        told(&rt, alloc, first, "02")?,
+        Err((Side::Right, version)),
+    );
+    assert_same(
+        &rt,
+        told(&rt, alloc, "none", first)?,
+        Err((Side::Left, short)),
+    );
+    assert_same(
+        &rt,
+        told(&rt, alloc, "02", "none")?,
+        Err((Side::Left, version)),
+    );
     Ok(())
 }

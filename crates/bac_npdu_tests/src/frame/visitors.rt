@@ -1,5 +1,6 @@
 //! What is made of a frame where it was decoded.
 
+use crate::expectations::assert_same;
 use bac_npdu::{Addressed, Body, FrameHead, FrameVisitor, append_frame, visit_frame};
 use bac_tables::octets_of;
 use bac_tag::{OutOfMemory, Refusal, Why};
@@ -121,8 +122,8 @@ fn heads_say_what_stands_in_front(rt: HostRuntime) -> Result<(), Fail> {
             visit_frame(alloc, &octets, Tell { alloc }, &mut out)??;
         }
         let (head, frame) = out.split_at_checked(told.len()).ok_or("what is told")?;
-        assert_eq!(rt; head, told.as_slice());
-        assert_eq!(rt; frame, octets.as_slice());
+        assert_same(&rt, head, told.as_slice());
+        assert_same(&rt, frame, octets.as_slice());
     }
     Ok(())
 }

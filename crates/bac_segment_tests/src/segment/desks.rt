@@ -1,6 +1,7 @@
 //! The worked examples of a desk.
 
 use super::{KEY, SERVICE, are, desk, segment_of, take_at};
+use crate::expectations::assert_same_of;
 use bac_segment::{Desk, Key};
 use bac_tables::{octets_of, rows_of};
 use std::alloc::Global;
@@ -24,13 +25,13 @@ fn answers(rt: &impl Abort, alloc: Global, desk: &mut Desk, table: &str) -> Resu
             } else {
                 "false"
             };
-            assert_eq!(rt; was_open, row.told, "of {}", row.octets);
+            assert_same_of(rt, was_open, row.told, row.octets);
             continue;
         }
         let (peer, octets) = row.octets.split_once(": ").ok_or("a sender")?;
         let segment = segment_of(alloc, octets)?;
         let answer = take_at(desk, key_of(peer)?.peer, &segment);
-        assert_eq!(rt; answer, row.told, "of {}", row.octets);
+        assert_same_of(rt, answer, row.told, row.octets);
     }
     Ok(())
 }

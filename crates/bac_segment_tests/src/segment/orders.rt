@@ -1,6 +1,7 @@
 //! Segments in each order, lost and doubled.
 
 use super::{SERVICE, are, opened, plan, segments_of, take};
+use crate::expectations::{assert_holds, assert_same, assert_same_of};
 use bac_apdu::Segment;
 use bac_tables::octets_of;
 use std::alloc::Global;
@@ -67,31 +68,34 @@ fn comes(
         let segment = segments.get(place).ok_or("four segments")?;
         missing = missing.saturating_sub(1);
         let wanted = if missing == 0 { "Complete" } else { "Kept" };
-        assert_eq!(rt;
+        assert_same_of(
+            rt,
             take(rt, &mut reassembly, segment),
             wanted,
-            "{place} in {order:?}"
+            (place, order),
         );
         if place == number && happens == Happens::Twice {
-            assert_eq!(rt;
+            assert_same_of(
+                rt,
                 take(rt, &mut reassembly, segment),
                 "Repeat",
-                "{place} in {order:?}"
+                (place, order),
             );
         }
     }
     if happens == Happens::Again {
         let segment = segments.get(number).ok_or("four segments")?;
-        assert_eq!(rt;
+        assert_same_of(
+            rt,
             take(rt, &mut reassembly, segment),
             "Repeat",
-            "{number} in {order:?}"
+            (number, order),
         );
     }
     if happens == Happens::Lost {
-        assert!(rt; reassembly.octets().is_none(), "{number} of {order:?}");
+        assert_holds(rt, reassembly.octets().is_none(), (number, order));
     } else {
-        assert!(rt; are(reassembly.octets(), octets), "{number} of {order:?}");
+        assert_holds(rt, are(reassembly.octets(), octets), (number, order));
     }
     Ok(())
 }
@@ -100,7 +104,7 @@ fn comes(
 fn four_segments_come_in_each_order(rt: HostRuntime) -> Result<(), Fail> {
     let octets = octets_of(SERVICE)?;
     let segments = segments_of(rt.alloc(), &plan(4, 4), &octets)?;
-    assert_eq!(rt; segments.len(), 4);
+    assert_same(&rt, segments.len(), 4);
     for order in orders() {
         comes(
             &rt,
@@ -130,13 +134,14 @@ fn the_last_piece_may_be_empty(rt: HostRuntime) -> Result<(), Fail> {
         segment.piece.clear();
         let mut found = opened(rt.alloc())?;
         for other in &segments {
-            assert_eq!(rt; take(&rt, &mut found, other), "Kept");
+            assert_same(&rt, take(&rt, &mut found, other), "Kept");
         }
         segment.more = false;
-        assert_eq!(rt; take(&rt, &mut found, &segment), "Complete");
-        assert!(rt;
+        assert_same(&rt, take(&rt, &mut found, &segment), "Complete");
+        assert_holds(
+            &rt,
             are(found.octets(), octets.get(..length).ok_or("octets")?),
-            "of {length}"
+            length,
         );
     }
     Ok(())

@@ -1,6 +1,7 @@
 //! Many segments, and many octets.
 
 use super::{KEY, are, desk, opened, plan, segment_of, segments_of, take, take_at};
+use crate::expectations::{assert_holds, assert_same_of};
 use bac_segment::Key;
 use bac_tables::mixed;
 use std::test::Fail;
@@ -16,23 +17,13 @@ fn numbers_end_at_255(rt: HostRuntime) -> Result<(), Fail> {
         } else {
             "Kept"
         };
-        assert_eq!(rt;
-            take(&rt, &mut forwards, segment),
-            wanted,
-            "at {}",
-            segment.seq
-        );
+        assert_same_of(&rt, take(&rt, &mut forwards, segment), wanted, segment.seq);
     }
     assert!(rt; are(forwards.octets(), &octets));
     let mut backwards = opened(rt.alloc())?;
     for segment in segments.iter().rev() {
         let wanted = if segment.seq == 0 { "Complete" } else { "Kept" };
-        assert_eq!(rt;
-            take(&rt, &mut backwards, segment),
-            wanted,
-            "at {}",
-            segment.seq
-        );
+        assert_same_of(&rt, take(&rt, &mut backwards, segment), wanted, segment.seq);
     }
     assert!(rt; are(backwards.octets(), &octets));
     Ok(())
@@ -45,20 +36,20 @@ fn gaps_are_filled(rt: HostRuntime) -> Result<(), Fail> {
     let segments = segments_of(rt.alloc(), &plan(40, 127), &octets)?;
     let mut reassembly = opened(rt.alloc())?;
     for segment in segments.iter().filter(|s| s.seq % 2 == 0) {
-        assert_eq!(rt;
+        assert_same_of(
+            &rt,
             take(&rt, &mut reassembly, segment),
             "Kept",
-            "at {}",
-            segment.seq
+            segment.seq,
         );
     }
     for segment in segments.iter().rev().filter(|s| s.seq % 2 == 1) {
         let wanted = if segment.seq == 1 { "Complete" } else { "Kept" };
-        assert_eq!(rt;
+        assert_same_of(
+            &rt,
             take(&rt, &mut reassembly, segment),
             wanted,
-            "at {}",
-            segment.seq
+            segment.seq,
         );
     }
     assert!(rt; are(reassembly.octets(), &octets));
@@ -74,11 +65,11 @@ fn each_key_has_its_own_octets(rt: HostRuntime) -> Result<(), Fail> {
     let last = segment_of(rt.alloc(), "38 01 01 04 0C")?;
     let mut desk = desk(rt.alloc())?;
     for peer in 1..9 {
-        assert_eq!(rt; take_at(&mut desk, peer, &first), "Kept", "of {peer}");
+        assert_same_of(&rt, take_at(&mut desk, peer, &first), "Kept", peer);
     }
     for peer in 1..9 {
-        assert_eq!(rt; take_at(&mut desk, peer, &last), "Complete", "of {peer}");
-        assert!(rt; are(desk.octets(Key { peer, ..KEY }), &octets), "of {peer}");
+        assert_same_of(&rt, take_at(&mut desk, peer, &last), "Complete", peer);
+        assert_holds(&rt, are(desk.octets(Key { peer, ..KEY }), &octets), peer);
     }
     Ok(())
 }

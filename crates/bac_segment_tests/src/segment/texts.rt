@@ -1,5 +1,6 @@
 //! What the faults print.
 
+use crate::expectations::assert_same;
 use bac_segment::{CutFault, TakeFault};
 use std::test::Fail;
 
@@ -17,7 +18,7 @@ fn faults_are_told(rt: HostRuntime) -> Result<(), Fail> {
         (TakeFault::OutOfMemory, "out of memory"),
         (TakeFault::DeskFull, "eight other keys are open"),
     ] {
-        assert_eq!(rt; format!(in alloc; "{fault}")?.as_str(), wanted);
+        assert_same(&rt, format!(in alloc; "{fault}")?.as_str(), wanted);
     }
     for (fault, wanted) in [
         (CutFault::Size, "a piece has no octets"),
@@ -26,7 +27,7 @@ fn faults_are_told(rt: HostRuntime) -> Result<(), Fail> {
         (CutFault::TooMany, "the message has more than 256 pieces"),
         (CutFault::OutOfMemory, "out of memory"),
     ] {
-        assert_eq!(rt; format!(in alloc; "{fault}")?.as_str(), wanted);
+        assert_same(&rt, format!(in alloc; "{fault}")?.as_str(), wanted);
     }
     Ok(())
 }

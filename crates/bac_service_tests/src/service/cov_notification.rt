@@ -1,7 +1,7 @@
 //! ConfirmedCOVNotification and UnconfirmedCOVNotification.
 
 use super::{canonical, fronts, gives, judge, longer_heads, object};
-use crate::expectations::assert_same;
+use crate::expectations::{assert_same, unexpected};
 use bac_data::Event;
 use bac_service::{CovNotification, Kind, Service, Unsigned32};
 use bac_value::{Enumerated, PrimRef, Priority, RealBits};
@@ -31,7 +31,7 @@ fn tells_two_values(rt: &impl Abort, notification: &CovNotification) -> Result<(
     assert_same(rt, notification.object, object(0, 10)?);
     assert_same(rt, notification.time_remaining, Unsigned32(0));
     let [first, second] = notification.values.as_slice() else {
-        panic!(rt; "{notification:?}")
+        unexpected(rt, &notification)
     };
     assert_same(rt, (first.property, first.index), (Enumerated(85), None));
     assert_same(rt, (second.property, second.index), (Enumerated(111), None));
@@ -55,7 +55,7 @@ fn values_of_an_object_are_told(rt: HostRuntime) -> Result<(), Fail> {
                 assert_same(&rt, notification.confirmed, service == CONFIRMED);
                 tells_two_values(&rt, &notification)?;
             }
-            found => panic!(rt; "{found:?}"),
+            found => unexpected(&rt, &found),
         }
         let heads = "0 2 7 12 14 15 17 18 23 24 26 27 30 31";
         longer_heads(&rt, rt.alloc(), service, NOTIFICATION, heads)?;
@@ -71,7 +71,7 @@ fn a_value_has_an_index_and_a_priority(rt: HostRuntime) -> Result<(), Fail> {
         Service::CovNotification(notification) => {
             assert_same(&rt, notification.time_remaining, Unsigned32(3600));
             let [value] = notification.values.as_slice() else {
-                panic!(rt; "{notification:?}")
+                unexpected(&rt, &notification)
             };
             assert_same(
                 &rt,
@@ -81,7 +81,7 @@ fn a_value_has_an_index_and_a_priority(rt: HostRuntime) -> Result<(), Fail> {
             assert_same(&rt, value.priority, Priority::new(8));
             gives(&rt, &value.value, &[]);
         }
-        found => panic!(rt; "{found:?}"),
+        found => unexpected(&rt, &found),
     }
     longer_heads(
         &rt,

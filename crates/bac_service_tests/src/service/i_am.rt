@@ -1,7 +1,7 @@
 //! I-Am.
 
 use super::{canonical, fronts, judge, longer_heads, object};
-use crate::expectations::assert_same;
+use crate::expectations::{assert_same, unexpected};
 use bac_service::{IAm, Kind, Service, Unsigned16, Unsigned32};
 use bac_value::Enumerated;
 use std::test::Fail;
@@ -29,7 +29,7 @@ fn a_device_tells_its_largest_message_and_its_vendor(rt: HostRuntime) -> Result<
             };
             assert_same(&rt, request, wanted);
         }
-        found => panic!(rt; "{found:?}"),
+        found => unexpected(&rt, &found),
     }
     longer_heads(&rt, rt.alloc(), SERVICE, octets, "0 5 8 10")?;
     fronts(&rt, rt.alloc(), SERVICE, octets, "none")

@@ -1,7 +1,7 @@
 //! Services without a production.
 
 use super::{canonical, encoded, is_kept, judge};
-use crate::expectations::assert_same;
+use crate::expectations::{assert_holds, assert_same, assert_same_of, unexpected};
 use bac_service::{Kind, Opaque, OpaqueFault, Service};
 use bac_tables::{octets_of, places_of};
 use std::alloc::Global;
@@ -64,20 +64,13 @@ fn a_choice_with_a_production_is_never_opaque(rt: HostRuntime) -> Result<(), Fai
             } else if empty.contains(&usize::from(choice)) {
                 "FF FF -> Trailing at 0"
             } else {
-                assert_eq!(rt; made?.octets(), octets.as_slice(), "of {kind:?} {choice}");
+                assert_same_of(&rt, made?.octets(), octets.as_slice(), (kind, choice));
                 let found = canonical(&rt, rt.alloc(), service, "FF FF")?;
-                assert!(rt;
-                    matches!(&found, Service::Opaque(_)),
-                    "of {kind:?} {choice}"
-                );
+                assert_holds(&rt, matches!(&found, Service::Opaque(_)), (kind, choice));
                 is_kept(&rt, rt.alloc(), service, "FF FF")?;
                 continue;
             };
-            assert_eq!(rt;
-                made.err(),
-                Some(OpaqueFault::Typed),
-                "of {kind:?} {choice}"
-            );
+            assert_same_of(&rt, made.err(), Some(OpaqueFault::Typed), (kind, choice));
             judge(&rt, rt.alloc(), service, "none", row)?;
         }
     }
@@ -94,7 +87,7 @@ fn other_services_are_read_as_opaque(rt: HostRuntime) -> Result<(), Fail> {
                 assert_same(&rt, (found.kind(), found.choice()), (kind, choice));
                 assert_same(&rt, found.octets(), octets_of(octets)?.as_slice());
             }
-            found => panic!(rt; "{found:?}"),
+            found => unexpected(&rt, &found),
         }
     }
     Ok(())

@@ -1,7 +1,7 @@
 //! ReadProperty.
 
 use super::{canonical, fronts, judge, longer_heads, object};
-use crate::expectations::assert_same;
+use crate::expectations::{assert_same, unexpected};
 use bac_service::{Kind, ReadProperty, Service, Unsigned32};
 use bac_value::Enumerated;
 use std::test::Fail;
@@ -38,7 +38,7 @@ fn an_object_a_property_and_an_index_are_asked_for(rt: HostRuntime) -> Result<()
                     },
                 );
             }
-            found => panic!(rt; "{found:?}"),
+            found => unexpected(&rt, &found),
         }
     }
     let rows = "

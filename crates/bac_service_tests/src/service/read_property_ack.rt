@@ -1,7 +1,7 @@
 //! ReadProperty-ACK.
 
 use super::{canonical, fronts, gives, judge, longer_heads, object};
-use crate::expectations::assert_same;
+use crate::expectations::{assert_same, unexpected};
 use bac_data::Event;
 use bac_service::{Kind, Service, Unsigned32};
 use bac_value::{Enumerated, PrimRef, RealBits};
@@ -24,7 +24,7 @@ fn the_value_of_a_property_is_told(rt: HostRuntime) -> Result<(), Fail> {
             let real = PrimRef::RealBits(RealBits(0x4290_999A));
             gives(&rt, &ack.value, &[Event::App(real)]);
         }
-        found => panic!(rt; "{found:?}"),
+        found => unexpected(&rt, &found),
     }
     longer_heads(&rt, rt.alloc(), SERVICE, octets, "0 5 7 8 13")?;
     fronts(&rt, rt.alloc(), SERVICE, octets, "none")
@@ -43,7 +43,7 @@ fn the_value_of_an_element_is_told(rt: HostRuntime) -> Result<(), Fail> {
             let events = [Event::Open(2), Event::Ctx(1, &[0, 0x55]), Event::Close(2)];
             gives(&rt, &ack.value, &events);
         }
-        found => panic!(rt; "{found:?}"),
+        found => unexpected(&rt, &found),
     }
     longer_heads(&rt, rt.alloc(), SERVICE, octets, "0 5 7 9 10 11 14 15")?;
     fronts(&rt, rt.alloc(), SERVICE, octets, "none")

@@ -1,7 +1,7 @@
 //! ReadPropertyMultiple.
 
 use super::{canonical, fronts, judge, longer_heads, object};
-use crate::expectations::assert_same;
+use crate::expectations::{assert_same, unexpected};
 use bac_service::{Kind, PropertyReference, Service, Unsigned32};
 use bac_value::Enumerated;
 use std::test::Fail;
@@ -21,7 +21,7 @@ fn one_property_of_one_object_is_asked_for(rt: HostRuntime) -> Result<(), Fail> 
     match canonical(&rt, rt.alloc(), SERVICE, ONE)? {
         Service::ReadPropertyMultiple(request) => {
             let [spec] = request.specs.as_slice() else {
-                panic!(rt; "{request:?}")
+                unexpected(&rt, &request)
             };
             assert_same(&rt, spec.object, object(0, 33)?);
             let property = Enumerated(85);
@@ -31,7 +31,7 @@ fn one_property_of_one_object_is_asked_for(rt: HostRuntime) -> Result<(), Fail> 
             }];
             assert_same(&rt, spec.properties.as_slice(), wanted.as_slice());
         }
-        found => panic!(rt; "{found:?}"),
+        found => unexpected(&rt, &found),
     }
     longer_heads(&rt, rt.alloc(), SERVICE, ONE, "0 5 6 8")?;
     fronts(&rt, rt.alloc(), SERVICE, ONE, "0")
@@ -43,7 +43,7 @@ fn objects_and_properties_keep_their_order(rt: HostRuntime) -> Result<(), Fail> 
     match canonical(&rt, rt.alloc(), SERVICE, octets)? {
         Service::ReadPropertyMultiple(request) => {
             let [first, second] = request.specs.as_slice() else {
-                panic!(rt; "{request:?}")
+                unexpected(&rt, &request)
             };
             assert_same(
                 &rt,
@@ -51,7 +51,7 @@ fn objects_and_properties_keep_their_order(rt: HostRuntime) -> Result<(), Fail> 
                 (object(0, 33)?, object(8, 4)?),
             );
             let [status, present] = first.properties.as_slice() else {
-                panic!(rt; "{request:?}")
+                unexpected(&rt, &request)
             };
             assert_same(
                 &rt,
@@ -65,7 +65,7 @@ fn objects_and_properties_keep_their_order(rt: HostRuntime) -> Result<(), Fail> 
             );
             assert!(rt; second.properties.is_empty());
         }
-        found => panic!(rt; "{found:?}"),
+        found => unexpected(&rt, &found),
     }
     longer_heads(&rt, rt.alloc(), SERVICE, octets, "0 5 6 8 10 12 13 18 19")?;
     fronts(&rt, rt.alloc(), SERVICE, octets, "0 13")

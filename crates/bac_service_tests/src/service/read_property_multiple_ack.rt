@@ -1,7 +1,7 @@
 //! ReadPropertyMultiple-ACK.
 
 use super::{canonical, fronts, gives, is_kept, judge, longer_heads, object};
-use crate::expectations::assert_same;
+use crate::expectations::{assert_same, assert_same_of, unexpected};
 use bac_data::{Any, Event};
 use bac_service::{
     ErrorCause, Kind, PropertyResult, ReadAccessResult, ReadResult, Service, Unsigned32,
@@ -23,7 +23,7 @@ const PROPERTY: &str = "0C 00 00 00 05 1E 29 55";
 fn results_of<'a>(rt: &impl Abort, of_object: &'a ReadAccessResult) -> &'a [PropertyResult] {
     match &of_object.results {
         Some(results) => results.as_slice(),
-        None => panic!(rt; "{of_object:?}"),
+        None => unexpected(rt, &of_object),
     }
 }
 
@@ -42,11 +42,11 @@ fn a_value_and_an_error_are_told(rt: HostRuntime) -> Result<(), Fail> {
     match canonical(&rt, rt.alloc(), SERVICE, octets)? {
         Service::ReadPropertyMultipleAck(ack) => {
             let [of_object] = ack.results.as_slice() else {
-                panic!(rt; "{ack:?}")
+                unexpected(&rt, &ack)
             };
             assert_same(&rt, of_object.object, object(0, 33)?);
             let [first, second] = results_of(&rt, of_object) else {
-                panic!(rt; "{ack:?}")
+                unexpected(&rt, &ack)
             };
             assert_same(&rt, (first.property, first.index), (Enumerated(85), None));
             assert_same(
@@ -55,14 +55,14 @@ fn a_value_and_an_error_are_told(rt: HostRuntime) -> Result<(), Fail> {
                 (Enumerated(103), None),
             );
             let (Ok(value), Err(cause)) = (outcome(first), outcome(second)) else {
-                panic!(rt; "{ack:?}")
+                unexpected(&rt, &ack)
             };
             let real = PrimRef::RealBits(RealBits(0x4290_999A));
             gives(&rt, value, &[Event::App(real)]);
             let (class, code) = (Enumerated(2), Enumerated(32));
             assert_same(&rt, cause, ErrorCause { class, code });
         }
-        found => panic!(rt; "{found:?}"),
+        found => unexpected(&rt, &found),
     }
     let heads = "0 5 6 8 9 14 15 17 18 20 22 23";
     longer_heads(&rt, rt.alloc(), SERVICE, octets, heads)?;
@@ -82,9 +82,9 @@ fn no_list_is_not_the_empty_list(rt: HostRuntime) -> Result<(), Fail> {
             Service::ReadPropertyMultipleAck(ack) => {
                 let first = ack.results.first();
                 let count = first.map(|told| told.results.as_ref().map(|list| list.len()));
-                assert_eq!(rt; count, wanted, "of {octets}");
+                assert_same_of(&rt, count, wanted, octets);
             }
-            found => panic!(rt; "{found:?}"),
+            found => unexpected(&rt, &found),
         }
         is_kept(&rt, rt.alloc(), SERVICE, octets)?;
     }
@@ -97,7 +97,7 @@ fn the_result_of_an_element_is_told(rt: HostRuntime) -> Result<(), Fail> {
     match canonical(&rt, rt.alloc(), SERVICE, octets)? {
         Service::ReadPropertyMultipleAck(ack) => {
             let [first, second] = ack.results.as_slice() else {
-                panic!(rt; "{ack:?}")
+                unexpected(&rt, &ack)
             };
             assert_same(
                 &rt,
@@ -106,7 +106,7 @@ fn the_result_of_an_element_is_told(rt: HostRuntime) -> Result<(), Fail> {
             );
             assert!(rt; first.results.is_none());
             let [element] = results_of(&rt, second) else {
-                panic!(rt; "{ack:?}")
+                unexpected(&rt, &ack)
             };
             assert_same(
                 &rt,
@@ -115,7 +115,7 @@ fn the_result_of_an_element_is_told(rt: HostRuntime) -> Result<(), Fail> {
             );
             gives(&rt, outcome(element)?, &[]);
         }
-        found => panic!(rt; "{found:?}"),
+        found => unexpected(&rt, &found),
     }
     let heads = "0 5 10 11 13 15 16 17";
     longer_heads(&rt, rt.alloc(), SERVICE, octets, heads)?;

@@ -1,7 +1,7 @@
 //! Errors of typed services.
 
 use super::{canonical, encoded, fronts, judge, longer_heads};
-use crate::expectations::assert_same;
+use crate::expectations::{assert_same, assert_same_of, unexpected};
 use bac_service::{Kind, Service, ServiceError};
 use bac_tables::octets_of;
 use std::test::Fail;
@@ -22,7 +22,7 @@ fn an_error_has_a_class_and_a_code(rt: HostRuntime) -> Result<(), Fail> {
         );
         match canonical(&rt, rt.alloc(), (Kind::Error, choice), octets)? {
             Service::ServiceError(found) => assert_same(&rt, found, error),
-            found => panic!(rt; "{found:?}"),
+            found => unexpected(&rt, &found),
         }
         let service = Service::ServiceError(error);
         assert_same(
@@ -46,7 +46,7 @@ fn an_error_has_a_class_and_a_code(rt: HostRuntime) -> Result<(), Fail> {
 fn errors_of_other_services_have_none(rt: HostRuntime) {
     for choice in 0..=255 {
         let error = ServiceError::new(choice, 2, 32);
-        assert_eq!(rt; error.is_some(), CHOICES.contains(&choice), "of {choice}");
+        assert_same_of(&rt, error.is_some(), CHOICES.contains(&choice), choice);
     }
 }
 

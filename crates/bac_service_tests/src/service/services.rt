@@ -1,7 +1,7 @@
 //! Services that are made and not read, and those that are read without their marks.
 
 use super::{canonical, encoded, object};
-use crate::expectations::assert_same;
+use crate::expectations::{assert_same, unexpected};
 use bac_service::{
     CovNotification, Kind, PropertyReference, ReadAccessSpecification, ReadProperty,
     ReadPropertyMultiple, Service, Unsigned32, WhoIs, decode_service, laws,
@@ -97,7 +97,7 @@ fn a_service_is_read_without_its_mark(rt: HostRuntime) -> Result<(), Fail> {
             let limits = Instance::new(100).zip(Instance::new(200));
             assert_same(&rt, request, WhoIs { limits });
         }
-        found => panic!(rt; "{found:?}"),
+        found => unexpected(&rt, &found),
     }
     let refusal = decode_service(rt.alloc(), Kind::Unconfirmed, 8, &[9, 0]).err();
     let (place, why) = (2, Why::Short);

@@ -1,7 +1,7 @@
 //! Services of many octets and of long lists are decoded and encoded whole: no clause says that memory is there.
 
 use super::object;
-use crate::expectations::assert_same;
+use crate::expectations::{assert_holds, assert_same, unexpected};
 use bac_data::{Any, Event};
 use bac_service::{
     ErrorCause, Kind, Opaque, PropertyValue, ReadAccessResult, ReadResult, Service, decode_service,
@@ -87,7 +87,7 @@ fn tells_value(rt: &impl Abort, results: &[ReadAccessResult], octets: &[u8]) -> 
     assert_same(rt, (result.property, result.index), (Enumerated(85), None));
     match &result.result {
         ReadResult::Value(value) => is_string(rt, value, octets),
-        ReadResult::Error(cause) => panic!(rt; "{cause:?}"),
+        ReadResult::Error(cause) => unexpected(rt, &cause),
     }
     Ok(())
 }
@@ -110,15 +110,16 @@ fn opaque_octets_of_every_size_are_kept(rt: HostRuntime) -> Result<(), Fail> {
         let octets = mixed(alloc, size)?;
         let made = Opaque::new(alloc, Kind::Confirmed, 17, &octets)?;
         assert_same(&rt, (made.kind(), made.choice()), service);
-        assert!(rt; made.octets() == octets.as_slice(), "{size} octets");
-        assert!(rt;
+        assert_holds(&rt, made.octets() == octets.as_slice(), size);
+        assert_holds(
+            &rt,
             encode_service(alloc, &Service::Opaque(made))? == octets,
-            "{size} octets"
+            size,
         );
         match kept(&rt, alloc, service, &octets)? {
             Service::Opaque(found) => {
                 assert_same(&rt, (found.kind(), found.choice()), service);
-                assert!(rt; found.octets() == octets.as_slice(), "{size} octets");
+                assert_holds(&rt, found.octets() == octets.as_slice(), size);
             }
             _ => panic!(rt; "{size} octets are not opaque"),
         }
@@ -218,7 +219,7 @@ fn ten_thousand_objects_are_asked_for(rt: HostRuntime) -> Result<(), Fail> {
             for (spec, number) in request.specs.iter().zip(NUMBERS) {
                 assert_same(&rt, spec.object, object(0, u32::from(number))?);
                 let [reference] = spec.properties.as_slice() else {
-                    panic!(rt; "{spec:?}")
+                    unexpected(&rt, &spec)
                 };
                 assert_same(
                     &rt,
@@ -259,16 +260,16 @@ fn ten_thousand_properties_are_asked_for(rt: HostRuntime) -> Result<(), Fail> {
 fn tells_error(rt: &impl Abort, told: &ReadAccessResult, wanted: ObjectId) {
     assert_same(rt, told.object, wanted);
     let Some(results) = &told.results else {
-        panic!(rt; "{told:?}")
+        unexpected(rt, &told)
     };
     let [result] = results.as_slice() else {
-        panic!(rt; "{told:?}")
+        unexpected(rt, &told)
     };
     assert_same(rt, (result.property, result.index), (Enumerated(85), None));
     let (class, code) = (Enumerated(2), Enumerated(32));
     match &result.result {
         ReadResult::Error(cause) => assert_same(rt, *cause, ErrorCause { class, code }),
-        ReadResult::Value(_) => panic!(rt; "{told:?}"),
+        ReadResult::Value(_) => unexpected(rt, &told),
     }
 }
 
@@ -310,7 +311,7 @@ fn ten_thousand_results_are_told(rt: HostRuntime) -> Result<(), Fail> {
                 assert_same(&rt, (result.property, result.index), (Enumerated(85), None));
                 match &result.result {
                     ReadResult::Value(value) => is_number(&rt, value, number),
-                    ReadResult::Error(cause) => panic!(rt; "{cause:?}"),
+                    ReadResult::Error(cause) => unexpected(&rt, &cause),
                 }
             }
         }
@@ -382,7 +383,7 @@ fn values_of_ten_thousand_objects_are_written(rt: HostRuntime) -> Result<(), Fai
             for (spec, number) in request.specs.iter().zip(NUMBERS) {
                 assert_same(&rt, spec.object, object(0, u32::from(number))?);
                 let [value] = spec.values.as_slice() else {
-                    panic!(rt; "{spec:?}")
+                    unexpected(&rt, &spec)
                 };
                 assert_same(&rt, (value.property, value.index), (Enumerated(85), None));
                 assert_same(&rt, value.priority, None);

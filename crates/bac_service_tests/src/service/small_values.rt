@@ -1,7 +1,7 @@
 //! Values that are compared and printed whole.
 
 use super::object;
-use crate::expectations::assert_same;
+use crate::expectations::{assert_holds, assert_same};
 use bac_service::{
     ErrorCause, IAm, Kind, OpaqueFault, PropertyReference, ReadProperty, ServiceError,
     SubscribeCov, Unsigned16, Unsigned32, WhoIs,
@@ -20,8 +20,8 @@ fn is_shown<T: Copy + Debug + PartialEq>(
     other: T,
     text: &str,
 ) -> Result<(), Fail> {
-    assert!(rt; value == value, "{text}");
-    assert!(rt; value != other, "{text}");
+    assert_holds(rt, value == value, text);
+    assert_holds(rt, value != other, text);
     let shown = match format!(in alloc; "{value:?}") {
         Ok(shown) => shown,
         Err(_) => format!(in alloc; "{value:?}")?,

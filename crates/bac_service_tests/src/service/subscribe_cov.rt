@@ -1,7 +1,7 @@
 //! SubscribeCOV.
 
 use super::{canonical, fronts, is_kept, judge, longer_heads, object};
-use crate::expectations::assert_same;
+use crate::expectations::{assert_same, unexpected};
 use bac_service::{Kind, Service, SubscribeCov, Unsigned32};
 use std::test::Fail;
 
@@ -25,7 +25,7 @@ fn a_subscription_without_end_has_lifetime_0(rt: HostRuntime) -> Result<(), Fail
             };
             assert_same(&rt, request, wanted);
         }
-        found => panic!(rt; "{found:?}"),
+        found => unexpected(&rt, &found),
     }
     longer_heads(&rt, rt.alloc(), SERVICE, octets, "0 2 7 9")?;
     fronts(&rt, rt.alloc(), SERVICE, octets, "7 9")
@@ -51,7 +51,7 @@ fn the_last_two_fields_may_be_absent(rt: HostRuntime) -> Result<(), Fail> {
                     (confirmed, lifetime),
                 );
             }
-            found => panic!(rt; "{found:?}"),
+            found => unexpected(&rt, &found),
         }
         is_kept(&rt, rt.alloc(), SERVICE, octets)?;
     }

@@ -1,6 +1,7 @@
 //! Who-Is.
 
 use super::{canonical, fronts, is_kept, judge, longer_heads};
+use crate::expectations::{assert_same_of, unexpected};
 use bac_service::{Kind, Service, WhoIs};
 use bac_value::Instance;
 use std::test::Fail;
@@ -24,9 +25,9 @@ fn the_lowest_instance_comes_first(rt: HostRuntime) -> Result<(), Fail> {
                     Some((low, high)) => Instance::new(low).zip(Instance::new(high)),
                     None => None,
                 };
-                assert_eq!(rt; request, WhoIs { limits }, "of {octets}");
+                assert_same_of(&rt, request, WhoIs { limits }, octets);
             }
-            found => panic!(rt; "{found:?}"),
+            found => unexpected(&rt, &found),
         }
         is_kept(&rt, rt.alloc(), SERVICE, octets)?;
     }

@@ -1,7 +1,7 @@
 //! WriteProperty.
 
 use super::{canonical, fronts, gives, judge, longer_heads, object};
-use crate::expectations::assert_same;
+use crate::expectations::{assert_same, unexpected};
 use bac_data::Event;
 use bac_service::{Kind, Service, Unsigned32};
 use bac_value::{Enumerated, Null, PrimRef, Priority, RealBits};
@@ -37,7 +37,7 @@ fn a_value_is_written_with_a_priority(rt: HostRuntime) -> Result<(), Fail> {
                 let real = PrimRef::RealBits(RealBits(0x42C8_0000));
                 gives(&rt, &request.value, &[Event::App(real)]);
             }
-            found => panic!(rt; "{found:?}"),
+            found => unexpected(&rt, &found),
         }
         longer_heads(&rt, rt.alloc(), SERVICE, octets, "0 5 7 8 13 14")?;
         fronts(&rt, rt.alloc(), SERVICE, octets, "14")?;
@@ -54,7 +54,7 @@ fn a_value_is_written_without_a_priority(rt: HostRuntime) -> Result<(), Fail> {
             assert_same(&rt, request.priority, None);
             gives(&rt, &request.value, &[Event::App(PrimRef::Null(Null))]);
         }
-        found => panic!(rt; "{found:?}"),
+        found => unexpected(&rt, &found),
     }
     longer_heads(&rt, rt.alloc(), SERVICE, octets, "0 5 7 9 10 11")?;
     fronts(&rt, rt.alloc(), SERVICE, octets, "none")

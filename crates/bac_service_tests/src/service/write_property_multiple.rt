@@ -1,7 +1,7 @@
 //! WritePropertyMultiple.
 
 use super::{canonical, fronts, gives, judge, longer_heads, object};
-use crate::expectations::assert_same;
+use crate::expectations::{assert_same, unexpected};
 use bac_data::Event;
 use bac_service::{Kind, Service, Unsigned32};
 use bac_value::{Enumerated, PrimRef, Priority, RealBits};
@@ -32,18 +32,18 @@ fn a_value_is_written_with_a_priority(rt: HostRuntime) -> Result<(), Fail> {
     match canonical(&rt, rt.alloc(), SERVICE, octets)? {
         Service::WritePropertyMultiple(request) => {
             let [spec] = request.specs.as_slice() else {
-                panic!(rt; "{request:?}")
+                unexpected(&rt, &request)
             };
             assert_same(&rt, spec.object, object(1, 1)?);
             let [value] = spec.values.as_slice() else {
-                panic!(rt; "{request:?}")
+                unexpected(&rt, &request)
             };
             assert_same(&rt, (value.property, value.index), (Enumerated(85), None));
             assert_same(&rt, value.priority, Priority::new(8));
             let real = PrimRef::RealBits(RealBits(0x42C8_0000));
             gives(&rt, &value.value, &[Event::App(real)]);
         }
-        found => panic!(rt; "{found:?}"),
+        found => unexpected(&rt, &found),
     }
     longer_heads(&rt, rt.alloc(), SERVICE, octets, "0 5 6 8 9 14 15 17")?;
     fronts(&rt, rt.alloc(), SERVICE, octets, "0")
@@ -104,7 +104,7 @@ fn fields_of_a_specification_come_once_and_in_order(rt: HostRuntime) -> Result<(
 fn objects_may_be_none(rt: HostRuntime) -> Result<(), Fail> {
     match canonical(&rt, rt.alloc(), SERVICE, "none")? {
         Service::WritePropertyMultiple(request) => assert!(rt; request.specs.is_empty()),
-        found => panic!(rt; "{found:?}"),
+        found => unexpected(&rt, &found),
     }
     Ok(())
 }
@@ -126,7 +126,7 @@ fn an_error_tells_the_first_write_that_failed(rt: HostRuntime) -> Result<(), Fai
                 (Enumerated(85), Some(Unsigned32(3))),
             );
         }
-        found => panic!(rt; "{found:?}"),
+        found => unexpected(&rt, &found),
     }
     let heads = "0 1 3 5 6 7 12 14 16";
     longer_heads(&rt, rt.alloc(), ERROR, octets, heads)?;

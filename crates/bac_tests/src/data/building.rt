@@ -1,7 +1,7 @@
 //! Building open values, and walking over them. Where memory is refused a call is made again, so that each
 //! test can be run with each of its allocations refused in turn (`rt try --test --fail-alloc N`).
 
-use crate::expectations::assert_same;
+use crate::expectations::{assert_same, assert_same_of};
 use bac_data::{Any, AnyBuilder, BuildFault, Event};
 use bac_tables::{octets_of, rows_of};
 use bac_tag::OutOfMemory;
@@ -86,7 +86,7 @@ fn takes(
         if found == Err(BuildFault::OutOfMemory) {
             found = attempt(rt, alloc, builder, row.octets)?;
         }
-        assert_eq!(rt; told_of(found), row.told, "of {}", row.octets);
+        assert_same_of(rt, told_of(found), row.told, row.octets);
     }
     Ok(())
 }
@@ -97,12 +97,7 @@ fn takes_context(rt: &impl Abort, builder: &mut AnyBuilder, number: u8, octets: 
     if found == Err(BuildFault::OutOfMemory) {
         found = builder.push_ctx(number, octets);
     }
-    assert_eq!(rt;
-        told_of(found),
-        told,
-        "of {} octets under {number}",
-        octets.len()
-    );
+    assert_same_of(rt, told_of(found), told, (octets.len(), number));
 }
 
 /// Contents that are too long are refused under each number.
@@ -198,7 +193,7 @@ fn thirty_two_groups_nest(rt: HostRuntime) -> Result<(), Fail> {
         } else {
             Event::Close(0)
         };
-        assert_eq!(rt; event, wanted, "event {place}");
+        assert_same_of(&rt, event, wanted, place);
     }
     Ok(())
 }

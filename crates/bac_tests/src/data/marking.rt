@@ -1,6 +1,6 @@
 //! Where octets that are read as an open value differ from the canonical ones.
 
-use crate::expectations::assert_same;
+use crate::expectations::{assert_same, assert_same_of};
 use bac_data::{Any, read_any_marked};
 use bac_tables::{octets_of, rows_of};
 use bac_tag::{Refusal, Why};
@@ -37,7 +37,7 @@ fn the_first_octet_that_differs_is_told(rt: HostRuntime) -> Result<(), Fail> {
         let octets = octets_of(row.octets)?;
         let (_, taken, found) = read(rt.alloc(), &octets)?;
         assert_same(&rt, taken, octets.len());
-        assert_eq!(rt; found, row.mark()?, "of {}", row.octets);
+        assert_same_of(&rt, found, row.mark()?, row.octets);
     }
     Ok(())
 }

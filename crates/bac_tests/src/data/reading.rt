@@ -1,7 +1,7 @@
 //! What is read as an open value, and where other octets are refused. Where memory is refused a value is read
 //! again, so that the tests can be run with each allocation refused in turn (`rt try --test --fail-alloc N`).
 
-use crate::expectations::assert_same;
+use crate::expectations::{assert_holds, assert_same, assert_same_of};
 use bac_data::{Any, read_any, write_any};
 use bac_tables::{Octets, TableFault, joined, octets_of, rows_of};
 use bac_tag::{OutOfMemory, Refusal, Why};
@@ -35,10 +35,11 @@ fn refuses(rt: &impl Abort, alloc: Global, octets: &[u8], place: usize, reason: 
     match read(rt, alloc, octets) {
         Ok(_) => panic!(rt; "{octets:?} are read"),
         Err(refusal) => {
-            assert_eq!(rt;
+            assert_same_of(
+                rt,
                 (refusal.why.name(), refusal.place),
                 (reason, place),
-                "of {octets:?}"
+                octets,
             );
         }
     }
@@ -200,17 +201,17 @@ fn depth_is_told_of_opening_tags_alone(rt: HostRuntime) -> Result<(), Fail> {
     for first in 0..=255u8 {
         let octets = inside(alloc, DEEPEST, &[first])?;
         match read(&rt, alloc, &octets) {
-            Ok(_) => assert!(rt; false, "{first}"),
+            Ok(_) => assert_holds(&rt, false, first),
             Err(refusal) if first & 0x0F == 0x0E => {
                 let place = 1 + DEEPEST;
                 let why = Why::Depth;
-                assert_eq!(rt; refusal, Refusal { place, why }, "{first}");
+                assert_same_of(&rt, refusal, Refusal { place, why }, first);
             }
             Err(refusal) => assert_ne!(rt; refusal.why, Why::Depth, "{first}"),
         }
         let octets = inside(alloc, DEEPEST - 1, &[first])?;
         match read(&rt, alloc, &octets) {
-            Ok(_) => assert!(rt; false, "{first}"),
+            Ok(_) => assert_holds(&rt, false, first),
             Err(refusal) => assert_ne!(rt; refusal.why, Why::Depth, "{first}"),
         }
     }

@@ -1,7 +1,7 @@
 //! Open values of many octets and of many elements are built, read and written whole: no clause says that memory is
 //! there.
 
-use crate::expectations::assert_same;
+use crate::expectations::{assert_holds, assert_same};
 use bac_data::{Any, AnyBuilder, Event, read_any, read_any_marked, write_any};
 use bac_tables::{ITEMS, enclosed, mixed, numbered};
 use bac_tag::OutOfMemory;
@@ -154,7 +154,7 @@ fn are_numbers(rt: &impl Abort, value: &Any) {
     assert_same(rt, value.count(), ITEMS);
     for (event, number) in value.events().zip(NUMBERS) {
         let wanted = Unsigned(u64::from(number));
-        assert!(rt; event == Event::App(PrimRef::Unsigned(wanted)), "{number}");
+        assert_holds(rt, event == Event::App(PrimRef::Unsigned(wanted)), number);
     }
 }
 
@@ -217,7 +217,7 @@ fn are_groups(rt: &impl Abort, value: &Any) {
         } else {
             Event::Close(4)
         };
-        assert!(rt; event == wanted, "event {place}");
+        assert_holds(rt, event == wanted, place);
     }
 }
 

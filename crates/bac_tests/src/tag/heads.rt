@@ -2,7 +2,7 @@
 
 ghost use Rattle.bac_tag.specs.Expected.{IsSound};
 
-use crate::expectations::assert_same;
+use crate::expectations::{assert_same, assert_same_of};
 use bac_tables::{Row, octets_of, rows_of};
 use bac_tag::layers::{
     Expected, append_head, first_difference, first_hopeless, mark_head, mark_read_head, number_of,
@@ -34,7 +34,7 @@ fn is_told(rt: &impl Abort, alloc: Global, row: &Row, found: Found) -> Result<()
         Ok(text) => text,
         Err(_) => shown(alloc, found)?,
     };
-    assert_eq!(rt; text.as_str(), row.told, "of {}", row.octets);
+    assert_same_of(rt, text.as_str(), row.told, row.octets);
     Ok(())
 }
 
@@ -159,7 +159,7 @@ fn are_canonical(rt: &impl Abort, alloc: Global, table: &str) -> Result<(), Fail
         assert_same(rt, taken, octets.len());
         assert!(rt; head.is_valid());
         assert_same(rt, write_head(head).as_slice(), octets.as_slice());
-        assert_eq!(rt; head_len(head), taken, "{head:?}");
+        assert_same_of(rt, head_len(head), taken, head);
     }
     Ok(())
 }
@@ -235,13 +235,8 @@ fn marks(rt: &impl Abort, head: TagHead, table: &str) -> Result<(), Fail> {
         let (read, taken) = read_head(&octets)?;
         // What mark_read_head requires: assert_eq! tells it to the prover.
         assert_eq!(rt; taken, octets.len());
-        assert_eq!(rt;
-            mark_read_head(&octets, read, head),
-            wanted,
-            "of {}",
-            row.octets
-        );
-        assert_eq!(rt; mark_head(&octets, head), wanted, "of {}", row.octets);
+        assert_same_of(rt, mark_read_head(&octets, read, head), wanted, row.octets);
+        assert_same_of(rt, mark_head(&octets, head), wanted, row.octets);
     }
     Ok(())
 }
@@ -313,7 +308,7 @@ fn expected_heads_fit(rt: HostRuntime) {
         (Expected::Open(Some(3)), TagHead::Close(3), false),
         (Expected::Close(None), TagHead::Close(0), true),
     ] {
-        assert_eq!(rt; expected.fits(head), fits, "{head:?} among {expected:?}");
+        assert_same_of(&rt, expected.fits(head), fits, (head, expected));
     }
 }
 

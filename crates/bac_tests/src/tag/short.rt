@@ -1,7 +1,7 @@
 //! Heads of one octet (clause 20.2.1): the number, 0 to 14, and the class, with an LVT of 0 to 4 for a length, 6 for an
 //! opening tag and 7 for a closing one. A head that is not the least of its spellings is none of them.
 
-use crate::expectations::assert_same;
+use crate::expectations::{assert_same, assert_same_of};
 use bac_tables::{octets_of, rows_of};
 use bac_tag::TagHead;
 use bac_tag::layers::{is_short_closing, is_short_opening, short_len};
@@ -49,7 +49,7 @@ fn tells_context(
     wanted: (Option<usize>, (bool, bool)),
 ) {
     let found = (context_len(rt, octets, number), tags(rt, octets, number));
-    assert_eq!(rt; found, wanted, "{octets:?}");
+    assert_same_of(rt, found, wanted, octets);
 }
 
 /// The heads of context class with this number, one for each LVT, are told by it, whatever stands behind.
@@ -75,8 +75,8 @@ fn heads_of_context_class_are_told_by_their_lvt(rt: HostRuntime) -> Result<(), F
 
 /// Of the octets with the number the head of application class has this length, and neither tag begins.
 fn tells_application(rt: &impl Abort, octets: &[u8], number: u8, wanted: Option<usize>) {
-    assert_eq!(rt; application_len(rt, octets, number), wanted, "{octets:?}");
-    assert_eq!(rt; tags(rt, octets, number), (false, false), "{octets:?}");
+    assert_same_of(rt, application_len(rt, octets, number), wanted, octets);
+    assert_same_of(rt, tags(rt, octets, number), (false, false), octets);
 }
 
 /// The heads of application class with this number, one for each LVT, are told by it, whatever stands behind.
@@ -106,8 +106,8 @@ const NOTHING: (Option<usize>, (bool, bool)) = (None, (false, false));
 #[test]
 fn another_head_is_not_taken(rt: HostRuntime) -> Result<(), Fail> {
     for octet in octets_of("0C 1C 0E 0F EC 10 24 E4")?.iter() {
-        assert_eq!(rt; application_len(&rt, &[*octet], 0), None, "{octet}");
-        assert_eq!(rt; application_len(&rt, &[*octet], 12), None, "{octet}");
+        assert_same_of(&rt, application_len(&rt, &[*octet], 0), None, octet);
+        assert_same_of(&rt, application_len(&rt, &[*octet], 12), None, octet);
     }
     for octet in octets_of("04 1C 1E 1F C4 DC DE DF")?.iter() {
         tells_context(&rt, &[*octet], 0, NOTHING);
@@ -134,7 +134,7 @@ fn larger_numbers_have_no_short_head(rt: HostRuntime) -> Result<(), Fail> {
         tells_context(&rt, &[], number, NOTHING);
     }
     for number in [0, 2, 12] {
-        assert_eq!(rt; application_len(&rt, &[], number), None, "of {number}");
+        assert_same_of(&rt, application_len(&rt, &[], number), None, number);
     }
     Ok(())
 }
@@ -173,7 +173,7 @@ fn longer_spellings_are_not_short(rt: HostRuntime) -> Result<(), Fail> {
     for row in rows_of(of_application_class)?.iter() {
         let number = u8::from_str_radix(row.told, 10)?;
         let found = application_len(&rt, &octets_of(row.octets)?, number);
-        assert_eq!(rt; found, None, "of {}", row.octets);
+        assert_same_of(&rt, found, None, row.octets);
     }
     Ok(())
 }

@@ -1,7 +1,7 @@
 //! Contents of a fixed length: each other length from 0 to 9 octets is refused.
 
 use super::{comes_to, judge, refuses_other_lengths};
-use crate::expectations::assert_same;
+use crate::expectations::{assert_same, assert_same_of};
 use bac_tables::octets_of;
 use bac_value::{Boolean, Date, DoubleBits, Null, ObjectId, Primitive, RealBits, Time};
 use std::test::Fail;
@@ -116,12 +116,8 @@ fn an_identifier_has_ten_bits_of_kind(rt: HostRuntime) -> Result<(), Fail> {
         let octets = octets_of(text)?;
         comes_to::<ObjectId>(&rt, rt.alloc(), &octets, Ok((&octets, None)))?;
         let read = ObjectId::read(rt.alloc(), &octets)?;
-        assert_eq!(rt;
-            (read.kind(), read.instance()),
-            (kind, instance),
-            "of {text}"
-        );
-        assert_eq!(rt; ObjectId::new(kind, instance), Some(read), "of {text}");
+        assert_same_of(&rt, (read.kind(), read.instance()), (kind, instance), text);
+        assert_same_of(&rt, ObjectId::new(kind, instance), Some(read), text);
     }
     assert_same(&rt, ObjectId::new(1024, 0), None);
     assert_same(&rt, ObjectId::new(0, 4_194_304), None);

@@ -1,6 +1,6 @@
 //! Values as keys, and how they are made of numbers.
 
-use crate::expectations::assert_same;
+use crate::expectations::{assert_holds, assert_same};
 use bac_value::{Bits, Enumerated, Instance, ObjectId, Priority, RangeFault, Unsigned, ValueFault};
 use std::test::Fail;
 
@@ -14,8 +14,8 @@ fn numbers_in_a_range_are_tried(rt: HostRuntime) -> Result<(), Fail> {
         (255, false),
     ] {
         match Priority::try_from(number) {
-            Ok(priority) => assert!(rt; wanted && priority.number() == number, "{number}"),
-            Err(fault) => assert!(rt; !wanted && fault == RangeFault::Priority, "{number}"),
+            Ok(priority) => assert_holds(&rt, wanted && priority.number() == number, number),
+            Err(fault) => assert_holds(&rt, !wanted && fault == RangeFault::Priority, number),
         }
     }
     for (number, wanted) in [
@@ -25,8 +25,8 @@ fn numbers_in_a_range_are_tried(rt: HostRuntime) -> Result<(), Fail> {
         (u32::MAX, false),
     ] {
         match Instance::try_from(number) {
-            Ok(instance) => assert!(rt; wanted && instance.number() == number, "{number}"),
-            Err(fault) => assert!(rt; !wanted && fault == RangeFault::Instance, "{number}"),
+            Ok(instance) => assert_holds(&rt, wanted && instance.number() == number, number),
+            Err(fault) => assert_holds(&rt, !wanted && fault == RangeFault::Instance, number),
         }
     }
     for (fault, text) in [

@@ -1,6 +1,6 @@
 //! The tag numbers and the lengths of the types, and the longest values.
 
-use crate::expectations::assert_same;
+use crate::expectations::{assert_same, assert_same_of};
 use bac_tag::{Refusal, Why};
 use bac_value::{
     Bits, Boolean, Date, DoubleBits, Enumerated, Instance, Null, ObjectId, Octets, Primitive,
@@ -13,8 +13,8 @@ use std::test::Fail;
 /// By the bound alone: the number of the application tag, and the least and the largest number of octets.
 fn has<T: Primitive>(rt: &impl Abort, app: u8, shortest: usize, longest: usize) {
     assert_same(rt, T::APP, app);
-    assert_eq!(rt; T::SHORTEST, shortest, "of tag {app}");
-    assert_eq!(rt; T::LONGEST, longest, "of tag {app}");
+    assert_same_of(rt, T::SHORTEST, shortest, app);
+    assert_same_of(rt, T::LONGEST, longest, app);
 }
 
 // Clause 20.2.1.4, and section 2 of docs/FORMATS.md.

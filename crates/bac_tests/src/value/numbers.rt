@@ -3,7 +3,7 @@
 ghost use Rattle.std.specs.Prelude.{◌≤◌, ◌<◌};
 
 use super::judge;
-use crate::expectations::assert_same;
+use crate::expectations::{assert_same, assert_same_of};
 use bac_tables::{octets_of, rows_of};
 use bac_value::layers::{
     hopeless_number, mark_number, read_number, write_number, written_number_len,
@@ -105,11 +105,11 @@ fn the_most_significant_octet_comes_first(rt: HostRuntime) -> Result<(), Fail> {
     ";
     for row in rows_of(unsigned)?.iter() {
         let Unsigned(number) = Unsigned::read(rt.alloc(), &octets_of(row.octets)?)?;
-        assert_eq!(rt;
+        assert_same_of(
+            &rt,
             Ok(number),
             u64::from_str_radix(row.told, 10),
-            "of {}",
-            row.octets
+            row.octets,
         );
     }
     let enumerated = "
@@ -121,11 +121,11 @@ fn the_most_significant_octet_comes_first(rt: HostRuntime) -> Result<(), Fail> {
     ";
     for row in rows_of(enumerated)?.iter() {
         let Enumerated(number) = Enumerated::read(rt.alloc(), &octets_of(row.octets)?)?;
-        assert_eq!(rt;
+        assert_same_of(
+            &rt,
             Ok(number),
             u32::from_str_radix(row.told, 10),
-            "of {}",
-            row.octets
+            row.octets,
         );
     }
     Ok(())
@@ -146,11 +146,11 @@ fn signed_numbers_are_in_twos_complement(rt: HostRuntime) -> Result<(), Fail> {
     ";
     for row in rows_of(table)?.iter() {
         let Signed(number) = Signed::read(rt.alloc(), &octets_of(row.octets)?)?;
-        assert_eq!(rt;
+        assert_same_of(
+            &rt,
             Ok(number),
             i64::from_str_radix(row.told, 10),
-            "of {}",
-            row.octets
+            row.octets,
         );
     }
     Ok(())
@@ -251,11 +251,11 @@ fn tells_numbers(rt: &impl Abort, least: u64, most: u64, table: &str) -> Result<
         match read_number(&octets_of(row.octets)?, least, most) {
             Ok(number) => {
                 let wanted = u64::from_str_radix(row.told, 10);
-                assert_eq!(rt; Ok(number), wanted, "of {}", row.octets);
+                assert_same_of(rt, Ok(number), wanted, row.octets);
             }
             Err(refusal) => {
                 let found = (refusal.why.name(), refusal.place);
-                assert_eq!(rt; found, row.refusal()?, "of {}", row.octets);
+                assert_same_of(rt, found, row.refusal()?, row.octets);
             }
         }
     }

@@ -2,7 +2,7 @@
 
 ghost use Rattle.std.specs.Prelude.{◌≤◌};
 
-use crate::expectations::assert_same;
+use crate::expectations::{assert_holds, assert_same, assert_same_of};
 use bac_tables::octets_of;
 use bac_tag::{OutOfMemory, Refusal, Why};
 use bac_value::{
@@ -27,13 +27,13 @@ fn rewrites(
     let (octets, written) = (octets_of(octets)?, octets_of(written)?);
     let prim = Prim::read(alloc, number, &octets)?;
     assert_same(rt, prim.number(), number);
-    assert_eq!(rt; prim.mark(&octets), mark, "of tag {number}");
-    assert_eq!(rt; prim.written_len(), written.len(), "of tag {number}");
+    assert_same_of(rt, prim.mark(&octets), mark, number);
+    assert_same_of(rt, prim.written_len(), written.len(), number);
     let mut out = Vec::new(alloc);
     prim.write(&mut out)?;
-    assert_eq!(rt; out.as_slice(), written.as_slice(), "of tag {number}");
+    assert_same_of(rt, out.as_slice(), written.as_slice(), number);
     assert_same(rt, prim.as_prim_ref().number(), number);
-    assert!(rt; is_borrowed_again(alloc, &prim)?, "of tag {number}");
+    assert_holds(rt, is_borrowed_again(alloc, &prim)?, number);
     Ok(())
 }
 
@@ -74,7 +74,7 @@ fn refuses(
     requires { number ≤ 12 }
 {
     let refusal = Prim::read(alloc, number, &octets_of(octets)?).err();
-    assert_eq!(rt; refusal, Some(Refusal { place, why }), "of tag {number}");
+    assert_same_of(rt, refusal, Some(Refusal { place, why }), number);
     Ok(())
 }
 

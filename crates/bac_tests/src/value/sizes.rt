@@ -2,7 +2,7 @@
 
 ghost use Rattle.std.specs.Prelude.{◌≤◌, ◌<◌};
 
-use crate::expectations::assert_same;
+use crate::expectations::{assert_holds, assert_same};
 use bac_tables::{mixed, octets_of};
 use bac_value::layers::{append_written, mark_contents, write_number, written_len_of};
 use bac_value::{Bits, Octets, Prim, PrimRef, Primitive, Text};
@@ -71,11 +71,11 @@ fn octets_of_every_size_are_kept(rt: HostRuntime) -> Result<(), Fail> {
     for size in SIZES {
         let contents = mixed(alloc, size)?;
         let made = Octets::new(alloc, &contents)?;
-        assert!(rt; made.octets() == contents.as_slice(), "{size} octets");
+        assert_holds(&rt, made.octets() == contents.as_slice(), size);
         let read = is_kept::<Octets>(&rt, alloc, &contents)?;
-        assert!(rt; read == made, "{size} octets");
+        assert_holds(&rt, read == made, size);
         let prim = kept_under(&rt, alloc, 6, &contents)?;
-        assert!(rt; is_string(&prim, &contents), "{size} octets");
+        assert_holds(&rt, is_string(&prim, &contents), size);
     }
     Ok(())
 }
@@ -91,11 +91,11 @@ fn texts_of_every_size_are_kept(rt: HostRuntime) -> Result<(), Fail> {
         let set = *set;
         let made = Text::new(alloc, set, octets)?;
         assert_same(&rt, made.set(), set);
-        assert!(rt; made.octets() == octets, "{size} octets");
+        assert_holds(&rt, made.octets() == octets, size);
         let read = is_kept::<Text>(&rt, alloc, &contents)?;
-        assert!(rt; read == made, "{size} octets");
+        assert_holds(&rt, read == made, size);
         let prim = kept_under(&rt, alloc, 7, &contents)?;
-        assert!(rt; is_text(&prim, set, octets), "{size} octets");
+        assert_holds(&rt, is_text(&prim, set, octets), size);
     }
     Ok(())
 }
@@ -151,11 +151,11 @@ fn bits_of_every_size_are_kept(rt: HostRuntime) -> Result<(), Fail> {
             let bits = &bits[..count];
             let made = Bits::new(alloc, bits)?;
             assert_same(&rt, made.len(), count);
-            assert!(rt; contents.get(1..) == Some(made.packed()), "{count} bits");
+            assert_holds(&rt, contents.get(1..) == Some(made.packed()), count);
             let read = is_kept::<Bits>(&rt, alloc, &contents)?;
-            assert!(rt; read == made, "{count} bits");
+            assert_holds(&rt, read == made, count);
             let prim = kept_under(&rt, alloc, 8, &contents)?;
-            assert!(rt; has_bits(&prim, count, made.packed()), "{count} bits");
+            assert_holds(&rt, has_bits(&prim, count, made.packed()), count);
         }
     }
     Ok(())

@@ -1,7 +1,7 @@
 //! The contents of strings, of every length from 0 to 9 octets.
 
 use super::judge;
-use crate::expectations::assert_same;
+use crate::expectations::{assert_same, assert_same_of};
 use bac_tables::octets_of;
 use bac_value::{Bits, Octets, Primitive, Text};
 use std::test::Fail;
@@ -69,7 +69,7 @@ fn only_a_text_of_set_0_is_utf_8(rt: HostRuntime) -> Result<(), Fail> {
         let text = Text::read(rt.alloc(), &octets)?;
         assert_same(&rt, Some(&text.set()), octets.first());
         assert_same(&rt, Some(text.octets()), octets.get(1..));
-        assert_eq!(rt; text.as_utf8(), wanted, "of {octets:?}");
+        assert_same_of(&rt, text.as_utf8(), wanted, octets);
     }
     Ok(())
 }
@@ -141,14 +141,15 @@ fn bits_are_packed_from_the_highest_downwards(rt: HostRuntime) -> Result<(), Fai
         let value = Bits::new(rt.alloc(), bits)?;
         let mut out = Vec::new(rt.alloc());
         value.write(&mut out)?;
-        assert_eq!(rt; out.as_slice(), contents, "of {bits:?}");
+        assert_same_of(&rt, out.as_slice(), contents, bits);
         let read = Bits::read(rt.alloc(), contents)?;
-        assert_eq!(rt; read.len(), bits.len(), "of {bits:?}");
+        assert_same_of(&rt, read.len(), bits.len(), bits);
         for place in 0..10 {
-            assert_eq!(rt;
+            assert_same_of(
+                &rt,
                 read.get(place),
                 bits.get(place).copied(),
-                "bit {place} of {bits:?}"
+                (place, bits),
             );
         }
     }

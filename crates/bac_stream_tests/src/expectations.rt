@@ -1,0 +1,24 @@
+//! What a test expects. Each is a function, which is proved once for all tests.
+
+use std::fmt::Debug;
+use std::process::Abort;
+
+/// Stops the test unless what it found is what it wanted.
+pub fn assert_same<T: PartialEq + Debug + Drop>(rt: &impl Abort, found: T, wanted: T) {
+    assert_eq!(rt; found, wanted);
+}
+
+/// The same, and tells of which case it was.
+pub fn assert_same_of<T: PartialEq + Debug + Drop, C: Debug + Drop>(
+    rt: &impl Abort,
+    found: T,
+    wanted: T,
+    case: C,
+) {
+    assert_eq!(rt; found, wanted, "of {case:?}");
+}
+
+/// Stops the test unless this holds of the case.
+pub fn assert_holds<C: Debug + Drop>(rt: &impl Abort, holds: bool, case: C) {
+    assert!(rt; holds, "of {case:?}");
+}
