@@ -1,6 +1,6 @@
 //! Numbers and octets as digits.
 
-ghost use Rattle.std.specs.Prelude.{◌≡◌, ◌<◌, ◌≤◌, ◌+◌, ◌/◌, ◌%◌, ◌∷◌, ◌++◌, [], OnOk, OnErr, vec_capacity, vec_len};
+ghost use Rattle.std.specs.Prelude.{◌≡◌, ◌<◌, ◌≤◌, ◌+◌, ◌*◌, ◌/◌, ◌%◌, ◌^◌, ◌∷◌, ◌++◌, [], IfOk, OnOk, OnErr, length, take};
 ghost use Rattle.std.specs.Fmt.{decimal, signed_decimal};
 ghost use Rattle.bac_tag.specs.Octets.{Extends};
 ghost use Rattle.bac_record.specs.Digits.{digit as hexadecimal_digit, hexadecimal, two, four};
@@ -34,118 +34,144 @@ fn pair(number: u64) -> (u8, u8)
     (PAIRS[first], PAIRS[first + 1])
 }
 
-/// Appends the two digits of a number below 100, where there is room for them.
+/// Writes two octets at a place.
 #[inline(always)]
-fn push_two(out: &mut Vec<u8>, number: u64)
+fn put_pair(room: &mut [u8], at: usize, first: u8, second: u8)
+    requires { at + 2 ≤ length room.old }
+    ensures { take (at + 2) room.new ≡ take at room.old ++ first ∷ second ∷ [] }
+{
+    room[at] = first;
+    room[at + 1] = second;
+}
+
+/// Writes the two digits of a number below 100 at a place.
+#[inline(always)]
+fn put_two(room: &mut [u8], at: usize, number: u64)
     requires few { number < 100 }
-    requires room { vec_len out.old + 2 ≤ vec_capacity out.old }
-    ensures digits { out.new.items ≡ out.old.items ++ two number }
-    ensures len { vec_len out.new ≡ vec_len out.old + 2 }
-    ensures capacity { vec_capacity out.new ≡ vec_capacity out.old }
+    requires room { at + 2 ≤ length room.old }
+    ensures { take (at + 2) room.new ≡ take at room.old ++ two number }
 {
     let (first, second) = pair(number);
-    out.push_reserved(first);
-    out.push_reserved(second);
+    put_pair(room, at, first, second);
 }
 
-/// Appends the four digits of a number below 10,000, where there is room for them.
+/// Writes the four digits of a number below 10,000 at a place.
 #[inline(always)]
-fn push_four(out: &mut Vec<u8>, number: u64)
+fn put_four(room: &mut [u8], at: usize, number: u64)
     requires few { number < 10000 }
-    requires room { vec_len out.old + 4 ≤ vec_capacity out.old }
-    ensures digits { out.new.items ≡ out.old.items ++ four number }
-    ensures len { vec_len out.new ≡ vec_len out.old + 4 }
-    ensures capacity { vec_capacity out.new ≡ vec_capacity out.old }
+    requires room { at + 4 ≤ length room.old }
+    ensures { take (at + 4) room.new ≡ take at room.old ++ four number }
 {
-    push_two(out, number / 100);
-    push_two(out, number % 100);
+    put_two(room, at, number / 100);
+    put_two(room, at + 2, number % 100);
 }
 
-/// Appends the digits of a number below 10,000 without leading zeros, where there is room for four.
+/// Writes the digits of a number below 10,000 without leading zeros, and returns where they end.
 #[inline(always)]
-fn push_front(out: &mut Vec<u8>, number: u64)
+fn put_front(room: &mut [u8], at: usize, number: u64) -> usize
     requires few { number < 10000 }
-    requires room { vec_len out.old + 4 ≤ vec_capacity out.old }
-    ensures digits { out.new.items ≡ out.old.items ++ decimal number }
-    ensures len { vec_len out.new ≤ vec_len out.old + 4 }
-    ensures capacity { vec_capacity out.new ≡ vec_capacity out.old }
+    requires room { at + 4 ≤ length room.old }
+    ensures digits { take result room.new ≡ take at room.old ++ decimal number }
+    ensures most { result ≤ at + 4 }
+    ensures two { number < 100 → result ≤ at + 2 }
 {
     if number < 10 {
-        out.push_reserved(digit(number));
+        room[at] = digit(number);
+        at + 1
     } else if number < 100 {
-        push_two(out, number);
+        put_two(room, at, number);
+        at + 2
     } else if number < 1_000 {
-        out.push_reserved(digit(number / 100));
-        push_two(out, number % 100);
+        room[at] = digit(number / 100);
+        put_two(room, at + 1, number % 100);
+        at + 3
     } else {
-        push_four(out, number);
+        put_four(room, at, number);
+        at + 4
     }
 }
 
-/// Appends the digits of a number below 100,000,000 without leading zeros, where there is room for eight.
+/// Writes the digits of a number below 100,000,000 without leading zeros, and returns where they end.
 #[inline(always)]
-fn push_eight(out: &mut Vec<u8>, number: u64)
+fn put_eight(room: &mut [u8], at: usize, number: u64) -> usize
     requires few { number < 100000000 }
-    requires room { vec_len out.old + 8 ≤ vec_capacity out.old }
-    ensures digits { out.new.items ≡ out.old.items ++ decimal number }
-    ensures len { vec_len out.new ≤ vec_len out.old + 8 }
-    ensures capacity { vec_capacity out.new ≡ vec_capacity out.old }
+    requires room { at + 8 ≤ length room.old }
+    ensures digits { take result room.new ≡ take at room.old ++ decimal number }
+    ensures most { result ≤ at + 8 }
+    ensures two { number < 100 → result ≤ at + 2 }
 {
     if number < 10_000 {
-        push_front(out, number);
-    } else {
-        push_front(out, number / 10_000);
-        push_four(out, number % 10_000);
+        return put_front(room, at, number);
     }
+    let behind = put_front(room, at, number / 10_000);
+    put_four(room, behind, number % 10_000);
+    behind + 4
 }
 
-/// Appends the digits of a number below 1,000,000,000,000 without leading zeros, where there is room for twelve.
+/// Writes the digits of a number below 1,000,000,000,000 without leading zeros, and returns where they end.
 #[inline(always)]
-fn push_twelve(out: &mut Vec<u8>, number: u64)
+fn put_twelve(room: &mut [u8], at: usize, number: u64) -> usize
     requires few { number < 1000000000000 }
-    requires room { vec_len out.old + 12 ≤ vec_capacity out.old }
-    ensures digits { out.new.items ≡ out.old.items ++ decimal number }
-    ensures len { vec_len out.new ≤ vec_len out.old + 12 }
-    ensures capacity { vec_capacity out.new ≡ vec_capacity out.old }
+    requires room { at + 12 ≤ length room.old }
+    ensures digits { take result room.new ≡ take at room.old ++ decimal number }
+    ensures most { result ≤ at + 12 }
+    ensures two { number < 100 → result ≤ at + 2 }
 {
     if number < 100_000_000 {
-        push_eight(out, number);
-    } else {
-        push_eight(out, number / 10_000);
-        push_four(out, number % 10_000);
+        return put_eight(room, at, number);
     }
+    let behind = put_eight(room, at, number / 10_000);
+    put_four(room, behind, number % 10_000);
+    behind + 4
 }
 
-/// Appends the digits of a number without leading zeros, where there is room for twenty.
+/// Writes the digits of a number without leading zeros, and returns where they end.
 #[inline(never)]
-fn push_long_number(out: &mut Vec<u8>, number: u64)
-    requires { vec_len out.old + 20 ≤ vec_capacity out.old }
-    ensures { out.new.items ≡ out.old.items ++ decimal number }
+fn put_digits(room: &mut [u8], at: usize, number: u64) -> usize
+    requires { at + 20 ≤ length room.old }
+    ensures digits { take result room.new ≡ take at room.old ++ decimal number }
+    ensures most { result ≤ at + 20 }
+    ensures few { number < 2 ^ 32 → result ≤ at + 10 }
 {
     if number < 100_000_000 {
-        push_eight(out, number);
-    } else {
-        push_twelve(out, number / 100_000_000);
-        push_four(out, number / 10_000 % 10_000);
-        push_four(out, number % 10_000);
+        return put_eight(room, at, number);
     }
+    let behind = put_twelve(room, at, number / 100_000_000);
+    put_four(room, behind, number / 10_000 % 10_000);
+    put_four(room, behind + 4, number % 10_000);
+    behind + 8
 }
 
-/// Appends the digits of a number from 100 on.
-#[inline(never)]
-fn push_further_number(out: &mut Vec<u8>, number: u64) -> Result<(), OutOfMemory>
-    requires { 100 ≤ number }
-    ensures ok { OnOk result (out.new.items ≡ out.old.items ++ decimal number) }
+/// Writes the decimal digits of a number, without leading zeros, at a place behind which there is room for twenty.
+/// Returns where they end. A number below 2^32 has at most ten.
+#[inline(always)]
+pub fn put_decimal(room: &mut [u8], at: usize, number: u64) -> usize
+    requires { at + 20 ≤ length room.old }
+    ensures digits { take result room.new ≡ take at room.old ++ decimal number }
+    ensures most { result ≤ at + 20 }
+    ensures few { number < 2 ^ 32 → result ≤ at + 10 }
+{
+    // Most numbers have one digit or two to eight: a call for those of one would cost more than it does.
+    if number < 10 {
+        room[at] = digit(number);
+        return at + 1;
+    }
+    put_digits(room, at, number)
+}
+
+/// Makes the vector longer by so many octets, at most 4,096, and returns where they begin.
+///
+/// # Errors
+/// `OutOfMemory` where memory is refused. `out` then stays as it was.
+#[inline(always)]
+pub fn add_room<const ROOM: usize>(out: &mut Vec<u8>) -> Result<usize, OutOfMemory>
+    requires { ROOM ≤ 4096 }
+    ensures ok { IfOk result (λ start. (start ≡ length out.old.items) × (take start out.new.items ≡ out.old.items) × (length out.new.items ≡ start + ROOM)) }
     ensures err { OnErr result (out.new.items ≡ out.old.items) }
 {
-    // Room is asked for once, and not for each digit.
-    out.reserve(20)?;
-    if number < 10_000 {
-        push_front(out, number);
-    } else {
-        push_long_number(out, number);
-    }
-    Ok(())
+    let start = out.len();
+    out.extend_from_slice(&[0; ROOM])?;
+    Ok(start)
 }
 
 /// Appends the decimal digits of a number, without leading zeros.
@@ -157,16 +183,10 @@ pub fn push_decimal(out: &mut Vec<u8>, number: u64) -> Result<(), OutOfMemory>
     ensures ok { OnOk result (out.new.items ≡ out.old.items ++ decimal number) }
     ensures err { OnErr result (out.new.items ≡ out.old.items) }
 {
-    if number < 10 {
-        out.push(digit(number))?;
-        Ok(())
-    } else if number < 100 {
-        let (first, second) = pair(number);
-        out.extend_from_slice(&[first, second])?;
-        Ok(())
-    } else {
-        push_further_number(out, number)
-    }
+    let start = add_room::<20>(out)?;
+    let end = put_decimal(out.as_mut_slice(), start, number);
+    out.truncate(end);
+    Ok(())
 }
 
 /// Appends a minus where the number is negative, and its decimal digits, without leading zeros.
@@ -192,6 +212,21 @@ fn digits_of(octet: u8) -> [u8; 2]
         DIGITS[usize::from(octet / 16)],
         DIGITS[usize::from(octet % 16)],
     ]
+}
+
+/// Writes two hexadecimal digits for each octet of a few at a place, in upper case. Returns where they end.
+#[inline(always)]
+pub fn put_hexadecimal<const N: usize>(room: &mut [u8], at: usize, octets: &[u8; N]) -> usize
+    requires few { N ≤ 4096 }
+    requires room { at + 2 * N ≤ length room.old }
+    ensures digits { take result room.new ≡ take at room.old ++ hexadecimal octets.now }
+    ensures end { result ≡ at + 2 * N }
+{
+    for index in 0..N {
+        let [first, second] = digits_of(octets[index]);
+        put_pair(room, at + 2 * index, first, second);
+    }
+    at + 2 * N
 }
 
 /// Appends two hexadecimal digits for each octet, in upper case.

@@ -26,7 +26,9 @@ mod windows;
 pub use counting::Counted;
 pub use dealing::{DealFault, Dealt, Job};
 pub use devices::{Device, Input, Output};
-pub use digits::{push_decimal, push_hexadecimal, push_signed_decimal};
+pub use digits::{
+    add_room, push_decimal, push_hexadecimal, push_signed_decimal, put_decimal, put_hexadecimal,
+};
 pub use faults::{RunFault, StreamFault};
 pub use fronts::front_record;
 pub use records::{LONGEST, read_record, write_record};
