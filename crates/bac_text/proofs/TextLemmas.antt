@@ -1,6 +1,7 @@
 -- Texts that are appended one behind the other.
-use Rattle.std.proofs.Common.{◌≡◌, ℕ, ◌+◌, ◌<◌, List, [], ◌∷◌, ◌++◌, length, take, get_or, map, refl, sym, ap, ◌∙◌, append_assoc, append-nil, arith}
-use Rattle.std.proofs.lemmas.List.{take_more, map-append}
+use Rattle.std.proofs.Common.{◌≡◌, ℕ, ◌+◌, ◌<◌, ◌≤◌, List, [], ◌∷◌, ◌++◌, length, take, get_or, map, refl, sym, ap, ◌∙◌, append_assoc, append-nil, arith}
+use Rattle.std.proofs.Math.ListN.{set}
+use Rattle.std.proofs.lemmas.List.{take_more, take_more_set, take_at, map-append}
 use Rattle.std.proofs.lemmas.List.FromFn.{map-range_with_len_more}
 use Rattle.std.specs.Prelude.{Bool, true, false, codes, Result, Ok, Err, OnOk, OnErr}
 use Rattle.std.specs.Int.{from_bool}
@@ -18,6 +19,28 @@ appended old mid new a b p q = q ∙ ap (λ l. l ++ b) p ∙ append_assoc old a 
 pub appended_last : {T E : Type 0} (r : Result T E) (old mid new a b : List ℕ) → mid ≡ old ++ a → OnOk r (new ≡ mid ++ b) → OnOk r (new ≡ old ++ (a ++ b))
 appended_last (Ok x) old mid new a b p q = appended old mid new a b p q
 appended_last (Err x) old mid new a b p q = tt
+
+-- one octet more of a word, at a place
+pub word_step : (old room word : List ℕ) (at i : ℕ) → at + i < length room → i < length word → take (at + i) room ≡ old ++ take i word → take (at + (i + 1)) (set room (at + i) (get_or word i 0)) ≡ old ++ take (i + 1) word
+word_step old room word at i inside below p =
+    let behind : at + (i + 1) ≡ at + i + 1 = omega arith in
+    ap (λ k. take k (set room (at + i) (get_or word i 0))) behind ∙ take_more_set room (at + i) (get_or word i 0) inside ∙ ap (λ l. l ++ get_or word i 0 ∷ []) p
+    ∙ append_assoc old (take i word) (get_or word i 0 ∷ []) ∙ ap (λ l. old ++ l) (sym (take_more word i 0 below))
+
+-- the first text in room behind what stood there
+pub first_put : (start : ℕ) (old before room new a : List ℕ) → take start before ≡ old → room ≡ before → new ≡ take start room ++ a → new ≡ old ++ a
+first_put start old before room new a p e q = q ∙ ap (λ l. take start l ++ a) e ∙ ap (λ l. l ++ a) p
+
+-- what is left of the room is cut off
+pub cut : (e n : ℕ) (room behind new : List ℕ) → new ≡ take e (take n (room ++ behind)) → length room ≡ n → e ≤ n → new ≡ take e room
+cut e n room behind new p len within =
+    p ∙ ap (λ k. take e (take k (room ++ behind))) (sym len) ∙ ap (take e) (take_at room behind (length room) refl)
+
+-- a word, and what stands behind it
+pub behind_word : {T E : Type 0} (r : Result T E) (old mid named new a word b : List ℕ) → mid ≡ old ++ a → named ≡ mid ++ word → OnOk r (new ≡ named ++ b) → OnOk r (new ≡ old ++ (a ++ (word ++ b)))
+behind_word (Ok x) old mid named new a word b p q r =
+    r ∙ ap (λ l. l ++ b) (q ∙ ap (λ l. l ++ word) p) ∙ append_assoc (old ++ a) word b ∙ append_assoc old a (word ++ b)
+behind_word (Err x) old mid named new a word b p q r = tt
 
 -- the same text
 pub same_text : {T E : Type 0} (r : Result T E) (old new a b : List ℕ) → a ≡ b → OnOk r (new ≡ old ++ a) → OnOk r (new ≡ old ++ b)

@@ -1,6 +1,6 @@
 //! The text of APDUs.
 
-use crate::texts::HasText;
+use crate::texts::{HasText, push_short};
 use bac_apdu::Apdu;
 use bac_tag::OutOfMemory;
 
@@ -14,12 +14,12 @@ impl HasText for Apdu {
         match self {
             Apdu::Confirmed(request) => request.push_text(out),
             Apdu::Unconfirmed(request) => request.push_text(out),
-            Apdu::SimpleAck(ack) => ack.push_text(out),
+            Apdu::SimpleAck(ack) => push_short::<_, 48>(out, ack),
             Apdu::ComplexAck(ack) => ack.push_text(out),
-            Apdu::SegmentAck(ack) => ack.push_text(out),
+            Apdu::SegmentAck(ack) => push_short::<_, 80>(out, ack),
             Apdu::Error(answer) => answer.push_text(out),
-            Apdu::Reject(answer) => answer.push_text(out),
-            Apdu::Abort(answer) => answer.push_text(out),
+            Apdu::Reject(answer) => push_short::<_, 48>(out, answer),
+            Apdu::Abort(answer) => push_short::<_, 64>(out, answer),
             Apdu::Segment(segment) => segment.push_text(out),
         }
     }

@@ -8,7 +8,7 @@ ghost use Rattle.bac_text.specs.FrameText.{address_text, text};
 ghost use Rattle.bac_text.specs.Words.{field, number, truth};
 
 use crate::scalars::push_octets;
-use crate::texts::{HasText, push_field, push_optional};
+use crate::texts::{HasText, push_field, push_named, push_optional};
 use bac_npdu::{Addressed, Body, Frame, FrameHead};
 use bac_record::push_hexadecimal;
 use bac_tag::OutOfMemory;
@@ -62,7 +62,7 @@ impl HasText for (Addressed<'_>, u8) {
         to.network.push_text(out)?;
         out.push(b'/')?;
         push_address(out, to.address)?;
-        push_field(out, b" hops=", hops)
+        push_named::<_, _, 32>(out, b" hops=", hops)
     }
 }
 

@@ -10,8 +10,8 @@ ghost use Rattle.bac_value.specs.PrimRefValue.{prim_of, IsPackedRef};
 ghost use Rattle.bac_record.specs.Digits.{hexadecimal};
 ghost use Rattle.bac_text.specs.PrimitiveText.{is_plain_octet, is_plain, string_text, bit_digit, primitive_text};
 
-use crate::scalars::push_octets;
-use crate::texts::{HasText, push_field, push_word};
+use crate::scalars::{push_few_octets, push_octets};
+use crate::texts::{push_field, push_named, push_word};
 use bac_record::push_signed_decimal;
 use bac_tag::OutOfMemory;
 use bac_value::{Boolean, Null, PrimRef};
@@ -56,7 +56,7 @@ fn push_string(out: &mut Vec<u8>, set: u8, octets: &[u8]) -> Result<(), OutOfMem
         out.push(b'"')?;
         Ok(())
     } else {
-        push_field(out, b"s", &set)?;
+        push_named::<_, _, 32>(out, b"s", &set)?;
         push_octets(out, b":", octets)
     }
 }
@@ -113,7 +113,7 @@ fn push_double(out: &mut Vec<u8>, bits: u64) -> Result<(), OutOfMemory>
     ensures ok { OnOk result (out.new.items ≡ out.old.items ++ (codes "d:" ++ hexadecimal (to_be_bytes w64 bits))) }
     ensures err { OnErr result (Extends out.old.items out.new.items) }
 {
-    push_octets(out, b"d:", &bits.to_be_bytes())
+    push_few_octets(out, b"d:", &bits.to_be_bytes())
 }
 
 /// Appends a primitive value: its type as a letter, a colon, and its value.
@@ -130,14 +130,14 @@ pub(crate) fn push_primitive(out: &mut Vec<u8>, prim: &PrimRef<'_>) -> Result<()
             push_word(out, b"i:")?;
             push_signed_decimal(out, value.0)
         }
-        PrimRef::RealBits(value) => push_octets(out, b"r:", &value.0.to_be_bytes()),
+        PrimRef::RealBits(value) => push_few_octets(out, b"r:", &value.0.to_be_bytes()),
         PrimRef::DoubleBits(value) => push_double(out, value.0),
         PrimRef::Octets(octets) => push_octets(out, b"o:", octets),
         PrimRef::Text { set, octets } => push_string(out, *set, octets),
         PrimRef::Bits { count, packed } => push_bits(out, packed, *count),
-        PrimRef::Enumerated(value) => push_field(out, b"e:", value),
-        PrimRef::Date(value) => push_octets(out, b"D:", &value.0),
-        PrimRef::Time(value) => push_octets(out, b"T:", &value.0),
-        PrimRef::ObjectId(object) => push_field(out, b"id:", object),
+        PrimRef::Enumerated(value) => push_named::<_, _, 32>(out, b"e:", value),
+        PrimRef::Date(value) => push_few_octets(out, b"D:", &value.0),
+        PrimRef::Time(value) => push_few_octets(out, b"T:", &value.0),
+        PrimRef::ObjectId(object) => push_named::<_, _, 48>(out, b"id:", object),
     }
 }

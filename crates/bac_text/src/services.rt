@@ -1,6 +1,6 @@
 //! The text of services.
 
-use crate::texts::HasText;
+use crate::texts::{HasText, push_short};
 use bac_service::Service;
 use bac_tag::OutOfMemory;
 
@@ -24,18 +24,18 @@ impl HasText for Service {
 
     fn push_text(&self, out: &mut Vec<u8>) -> Result<(), OutOfMemory> {
         match self {
-            Service::ReadProperty(request) => request.push_text(out),
+            Service::ReadProperty(request) => push_short::<_, 96>(out, request),
             Service::ReadPropertyAck(ack) => ack.push_text(out),
             Service::WriteProperty(request) => request.push_text(out),
             Service::ReadPropertyMultiple(request) => request.push_text(out),
             Service::ReadPropertyMultipleAck(ack) => ack.push_text(out),
             Service::WritePropertyMultiple(request) => request.push_text(out),
-            Service::WhoIs(request) => request.push_text(out),
-            Service::IAm(request) => request.push_text(out),
-            Service::SubscribeCov(request) => request.push_text(out),
+            Service::WhoIs(request) => push_short::<_, 48>(out, request),
+            Service::IAm(request) => push_short::<_, 112>(out, request),
+            Service::SubscribeCov(request) => push_short::<_, 112>(out, request),
             Service::CovNotification(notification) => notification.push_text(out),
-            Service::ServiceError(error) => error.push_text(out),
-            Service::WritePropertyMultipleError(error) => error.push_text(out),
+            Service::ServiceError(error) => push_short::<_, 64>(out, error),
+            Service::WritePropertyMultipleError(error) => push_short::<_, 128>(out, error),
             Service::Opaque(service) => service.push_text(out),
         }
     }

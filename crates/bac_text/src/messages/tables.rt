@@ -6,8 +6,9 @@ ghost use Rattle.bac_text.specs.MessageText.{init_table_text, init_table_ack_tex
 
 use crate::lists::push_list;
 use crate::scalars::push_octets;
-use crate::texts::{HasText, push_field, push_optional};
+use crate::texts::{HasText, push_field, push_optional, put_field};
 use bac_npdu::{Port, Ports};
+use bac_record::add_room;
 use bac_tag::OutOfMemory;
 
 /// `(network=N id=N info=HEX)`.
@@ -17,8 +18,11 @@ impl HasText for Port {
     ghost text = { port_text };
 
     fn push_text(&self, out: &mut Vec<u8>) -> Result<(), OutOfMemory> {
-        push_field(out, b"(network=", &self.network)?;
-        push_field(out, b" id=", &self.id)?;
+        let start = add_room::<48>(out)?;
+        let room = out.as_mut_slice();
+        let end = put_field(room, start, b"(network=", &self.network);
+        let end = put_field(room, end, b" id=", &self.id);
+        out.truncate(end);
         push_octets(out, b" info=", self.info.octets())?;
         out.push(b')')?;
         Ok(())

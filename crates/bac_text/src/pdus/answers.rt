@@ -1,18 +1,21 @@
 //! The text of answers, and of ends of transactions.
 
-use crate::texts::{HasText, push_field};
+use crate::texts::{HasShortText, HasText, put_field, put_word};
 use bac_apdu::{Abort, ComplexAck, ErrorPdu, Reject, SimpleAck};
+use bac_record::add_room;
 use bac_tag::OutOfMemory;
 
 /// `simple id=I choice=C`.
-impl HasText for SimpleAck {
+impl HasShortText for SimpleAck {
     ghost use Rattle.bac_text.specs.AnswerText.{simple_ack_text};
 
     ghost text = { λ ack. simple_ack_text ack.invoke ack.choice };
 
-    fn push_text(&self, out: &mut Vec<u8>) -> Result<(), OutOfMemory> {
-        push_field(out, b"simple id=", &self.invoke)?;
-        push_field(out, b" choice=", &self.choice)
+    ghost most = { 38 };
+
+    fn put_text(&self, room: &mut [u8], at: usize) -> usize {
+        let end = put_field(room, at, b"simple id=", &self.invoke);
+        put_field(room, end, b" choice=", &self.choice)
     }
 }
 
@@ -24,8 +27,12 @@ impl HasText for ComplexAck {
     ghost text = { λ ack. complex_ack_text ack.invoke (service_of ack.service) };
 
     fn push_text(&self, out: &mut Vec<u8>) -> Result<(), OutOfMemory> {
-        push_field(out, b"ack id=", &self.invoke())?;
-        push_field(out, b" ", self.service())
+        let start = add_room::<32>(out)?;
+        let room = out.as_mut_slice();
+        let end = put_field(room, start, b"ack id=", &self.invoke());
+        let end = put_word(room, end, b" ");
+        out.truncate(end);
+        self.service().push_text(out)
     }
 }
 
@@ -37,32 +44,40 @@ impl HasText for ErrorPdu {
     ghost text = { λ answer. error_text answer.invoke (service_of answer.service) };
 
     fn push_text(&self, out: &mut Vec<u8>) -> Result<(), OutOfMemory> {
-        push_field(out, b"error id=", &self.invoke())?;
-        push_field(out, b" ", self.service())
+        let start = add_room::<32>(out)?;
+        let room = out.as_mut_slice();
+        let end = put_field(room, start, b"error id=", &self.invoke());
+        let end = put_word(room, end, b" ");
+        out.truncate(end);
+        self.service().push_text(out)
     }
 }
 
 /// `reject id=I reason=N`.
-impl HasText for Reject {
+impl HasShortText for Reject {
     ghost use Rattle.bac_text.specs.AnswerText.{reject_text};
 
     ghost text = { λ answer. reject_text answer.invoke answer.reason };
 
-    fn push_text(&self, out: &mut Vec<u8>) -> Result<(), OutOfMemory> {
-        push_field(out, b"reject id=", &self.invoke)?;
-        push_field(out, b" reason=", &self.reason)
+    ghost most = { 38 };
+
+    fn put_text(&self, room: &mut [u8], at: usize) -> usize {
+        let end = put_field(room, at, b"reject id=", &self.invoke);
+        put_field(room, end, b" reason=", &self.reason)
     }
 }
 
 /// `abort id=I srv=V reason=N`.
-impl HasText for Abort {
+impl HasShortText for Abort {
     ghost use Rattle.bac_text.specs.AnswerText.{abort_text};
 
     ghost text = { λ answer. abort_text answer.invoke answer.srv answer.reason };
 
-    fn push_text(&self, out: &mut Vec<u8>) -> Result<(), OutOfMemory> {
-        push_field(out, b"abort id=", &self.invoke)?;
-        push_field(out, b" srv=", &self.srv)?;
-        push_field(out, b" reason=", &self.reason)
+    ghost most = { 43 };
+
+    fn put_text(&self, room: &mut [u8], at: usize) -> usize {
+        let end = put_field(room, at, b"abort id=", &self.invoke);
+        let end = put_field(room, end, b" srv=", &self.srv);
+        put_field(room, end, b" reason=", &self.reason)
     }
 }

@@ -1,39 +1,42 @@
 //! The text of requests.
 
-ghost use Rattle.std.specs.Prelude.{◌≡◌, ◌++◌, ◌<◌, OnOk, OnErr};
-ghost use Rattle.bac_tag.specs.Octets.{Extends};
+ghost use Rattle.std.specs.Prelude.{◌≡◌, ◌<◌, ◌≤◌, ◌+◌, ◌++◌, length, take};
 ghost use Rattle.bac_text.specs.RequestText.{request_head_text};
 ghost use Rattle.bac_text.specs.Words.{field, number, truth};
 
-use crate::texts::{HasText, push_field};
+use crate::texts::{HasText, push_field, put_field, put_word};
 use bac_apdu::{ConfirmedRequest, RequestHead, UnconfirmedRequest};
+use bac_record::add_room;
 use bac_tag::OutOfMemory;
 
-/// Appends ` sa=A segs=S resp=` at once, and M.
+/// Writes ` sa=A segs=S resp=` at once, and M. Returns where they end.
 #[inline(always)]
-fn push_limits(out: &mut Vec<u8>, sa: bool, segs: u8, resp: u8) -> Result<(), OutOfMemory>
-    requires { segs < 10 }
-    ensures ok { OnOk result (out.new.items ≡ out.old.items ++ (field " sa=" (truth sa) ++ field " segs=" (number segs) ++ field " resp=" (number resp))) }
-    ensures err { OnErr result (Extends out.old.items out.new.items) }
+fn put_limits(room: &mut [u8], at: usize, sa: bool, segs: u8, resp: u8) -> usize
+    requires few { segs < 10 }
+    requires room { at + 38 ≤ length room.old }
+    ensures text { take result room.new ≡ take at room.old ++ (field " sa=" (truth sa) ++ field " segs=" (number segs) ++ field " resp=" (number resp)) }
+    ensures end { result ≤ at + 28 }
 {
     let mut text = *b" sa=A segs=S resp=";
     text[4] = b'0' + u8::from(sa);
     text[11] = b'0' + segs;
-    push_field(out, &text, &resp)
+    put_field(room, at, &text, &resp)
 }
 
-/// Appends a name, and `I sa=A segs=S resp=M` of the head of a request with invoke id I.
+/// Writes a name, and `I sa=A segs=S resp=M` of the head of a request with invoke id I. Returns where they end.
 #[inline(always)]
-pub(crate) fn push_request_head<const N: usize>(
-    out: &mut Vec<u8>,
+pub(crate) fn put_request_head<const N: usize>(
+    room: &mut [u8],
+    at: usize,
     name: &[u8; N],
     head: &RequestHead,
-) -> Result<(), OutOfMemory>
-    ensures ok { OnOk result (out.new.items ≡ out.old.items ++ (name.now ++ request_head_text head.now)) }
-    ensures err { OnErr result (Extends out.old.items out.new.items) }
+) -> usize
+    requires { at + (N + 48) ≤ length room.old }
+    ensures text { take result room.new ≡ take at room.old ++ (name.now ++ request_head_text head.now) }
+    ensures end { result ≤ at + (N + 38) }
 {
-    push_field(out, name, &head.invoke)?;
-    push_limits(out, head.sa, head.segs.number(), head.resp.number())
+    let end = put_field(room, at, name, &head.invoke);
+    put_limits(room, end, head.sa, head.segs.number(), head.resp.number())
 }
 
 /// `conf id=I sa=A segs=S resp=M` and the service.
@@ -44,8 +47,12 @@ impl HasText for ConfirmedRequest {
     ghost text = { λ request. confirmed_request_text request.head (service_of request.service) };
 
     fn push_text(&self, out: &mut Vec<u8>) -> Result<(), OutOfMemory> {
-        push_request_head(out, b"conf id=", &self.head())?;
-        push_field(out, b" ", self.service())
+        let start = add_room::<64>(out)?;
+        let room = out.as_mut_slice();
+        let end = put_request_head(room, start, b"conf id=", &self.head());
+        let end = put_word(room, end, b" ");
+        out.truncate(end);
+        self.service().push_text(out)
     }
 }
 

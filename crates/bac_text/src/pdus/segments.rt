@@ -1,21 +1,24 @@
 //! The text of segments, and of what is told of them.
 
-use crate::pdus::requests::push_request_head;
+use crate::pdus::requests::put_request_head;
 use crate::scalars::push_octets;
-use crate::texts::{HasText, push_field};
+use crate::texts::{HasShortText, HasText, put_field};
 use bac_apdu::{SegHead, Segment, SegmentAck};
+use bac_record::add_room;
 use bac_tag::OutOfMemory;
 
 /// `conf-seg id=I sa=A segs=S resp=M` or `ack-seg id=I`.
-impl HasText for SegHead {
+impl HasShortText for SegHead {
     ghost use Rattle.bac_text.specs.SegmentText.{segment_head_text};
 
     ghost text = { segment_head_text };
 
-    fn push_text(&self, out: &mut Vec<u8>) -> Result<(), OutOfMemory> {
+    ghost most = { 50 };
+
+    fn put_text(&self, room: &mut [u8], at: usize) -> usize {
         match self {
-            SegHead::Request(head) => push_request_head(out, b"conf-seg id=", head),
-            SegHead::Ack { invoke } => push_field(out, b"ack-seg id=", invoke),
+            SegHead::Request(head) => put_request_head(room, at, b"conf-seg id=", head),
+            SegHead::Ack { invoke } => put_field(room, at, b"ack-seg id=", invoke),
         }
     }
 }
@@ -27,26 +30,31 @@ impl HasText for Segment {
     ghost text = { λ segment. segment_text segment.head segment.seq segment.window segment.more segment.choice segment.piece.items };
 
     fn push_text(&self, out: &mut Vec<u8>) -> Result<(), OutOfMemory> {
-        self.head.push_text(out)?;
-        push_field(out, b" seq=", &self.seq)?;
-        push_field(out, b" win=", &self.window.number())?;
-        push_field(out, b" more=", &self.more)?;
-        push_field(out, b" choice=", &self.choice)?;
+        let start = add_room::<128>(out)?;
+        let room = out.as_mut_slice();
+        let end = self.head.put_text(room, start);
+        let end = put_field(room, end, b" seq=", &self.seq);
+        let end = put_field(room, end, b" win=", &self.window.number());
+        let end = put_field(room, end, b" more=", &self.more);
+        let end = put_field(room, end, b" choice=", &self.choice);
+        out.truncate(end);
         push_octets(out, b" octets=", &self.piece)
     }
 }
 
 /// `segack id=I nak=N srv=V seq=Q win=W`.
-impl HasText for SegmentAck {
+impl HasShortText for SegmentAck {
     ghost use Rattle.bac_text.specs.SegmentText.{segment_ack_text};
 
     ghost text = { λ ack. segment_ack_text ack.invoke ack.nak ack.srv ack.seq ack.window };
 
-    fn push_text(&self, out: &mut Vec<u8>) -> Result<(), OutOfMemory> {
-        push_field(out, b"segack id=", &self.invoke)?;
-        push_field(out, b" nak=", &self.nak)?;
-        push_field(out, b" srv=", &self.srv)?;
-        push_field(out, b" seq=", &self.seq)?;
-        push_field(out, b" win=", &self.window.number())
+    ghost most = { 62 };
+
+    fn put_text(&self, room: &mut [u8], at: usize) -> usize {
+        let end = put_field(room, at, b"segack id=", &self.invoke);
+        let end = put_field(room, end, b" nak=", &self.nak);
+        let end = put_field(room, end, b" srv=", &self.srv);
+        let end = put_field(room, end, b" seq=", &self.seq);
+        put_field(room, end, b" win=", &self.window.number())
     }
 }

@@ -5,7 +5,8 @@ ghost use Rattle.bac_tag.specs.Octets.{Extends};
 ghost use Rattle.bac_service.specs.ServiceValues.{notification_kind};
 ghost use Rattle.bac_text.specs.CovNotificationText.{notification_name};
 
-use crate::texts::{HasText, push_field, push_word};
+use crate::texts::{HasText, push_word, put_field, put_word};
+use bac_record::add_room;
 use bac_service::CovNotification;
 use bac_tag::OutOfMemory;
 
@@ -33,10 +34,14 @@ impl HasText for CovNotification {
 
     fn push_text(&self, out: &mut Vec<u8>) -> Result<(), OutOfMemory> {
         push_name(out, self.confirmed)?;
-        push_field(out, b" process=", &self.process_identifier)?;
-        push_field(out, b" device=", &self.device)?;
-        push_field(out, b" object=", &self.object)?;
-        push_field(out, b" remaining=", &self.time_remaining)?;
-        push_field(out, b" values=", &self.values)
+        let start = add_room::<112>(out)?;
+        let room = out.as_mut_slice();
+        let end = put_field(room, start, b" process=", &self.process_identifier);
+        let end = put_field(room, end, b" device=", &self.device);
+        let end = put_field(room, end, b" object=", &self.object);
+        let end = put_field(room, end, b" remaining=", &self.time_remaining);
+        let end = put_word(room, end, b" values=");
+        out.truncate(end);
+        self.values.push_text(out)
     }
 }

@@ -4,7 +4,7 @@ ghost use Rattle.std.specs.Prelude.{◌≡◌};
 ghost use Rattle.bac_text.specs.OpaqueText.{choice_name};
 
 use crate::scalars::push_octets;
-use crate::texts::HasText;
+use crate::texts::{HasText, push_short};
 use bac_service::{Kind, Opaque};
 use bac_tag::OutOfMemory;
 
@@ -26,7 +26,7 @@ impl HasText for Opaque {
 
     fn push_text(&self, out: &mut Vec<u8>) -> Result<(), OutOfMemory> {
         out.extend_from_slice(choice_name(self.kind()))?;
-        self.choice().push_text(out)?;
+        push_short::<_, 20>(out, &self.choice())?;
         push_octets(out, b" octets=", self.octets())
     }
 }

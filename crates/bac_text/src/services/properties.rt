@@ -1,42 +1,73 @@
 //! The text of properties, their values, and why they have none.
 
-ghost use Rattle.std.specs.Prelude.{◌≡◌, ◌++◌, OnOk, OnErr};
+ghost use Rattle.std.specs.Prelude.{◌≡◌, ◌≤◌, ◌+◌, ◌++◌, OnOk, OnErr, length, take};
 ghost use Rattle.bac_tag.specs.Octets.{Extends};
+ghost use Rattle.bac_text.specs.Words.{object_text};
 ghost use Rattle.bac_text.specs.PropertyText.{property_text, cause_text};
 
-use crate::texts::{HasText, push_field, push_optional};
-use bac_service::{PropertyReference, PropertyResult, PropertyValue, ReadResult, Unsigned32};
+use crate::texts::{
+    HasShortText, HasText, push_field, push_short, put_field, put_optional, put_word,
+};
+use bac_record::add_room;
+use bac_service::{
+    ErrorCause, PropertyReference, PropertyResult, PropertyValue, ReadResult, Unsigned32,
+};
 use bac_tag::OutOfMemory;
-use bac_value::Enumerated;
+use bac_value::{Enumerated, ObjectId};
 
-/// Appends a name, and `N [index=N]` of a property or of one element of it.
+/// Writes a name, and `N [index=N]` of a property or of one element of it. Returns where they end.
 #[inline(always)]
-pub(crate) fn push_property<const N: usize>(
-    out: &mut Vec<u8>,
+pub(crate) fn put_property<const N: usize>(
+    room: &mut [u8],
+    at: usize,
     name: &[u8; N],
     property: Enumerated,
     index: &Option<Unsigned32>,
-) -> Result<(), OutOfMemory>
-    ensures ok { OnOk result (out.new.items ≡ out.old.items ++ (name.now ++ property_text property index.now)) }
-    ensures err { OnErr result (Extends out.old.items out.new.items) }
+) -> usize
+    requires { at + (N + 37) ≤ length room.old }
+    ensures text { take result room.new ≡ take at room.old ++ (name.now ++ property_text property index.now) }
+    ensures end { result ≤ at + (N + 27) }
 {
-    push_field(out, name, &property)?;
-    push_optional(out, b" index=", index)
+    let end = put_field(room, at, name, &property);
+    put_optional(room, end, b" index=", index)
 }
 
-/// Appends a name, and `N code=N` of an error with this class and this code.
+/// Writes a name, and `N code=N` of an error with this class and this code. Returns where they end.
 #[inline(always)]
-pub(crate) fn push_cause<const N: usize>(
-    out: &mut Vec<u8>,
+pub(crate) fn put_cause<const N: usize>(
+    room: &mut [u8],
+    at: usize,
     name: &[u8; N],
     class: u32,
     code: u32,
+) -> usize
+    requires { at + (N + 36) ≤ length room.old }
+    ensures text { take result room.new ≡ take at room.old ++ (name.now ++ cause_text class code) }
+    ensures end { result ≤ at + (N + 26) }
+{
+    let end = put_field(room, at, name, &class);
+    put_field(room, end, b" code=", &code)
+}
+
+/// Appends a name, an object, and what stands behind it.
+#[inline(always)]
+pub(crate) fn push_object<const N: usize, const M: usize>(
+    out: &mut Vec<u8>,
+    name: &[u8; N],
+    object: ObjectId,
+    behind: &[u8; M],
 ) -> Result<(), OutOfMemory>
-    ensures ok { OnOk result (out.new.items ≡ out.old.items ++ (name.now ++ cause_text class code)) }
+    requires name { N ≤ 16 }
+    requires behind { M ≤ 16 }
+    ensures ok { OnOk result (out.new.items ≡ out.old.items ++ (name.now ++ object_text object) ++ behind.now) }
     ensures err { OnErr result (Extends out.old.items out.new.items) }
 {
-    push_field(out, name, &class)?;
-    push_field(out, b" code=", &code)
+    let start = add_room::<64>(out)?;
+    let room = out.as_mut_slice();
+    let end = put_field(room, start, name, &object);
+    let end = put_word(room, end, behind);
+    out.truncate(end);
+    Ok(())
 }
 
 /// `(property=N [index=N])`.
@@ -46,9 +77,28 @@ impl HasText for PropertyReference {
     ghost text = { reference_text };
 
     fn push_text(&self, out: &mut Vec<u8>) -> Result<(), OutOfMemory> {
-        push_property(out, b"(property=", self.property, &self.index)?;
-        out.push(b')')?;
+        let start = add_room::<48>(out)?;
+        let room = out.as_mut_slice();
+        let end = put_property(room, start, b"(property=", self.property, &self.index);
+        let end = put_word(room, end, b")");
+        out.truncate(end);
         Ok(())
+    }
+}
+
+/// `error=(class=N code=N)`.
+impl HasShortText for ErrorCause {
+    ghost use Rattle.std.specs.Prelude.{◌++◌, codes};
+    ghost use Rattle.bac_text.specs.PropertyText.{cause_text};
+    ghost use Rattle.bac_text.specs.Words.{field};
+
+    ghost text = { λ cause. field "error=(class=" (cause_text cause.class.0 cause.code.0) ++ codes ")" };
+
+    ghost most = { 40 };
+
+    fn put_text(&self, room: &mut [u8], at: usize) -> usize {
+        let end = put_cause(room, at, b"error=(class=", self.class.0, self.code.0);
+        put_word(room, end, b")")
     }
 }
 
@@ -58,14 +108,11 @@ impl HasText for ReadResult {
 
     ghost text = { read_result_text };
 
+    #[inline(always)]
     fn push_text(&self, out: &mut Vec<u8>) -> Result<(), OutOfMemory> {
         match self {
             ReadResult::Value(value) => push_field(out, b"value=", value),
-            ReadResult::Error(cause) => {
-                push_cause(out, b"error=(class=", cause.class.0, cause.code.0)?;
-                out.push(b')')?;
-                Ok(())
-            }
+            ReadResult::Error(cause) => push_short::<_, 64>(out, cause),
         }
     }
 }
@@ -77,8 +124,12 @@ impl HasText for PropertyResult {
     ghost text = { property_result_text };
 
     fn push_text(&self, out: &mut Vec<u8>) -> Result<(), OutOfMemory> {
-        push_property(out, b"(property=", self.property, &self.index)?;
-        push_field(out, b" ", &self.result)?;
+        let start = add_room::<48>(out)?;
+        let room = out.as_mut_slice();
+        let end = put_property(room, start, b"(property=", self.property, &self.index);
+        let end = put_word(room, end, b" ");
+        out.truncate(end);
+        self.result.push_text(out)?;
         out.push(b')')?;
         Ok(())
     }
@@ -91,10 +142,17 @@ impl HasText for PropertyValue {
     ghost text = { property_value_text };
 
     fn push_text(&self, out: &mut Vec<u8>) -> Result<(), OutOfMemory> {
-        push_property(out, b"(property=", self.property, &self.index)?;
-        push_field(out, b" value=", &self.value)?;
-        push_optional(out, b" priority=", &self.priority)?;
-        out.push(b')')?;
+        let start = add_room::<48>(out)?;
+        let room = out.as_mut_slice();
+        let end = put_property(room, start, b"(property=", self.property, &self.index);
+        let end = put_word(room, end, b" value=");
+        out.truncate(end);
+        self.value.push_text(out)?;
+        let start = add_room::<32>(out)?;
+        let room = out.as_mut_slice();
+        let end = put_optional(room, start, b" priority=", &self.priority);
+        let end = put_word(room, end, b")");
+        out.truncate(end);
         Ok(())
     }
 }

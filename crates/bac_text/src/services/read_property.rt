@@ -1,19 +1,23 @@
 //! The text of ReadProperty and of its answer.
 
-use crate::services::properties::push_property;
-use crate::texts::{HasText, push_field};
+use crate::services::properties::put_property;
+use crate::texts::{HasShortText, HasText, put_field, put_word};
+use bac_record::add_room;
 use bac_service::{ReadProperty, ReadPropertyAck};
 use bac_tag::OutOfMemory;
 
 /// `ReadProperty object=O property=N [index=N]`.
-impl HasText for ReadProperty {
+impl HasShortText for ReadProperty {
     ghost use Rattle.bac_text.specs.ReadPropertyText.{read_property_text};
 
     ghost text = { read_property_text };
 
-    fn push_text(&self, out: &mut Vec<u8>) -> Result<(), OutOfMemory> {
-        push_field(out, b"ReadProperty object=", &self.object)?;
-        push_property(out, b" property=", self.property, &self.index)
+    ghost most = { 78 };
+
+    #[inline(always)]
+    fn put_text(&self, room: &mut [u8], at: usize) -> usize {
+        let end = put_field(room, at, b"ReadProperty object=", &self.object);
+        put_property(room, end, b" property=", self.property, &self.index)
     }
 }
 
@@ -24,8 +28,12 @@ impl HasText for ReadPropertyAck {
     ghost text = { read_property_ack_text };
 
     fn push_text(&self, out: &mut Vec<u8>) -> Result<(), OutOfMemory> {
-        push_field(out, b"ReadProperty object=", &self.object)?;
-        push_property(out, b" property=", self.property, &self.index)?;
-        push_field(out, b" value=", &self.value)
+        let start = add_room::<96>(out)?;
+        let room = out.as_mut_slice();
+        let end = put_field(room, start, b"ReadProperty object=", &self.object);
+        let end = put_property(room, end, b" property=", self.property, &self.index);
+        let end = put_word(room, end, b" value=");
+        out.truncate(end);
+        self.value.push_text(out)
     }
 }

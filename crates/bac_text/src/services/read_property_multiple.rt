@@ -1,5 +1,6 @@
 //! The text of ReadPropertyMultiple and of its answer.
 
+use crate::services::properties::push_object;
 use crate::texts::{HasText, push_field, push_optional};
 use bac_service::{
     ReadAccessResult, ReadAccessSpecification, ReadPropertyMultiple, ReadPropertyMultipleAck,
@@ -14,8 +15,8 @@ impl HasText for ReadAccessSpecification {
     ghost text = { λ specification. specification_text (specification_of specification) };
 
     fn push_text(&self, out: &mut Vec<u8>) -> Result<(), OutOfMemory> {
-        push_field(out, b"(object=", &self.object)?;
-        push_field(out, b" properties=", &self.properties)?;
+        push_object(out, b"(object=", self.object, b" properties=")?;
+        self.properties.push_text(out)?;
         out.push(b')')?;
         Ok(())
     }
@@ -42,7 +43,7 @@ impl HasText for ReadAccessResult {
     ghost text = { λ result. access_result_text (access_result_of result) };
 
     fn push_text(&self, out: &mut Vec<u8>) -> Result<(), OutOfMemory> {
-        push_field(out, b"(object=", &self.object)?;
+        push_object(out, b"(object=", self.object, b"")?;
         push_optional(out, b" results=", &self.results)?;
         out.push(b')')?;
         Ok(())

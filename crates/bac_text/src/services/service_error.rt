@@ -1,18 +1,19 @@
 //! The text of errors of typed services.
 
-use crate::services::properties::push_cause;
-use crate::texts::{HasText, push_field};
+use crate::services::properties::put_cause;
+use crate::texts::{HasShortText, put_field};
 use bac_service::ServiceError;
-use bac_tag::OutOfMemory;
 
 /// `choice=C class=N code=N`.
-impl HasText for ServiceError {
+impl HasShortText for ServiceError {
     ghost use Rattle.bac_text.specs.ServiceErrorText.{service_error_text};
 
     ghost text = { λ error. service_error_text error.choice error.cause };
 
-    fn push_text(&self, out: &mut Vec<u8>) -> Result<(), OutOfMemory> {
-        push_field(out, b"choice=", &self.choice())?;
-        push_cause(out, b" class=", self.class(), self.code())
+    ghost most = { 50 };
+
+    fn put_text(&self, room: &mut [u8], at: usize) -> usize {
+        let end = put_field(room, at, b"choice=", &self.choice());
+        put_cause(room, end, b" class=", self.class(), self.code())
     }
 }

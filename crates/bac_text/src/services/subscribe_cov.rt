@@ -1,19 +1,20 @@
 //! The text of SubscribeCOV.
 
-use crate::texts::{HasText, push_field, push_optional};
+use crate::texts::{HasShortText, put_field, put_optional};
 use bac_service::SubscribeCov;
-use bac_tag::OutOfMemory;
 
 /// `SubscribeCOV process=N object=O [confirmed=B] [lifetime=N]`.
-impl HasText for SubscribeCov {
+impl HasShortText for SubscribeCov {
     ghost use Rattle.bac_text.specs.SubscribeCovText.{subscribe_cov_text};
 
     ghost text = { subscribe_cov_text };
 
-    fn push_text(&self, out: &mut Vec<u8>) -> Result<(), OutOfMemory> {
-        push_field(out, b"SubscribeCOV process=", &self.process_identifier)?;
-        push_field(out, b" object=", &self.object)?;
-        push_optional(out, b" confirmed=", &self.confirmed)?;
-        push_optional(out, b" lifetime=", &self.lifetime)
+    ghost most = { 92 };
+
+    fn put_text(&self, room: &mut [u8], at: usize) -> usize {
+        let end = put_field(room, at, b"SubscribeCOV process=", &self.process_identifier);
+        let end = put_field(room, end, b" object=", &self.object);
+        let end = put_optional(room, end, b" confirmed=", &self.confirmed);
+        put_optional(room, end, b" lifetime=", &self.lifetime)
     }
 }

@@ -1,7 +1,7 @@
 //! The text of WritePropertyMultiple and of its error.
 
-use crate::services::properties::{push_cause, push_property};
-use crate::texts::{HasText, push_field};
+use crate::services::properties::{push_object, put_cause, put_property};
+use crate::texts::{HasShortText, HasText, push_field, put_field};
 use bac_service::{WriteAccessSpecification, WritePropertyMultiple, WritePropertyMultipleError};
 use bac_tag::OutOfMemory;
 
@@ -13,8 +13,8 @@ impl HasText for WriteAccessSpecification {
     ghost text = { λ specification. write_specification_text (write_specification_of specification) };
 
     fn push_text(&self, out: &mut Vec<u8>) -> Result<(), OutOfMemory> {
-        push_field(out, b"(object=", &self.object)?;
-        push_field(out, b" values=", &self.values)?;
+        push_object(out, b"(object=", self.object, b" values=")?;
+        self.values.push_text(out)?;
         out.push(b')')?;
         Ok(())
     }
@@ -34,14 +34,16 @@ impl HasText for WritePropertyMultiple {
 }
 
 /// `choice=16 class=N code=N object=O property=N [index=N]`.
-impl HasText for WritePropertyMultipleError {
+impl HasShortText for WritePropertyMultipleError {
     ghost use Rattle.bac_text.specs.WritePropertyMultipleText.{write_error_text};
 
     ghost text = { write_error_text };
 
-    fn push_text(&self, out: &mut Vec<u8>) -> Result<(), OutOfMemory> {
-        push_cause(out, b"choice=16 class=", self.class.0, self.code.0)?;
-        push_field(out, b" object=", &self.object)?;
-        push_property(out, b" property=", self.property, &self.index)
+    ghost most = { 108 };
+
+    fn put_text(&self, room: &mut [u8], at: usize) -> usize {
+        let end = put_cause(room, at, b"choice=16 class=", self.class.0, self.code.0);
+        let end = put_field(room, end, b" object=", &self.object);
+        put_property(room, end, b" property=", self.property, &self.index)
     }
 }

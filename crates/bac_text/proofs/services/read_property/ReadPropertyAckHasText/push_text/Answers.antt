@@ -1,5 +1,10 @@
-use Rattle.bac_text.proofs.TextLemmas.{appended, appended_last}
+use Rattle.std.proofs.Common.{arith, ◌∙◌}
+use Rattle.bac_text.proofs.TextLemmas.{appended, behind_word, cut, first_put}
 use Rattle.bac_text.proofs.services.read_property.ReadPropertyAckHasText.push_text.Goals as goal
 
 pub returns-clause-ok : goal.returns-clause-ok
-returns-clause-ok c = appended_last c.push_field-2.result c.args.out.now.items _ _ _ _ (appended c.args.out.now.items _ _ _ _ c.in_ok-push_field.ensures.ok c.in_ok-push_property.ensures.ok) c.push_field-2.ensures.ok
+returns-clause-ok c =
+    behind_word c.push_text.result c.args.out.now.items _ _ _ _ _ _
+    (appended c.args.out.now.items _ _ _ _ (first_put c.in_ok-start.start _ _ _ _ _ c.in_ok-start.ensures.ok.1 c.as_mut_slice-room.ensures.value c.put_field-end.ensures.text) c.put_property-end.ensures.text)
+    (cut c.put_word-end.result _ c.put_word-end.new.room _ _ c.truncate.ensures.items (omega arith) (omega (arith, c.in_ok-start.ensures.ok.2)) ∙ c.put_word-end.ensures.text)
+    c.push_text.ensures.ok

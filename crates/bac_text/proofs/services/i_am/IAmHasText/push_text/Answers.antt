@@ -1,5 +1,0 @@
-use Rattle.bac_text.proofs.TextLemmas.{appended, appended_last}
-use Rattle.bac_text.proofs.services.i_am.IAmHasText.push_text.Goals as goal
-
-pub returns-clause-ok : goal.returns-clause-ok
-returns-clause-ok c = appended_last c.push_field-4.result c.args.out.now.items _ _ _ _ (appended c.args.out.now.items _ _ _ _ (appended c.args.out.now.items _ _ _ _ c.in_ok-push_field.ensures.ok c.in_ok-push_field-2.ensures.ok) c.in_ok-push_field-3.ensures.ok) c.push_field-4.ensures.ok
