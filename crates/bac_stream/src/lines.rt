@@ -1,11 +1,12 @@
 //! The lines of `show` and `check`.
 
 ghost use Rattle.std.specs.Prelude.{◌≡◌, ◌++◌, codes, OnOk, OnErr};
+ghost use Rattle.std.specs.Fmt.{decimal};
 ghost use Rattle.bac_tag.specs.Octets.{Extends};
 ghost use Rattle.bac_stream.specs.Lines.{said_by, said_of, said_text, numbered};
 
 use bac_npdu::{Body, FrameHead};
-use bac_record::push_decimal;
+use bac_record::{add_room, push_decimal, put_decimal};
 use bac_tag::{OutOfMemory, Refusal};
 use bac_text::append_text_of;
 
@@ -22,6 +23,20 @@ pub(crate) enum Line<'a> {
     Shown(&'a FrameHead<'a>, &'a Body),
 }
 
+/// Appends the number of a record, and a blank.
+#[inline(always)]
+fn push_number(out: &mut Vec<u8>, number: u32) -> Result<(), OutOfMemory>
+    ensures ok { OnOk result (out.new.items ≡ out.old.items ++ (decimal number ++ codes " ")) }
+    ensures err { OnErr result (Extends out.old.items out.new.items) }
+{
+    let start = add_room::<32>(out)?;
+    let room = out.as_mut_slice();
+    let end = put_decimal(room, start, u64::from(number));
+    room[end] = b' ';
+    out.truncate(end + 1);
+    Ok(())
+}
+
 impl Line<'_> {
     /// What `check` says of a record that is accepted, by its mark.
     #[inline(always)]
@@ -34,29 +49,27 @@ impl Line<'_> {
         }
     }
 
-    /// Appends the text, a blank in front of it and a line feed behind it. Where memory is refused some of it may be
-    /// there.
+    /// Appends the text, and a line feed behind it. Where memory is refused some of it may be there.
     fn append_text(&self, out: &mut Vec<u8>) -> Result<(), OutOfMemory>
-        ensures ok { OnOk result (out.new.items ≡ out.old.items ++ codes " " ++ said_text (said_by self.now) ++ codes "\n") }
+        ensures ok { OnOk result (out.new.items ≡ out.old.items ++ said_text (said_by self.now) ++ codes "\n") }
         ensures err { OnErr result (Extends out.old.items out.new.items) }
     {
         match self {
             // Most records are canonical: their text is appended at once.
-            Line::Canonical => out.extend_from_slice(b" ok\n")?,
+            Line::Canonical => out.extend_from_slice(b"ok\n")?,
             Line::Tolerated(place) => {
-                out.extend_from_slice(b" tolerated at ")?;
+                out.extend_from_slice(b"tolerated at ")?;
                 push_decimal(out, *place as u64)?;
                 out.push(b'\n')?;
             }
             Line::Refused(refusal) => {
-                out.extend_from_slice(b" refused ")?;
+                out.extend_from_slice(b"refused ")?;
                 out.extend_from_slice(refusal.why.name().as_bytes())?;
                 out.extend_from_slice(b" at ")?;
                 push_decimal(out, refusal.place as u64)?;
                 out.push(b'\n')?;
             }
             Line::Shown(head, body) => {
-                out.push(b' ')?;
                 append_text_of(head, body, out)?;
                 out.push(b'\n')?;
             }
@@ -69,7 +82,7 @@ impl Line<'_> {
         ensures ok { OnOk result (out.new.items ≡ out.old.items ++ numbered number (said_text (said_by self.now))) }
         ensures err { OnErr result (Extends out.old.items out.new.items) }
     {
-        push_decimal(out, u64::from(number))?;
+        push_number(out, number)?;
         self.append_text(out)
     }
 
