@@ -2,6 +2,7 @@
 use Rattle.std.specs.Prelude.{ℕ, Bool, Option, Some, None, List, length, ◌<◌, refl}
 use Rattle.std.specs.Coded.{Coded, code_by, coded×, coded_ℕ, coded_bool, coded_list, coded_option}
 use Rattle.bac_npdu.specs.declared.frame_head.Addressed.{Addressed}
+use Rattle.bac_npdu.specs.declared.frame_head.DestRef.{DestRef}
 use Rattle.bac_npdu.specs.Addresses.{SourceValue, source_code, DestinationValue}
 use Rattle.bac_npdu.specs.Frames.{BodyValue, FrameValue}
 
@@ -31,9 +32,9 @@ abbrev pub address_read : Option Addressed → Option SourceValue
 address_read None = None
 address_read (Some a) = Some (record { network = a.network; address = a.address.now })
 
-abbrev pub destination_read : Option (Addressed × ℕ) → Option DestinationValue
+abbrev pub destination_read : Option DestRef → Option DestinationValue
 destination_read None = None
-destination_read (Some p) = Some (record { network = p.0.network; address = p.0.address.now; hops = p.1 })
+destination_read (Some d) = Some (record { network = d.network; address = d.address.now; hops = d.hops })
 
 -- a destination without its hop count
 abbrev pub address_of : Option DestinationValue → Option SourceValue

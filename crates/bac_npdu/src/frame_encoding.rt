@@ -51,14 +51,14 @@ fn append_head(head: &FrameHead<'_>, body: &Body, out: &mut Vec<u8>) -> Result<(
 {
     out.extend_from_slice(&[1, control_of(head, body).bits()])?;
     let destination = head.destination();
-    if let Some((addressed, _)) = destination {
-        append_address(addressed, out)?;
+    if let Some(to) = destination {
+        append_address(to.network, to.address, out)?;
     }
-    if let Some(addressed) = head.source() {
-        append_address(addressed, out)?;
+    if let Some(from) = head.source() {
+        append_address(from.network, from.address, out)?;
     }
-    if let Some((_, hops)) = destination {
-        out.push(hops)?;
+    if let Some(to) = destination {
+        out.push(to.hops)?;
     }
     Ok(())
 }

@@ -25,13 +25,26 @@ pub struct Addressed<'a> {
     pub address: &'a [u8],
 }
 
+/// A destination, of which the address is borrowed.
+// The hop count stands beside the network: behind the address seven octets of nothing would be moved with it, in two
+// moves that overlap, and the processor waits for both.
+#[derive(Clone, Copy, Debug)]
+pub struct DestRef<'a> {
+    /// The network.
+    pub network: u16,
+    /// The hop count.
+    pub hops: u8,
+    /// The octets of the address, at most 255. None of them: every device on the network.
+    pub address: &'a [u8],
+}
+
 /// What stands in front of the body of a frame (clause 6.2.2). Its addresses are borrowed, from a frame or from the
 /// octets that were read.
 #[derive(Debug, Drop)]
 pub struct FrameHead<'a> {
     reply: bool,
     priority: NetPriority,
-    destination: Option<(Addressed<'a>, u8)>,
+    destination: Option<DestRef<'a>>,
     source: Option<Addressed<'a>>,
 }
 
@@ -61,20 +74,19 @@ fn copied(alloc: Global, address: &[u8]) -> Result<Mac, OutOfMemory>
 #[inline(always)]
 fn destination_of(
     alloc: Global,
-    destination: Option<(Addressed<'_>, u8)>,
+    destination: Option<DestRef<'_>>,
 ) -> Result<Option<Dest>, OutOfMemory>
     ensures value { IfOk result (λ dest. destination_value dest ≡ destination_read destination.entry) }
     ensures memory { IfErr result (λ _. IsLong (address_of (destination_read destination.entry))) }
 {
-    let Some((addressed, hops)) = destination else {
+    let Some(to) = destination else {
         return Ok(None);
     };
-    let network = addressed.network;
-    let address = copied(alloc, addressed.address)?;
+    let address = copied(alloc, to.address)?;
     Ok(Some(Dest {
-        network,
+        network: to.network,
         address,
-        hops,
+        hops: to.hops,
     }))
 }
 
@@ -130,7 +142,7 @@ impl<'a> FrameHead<'a> {
 
     /// Where the frame goes, with the hop count, where that is another network.
     #[inline(always)]
-    pub fn destination(&self) -> Option<(Addressed<'a>, u8)>
+    pub fn destination(&self) -> Option<DestRef<'a>>
         ensures value { destination_read result ≡ self.now.destination }
         ensures few { IsShort (address_of self.now.destination) }
     {
@@ -174,11 +186,11 @@ impl Frame {
         ensures { frame_with result (body_value self.now.body) ≡ value_of self.now }
     {
         let destination = match &self.dest {
-            Some(dest) => {
-                let network = dest.network;
-                let address = dest.address.octets();
-                Some((Addressed { network, address }, dest.hops))
-            }
+            Some(dest) => Some(DestRef {
+                network: dest.network,
+                hops: dest.hops,
+                address: dest.address.octets(),
+            }),
             None => None,
         };
         let source = match &self.source {

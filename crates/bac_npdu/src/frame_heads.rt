@@ -9,7 +9,7 @@ ghost use Rattle.bac_npdu.specs.Frames.{is_there};
 ghost use Rattle.bac_npdu.specs.HeadsRead.{address_octets, from_octets, hops_octets, IsCutAddress, IsControlRead, IsHeadRead};
 
 use crate::control::Control;
-use crate::frame_head::Addressed;
+use crate::frame_head::{Addressed, DestRef};
 use crate::octets::{number_at, octets_of_number};
 use bac_tag::{OutOfMemory, Refusal, Why};
 use bitflags::Flags;
@@ -18,7 +18,7 @@ use bitflags::Flags;
 #[derive(Clone, Copy)]
 pub(crate) struct HeadRead<'a> {
     pub(crate) control: Control,
-    pub(crate) destination: Option<(Addressed<'a>, u8)>,
+    pub(crate) destination: Option<DestRef<'a>>,
     pub(crate) source: Option<Addressed<'a>>,
     /// How many octets it has.
     pub(crate) size: usize,
@@ -61,18 +61,23 @@ fn split_where(there: bool, octets: &[u8]) -> Option<(Option<Addressed<'_>>, &[u
 fn split_hops<'a>(
     goes_to: Option<Addressed<'a>>,
     octets: &'a [u8],
-) -> Option<(Option<(Addressed<'a>, u8)>, &'a [u8])>
+) -> Option<(Option<DestRef<'a>>, &'a [u8])>
     ensures some { IfSome result (λ found. octets.now ≡ hops_octets (destination_read found.0) ++ found.1.now) }
     ensures same { IfSome result (λ found. address_of (destination_read found.0) ≡ address_read goes_to.entry) }
     ensures none { IfNone result ((is_there goes_to.entry ≡ true) × (octets.now ≡ [])) }
 {
-    let Some(address) = goes_to else {
+    let Some(to) = goes_to else {
         return Some((None, octets));
     };
     let [hops, behind @ ..] = octets else {
         return None;
     };
-    Some((Some((address, *hops)), behind))
+    let destination = DestRef {
+        network: to.network,
+        hops: *hops,
+        address: to.address,
+    };
+    Some((Some(destination), behind))
 }
 
 /// Whether the length of an address is there, and 0.
@@ -128,12 +133,15 @@ pub(crate) fn read_head(octets: &[u8]) -> Result<HeadRead<'_>, Refusal>
 }
 
 /// Appends a network, a length and an address. Where memory is refused `out` may hold some of the octets.
-pub(crate) fn append_address(from: Addressed<'_>, out: &mut Vec<u8>) -> Result<(), OutOfMemory>
-    requires { length from.address.now < 256 }
-    ensures written { OnOk result (out.new.items ≡ out.old.items ++ least_head (addressed from.entry.network from.entry.address.now [])) }
+pub(crate) fn append_address(
+    network: u16,
+    address: &[u8],
+    out: &mut Vec<u8>,
+) -> Result<(), OutOfMemory>
+    requires { length address.now < 256 }
+    ensures written { OnOk result (out.new.items ≡ out.old.items ++ least_head (addressed network address.now [])) }
     ensures kept { Extends out.old.items out.new.items }
 {
-    let Addressed { network, address } = from;
     out.extend_from_slice(&octets_of_number(network))?;
     out.push(address.len() as u8)?;
     out.extend_from_slice(address)?;

@@ -32,7 +32,7 @@ pub use destination::Dest;
 pub use frame::{Body, Frame};
 pub use frame_decoding::{decode_frame, decode_marked, visit_frame};
 pub use frame_encoding::{append_frame, encode_frame};
-pub use frame_head::{Addressed, FrameHead};
+pub use frame_head::{Addressed, DestRef, FrameHead};
 pub use meaning::{Side, same_meaning};
 pub use message::NetMessage;
 pub use messages::opaque_net::{NetFault, OpaqueNet};

@@ -9,7 +9,7 @@ ghost use Rattle.bac_text.specs.Words.{field, number, truth};
 
 use crate::scalars::push_octets;
 use crate::texts::{HasText, push_field, push_named, push_optional};
-use bac_npdu::{Addressed, Body, Frame, FrameHead};
+use bac_npdu::{Addressed, Body, DestRef, Frame, FrameHead};
 use bac_record::push_hexadecimal;
 use bac_tag::OutOfMemory;
 
@@ -52,17 +52,16 @@ impl HasText for Addressed<'_> {
 }
 
 /// `NET/HEX hops=H`, with `*` for an address without octets.
-impl HasText for (Addressed<'_>, u8) {
+impl HasText for DestRef<'_> {
     ghost use Rattle.bac_text.specs.FrameText.{destination_text};
 
-    ghost text = { λ to. destination_text (record { network = to.0.network; address = to.0.address.now; hops = to.1 }) };
+    ghost text = { λ to. destination_text (record { network = to.network; address = to.address.now; hops = to.hops }) };
 
     fn push_text(&self, out: &mut Vec<u8>) -> Result<(), OutOfMemory> {
-        let (to, hops) = self;
-        to.network.push_text(out)?;
+        self.network.push_text(out)?;
         out.push(b'/')?;
-        push_address(out, to.address)?;
-        push_named::<_, _, 32>(out, b" hops=", hops)
+        push_address(out, self.address)?;
+        push_named::<_, _, 32>(out, b" hops=", &self.hops)
     }
 }
 

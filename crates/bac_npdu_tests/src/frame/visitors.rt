@@ -1,7 +1,7 @@
 //! What is made of a frame where it was decoded.
 
 use crate::expectations::assert_same;
-use bac_npdu::{Addressed, Body, FrameHead, FrameVisitor, append_frame, visit_frame};
+use bac_npdu::{Body, FrameHead, FrameVisitor, append_frame, visit_frame};
 use bac_tables::octets_of;
 use bac_tag::{OutOfMemory, Refusal, Why};
 use std::alloc::Global;
@@ -56,9 +56,9 @@ struct Tell {
 }
 
 /// Appends network and address.
-fn push_address(from: Addressed<'_>, out: &mut Vec<u8>) -> Result<(), OutOfMemory> {
-    out.extend_from_slice(&from.network.to_be_bytes())?;
-    out.extend_from_slice(from.address)?;
+fn push_address(network: u16, address: &[u8], out: &mut Vec<u8>) -> Result<(), OutOfMemory> {
+    out.extend_from_slice(&network.to_be_bytes())?;
+    out.extend_from_slice(address)?;
     Ok(())
 }
 
@@ -67,12 +67,12 @@ impl Tell {
     fn push(self, head: &FrameHead<'_>, body: Body, out: &mut Vec<u8>) -> Result<(), OutOfMemory> {
         out.push(u8::from(head.reply()))?;
         out.push(head.priority().number())?;
-        if let Some((to, hops)) = head.destination() {
-            push_address(to, out)?;
-            out.push(hops)?;
+        if let Some(to) = head.destination() {
+            push_address(to.network, to.address, out)?;
+            out.push(to.hops)?;
         }
         if let Some(from) = head.source() {
-            push_address(from, out)?;
+            push_address(from.network, from.address, out)?;
         }
         let frame = head.frame(self.alloc, body)?;
         append_frame(&frame, out)
