@@ -7,7 +7,31 @@ mod sizes;
 mod traits;
 mod writing;
 
-use bac_data::laws;
+use crate::expectations::{assert_holds, assert_same};
+use bac_data::{Any, AnyBuilder, Event, laws};
+use bac_value::Prim;
+use std::alloc::Global;
+use std::process::Abort;
+
+/// The value has these events.
+fn gives(rt: &impl Abort, value: &Any, events: &[Event]) {
+    assert_same(rt, value.count(), events.len());
+    for (place, (event, wanted)) in value.events().zip(events).enumerate() {
+        assert_holds(rt, event == *wanted, place);
+    }
+}
+
+/// The value of a builder in which no group is open.
+fn finished(rt: &impl Abort, builder: AnyBuilder) -> Any {
+    builder.finish().expect(rt, "a value")
+}
+
+/// The value of one application primitive.
+fn alone(rt: &impl Abort, alloc: Global, prim: Prim) -> Any {
+    let mut builder = AnyBuilder::new(alloc).expect(rt, "memory");
+    builder.push(prim).expect(rt, "memory");
+    finished(rt, builder)
+}
 
 // The laws are functions that do nothing: their contracts are what they say.
 #[test]

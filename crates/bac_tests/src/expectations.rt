@@ -1,6 +1,7 @@
 //! What a test expects. Each is a function, which is proved once for all tests.
 
-use std::fmt::Debug;
+use std::alloc::Global;
+use std::fmt::{Debug, Display};
 use std::process::Abort;
 
 /// Stops the test unless what it found is what it wanted.
@@ -21,4 +22,18 @@ pub fn assert_same_of<T: PartialEq + Debug + Drop, C: Debug + Drop>(
 /// Stops the test unless this holds of the case.
 pub fn assert_holds<C: Debug + Drop>(rt: &impl Abort, holds: bool, case: C) {
     assert!(rt; holds, "of {case:?}");
+}
+
+/// Stops the test unless these are the octets in front and those behind them. It tells how many there are, since there
+/// may be a mebibyte of them.
+pub fn assert_joined(rt: &impl Abort, found: &[u8], front: &[u8], behind: &[u8]) {
+    assert_same(rt, Some(found.len()), front.len().checked_add(behind.len()));
+    assert_holds(rt, found.starts_with(front), front.len());
+    assert_holds(rt, found.ends_with(behind), behind.len());
+}
+
+/// Stops the test unless this is how the value is shown.
+pub fn assert_shown<D: Display + Drop>(rt: &impl Abort, alloc: Global, value: D, text: &str) {
+    let shown = format!(in alloc; "{value}").expect(rt, "memory");
+    assert_same(rt, shown.as_str(), text);
 }

@@ -2,46 +2,75 @@
 
 use crate::expectations::{assert_holds, assert_same};
 use bac_tables::{Outcome, TableFault, octets_of, places_of, rows_of};
-use std::test::Fail;
+use std::process::Abort;
 
-#[test]
-fn only_pairs_of_hexadecimal_digits_are_octets(rt: HostRuntime) -> Result<(), Fail> {
-    assert_same(
-        &rt,
-        octets_of("00 7f FF")?.as_slice(),
-        [0, 0x7F, 0xFF].as_slice(),
-    );
-    assert!(rt; octets_of("none")?.is_empty());
-    for text in [
-        "", "0", "000", "G0", "+1", "-1", "00  00", " 00", "00,00", "00 none",
-    ] {
-        assert_holds(&rt, octets_of(text).is_err(), text);
-    }
-    for text in ["", "x", "+1", "-1", "1  2", "1,2"] {
-        assert_holds(&rt, places_of(text).is_err(), text);
-    }
-    Ok(())
+/// The text tells these octets.
+fn is_told(rt: &impl Abort, text: &str, octets: &[u8]) {
+    let found = octets_of(text).expect(rt, "octets");
+    assert_same(rt, found.as_slice(), octets);
+}
+
+/// The text tells no octets.
+fn has_no_octets(rt: &impl Abort, text: &str) {
+    assert_holds(rt, octets_of(text).is_err(), text);
+}
+
+/// The text tells no places.
+fn has_no_places(rt: &impl Abort, text: &str) {
+    assert_holds(rt, places_of(text).is_err(), text);
 }
 
 #[test]
-fn a_line_that_is_no_row_is_told(rt: HostRuntime) -> Result<(), Fail> {
+fn only_pairs_of_hexadecimal_digits_are_octets(rt: HostRuntime) {
+    is_told(&rt, "00 7f FF", &[0, 0x7F, 0xFF]);
+    is_told(&rt, "none", &[]);
+    has_no_octets(&rt, "");
+    has_no_octets(&rt, "0");
+    has_no_octets(&rt, "000");
+    has_no_octets(&rt, "G0");
+    has_no_octets(&rt, "+1");
+    has_no_octets(&rt, "-1");
+    has_no_octets(&rt, "00  00");
+    has_no_octets(&rt, " 00");
+    has_no_octets(&rt, "00,00");
+    has_no_octets(&rt, "00 none");
+    has_no_places(&rt, "");
+    has_no_places(&rt, "x");
+    has_no_places(&rt, "+1");
+    has_no_places(&rt, "-1");
+    has_no_places(&rt, "1  2");
+    has_no_places(&rt, "1,2");
+}
+
+/// The line is told as a fault.
+fn is_no_row(rt: &impl Abort, line: &str) {
+    assert_same(rt, rows_of(line).err(), Some(TableFault::Line(line)));
+}
+
+/// The line is a row, and what it tells is no outcome.
+fn has_no_outcome(rt: &impl Abort, line: &str) {
+    for row in rows_of(line).expect(rt, "rows").iter() {
+        assert_holds(rt, row.outcome().is_err(), line);
+    }
+}
+
+#[test]
+fn a_line_that_is_no_row_is_told(rt: HostRuntime) {
     assert_same(&rt, rows_of("\n  \n").err(), Some(TableFault::NoRow));
-    for line in ["00", "00 - itself", "00 ->", "00-> itself"] {
-        assert_same(&rt, rows_of(line).err(), Some(TableFault::Line(line)));
-    }
-    for line in [
-        "00 -> itself.",
-        "00 -> Tag",
-        "00 -> Tag at x",
-        "00 -> 01, differs at",
-    ] {
-        for row in rows_of(line)?.iter() {
-            assert_holds(&rt, row.outcome().is_err(), line);
-        }
-    }
-    for row in rows_of("\n    00 01 -> itself\n")?.iter() {
+    is_no_row(&rt, "00");
+    is_no_row(&rt, "00 - itself");
+    is_no_row(&rt, "00 ->");
+    is_no_row(&rt, "00-> itself");
+    has_no_outcome(&rt, "00 -> itself.");
+    has_no_outcome(&rt, "00 -> Tag");
+    has_no_outcome(&rt, "00 -> Tag at x");
+    has_no_outcome(&rt, "00 -> 01, differs at");
+    for row in rows_of("\n    00 01 -> itself\n")
+        .expect(&rt, "rows")
+        .iter()
+    {
         assert_same(&rt, (row.octets, row.told), ("00 01", "itself"));
-        assert!(rt; matches!(row.outcome()?, Outcome::Itself));
+        let is_itself = matches!(row.outcome(), Ok(Outcome::Itself));
+        assert_holds(&rt, is_itself, row.told);
     }
-    Ok(())
 }

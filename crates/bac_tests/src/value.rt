@@ -13,25 +13,42 @@ use crate::expectations::assert_same_of;
 use bac_tables::{Outcome, octets_of, rows_of};
 use bac_value::{Primitive, laws};
 use std::alloc::Global;
+use std::fmt::Debug;
 use std::process::Abort;
-use std::test::Fail;
 
 /// By the bound alone: each row of the table is as it says.
-fn judge<T: Primitive>(rt: &impl Abort, alloc: Global, table: &str) -> Result<(), Fail> {
-    for row in rows_of(table)?.iter() {
-        let octets = octets_of(row.octets)?;
-        match row.outcome()? {
-            Outcome::Itself => comes_to::<T>(rt, alloc, &octets, Ok((&octets, None)))?,
-            Outcome::Written(written, mark) => {
-                let written = octets_of(written)?;
-                comes_to::<T>(rt, alloc, &octets, Ok((&written, Some(mark))))?;
-            }
-            Outcome::Refused(reason, place) => {
-                comes_to::<T>(rt, alloc, &octets, Err((reason, place)))?;
-            }
+fn judge<T: Primitive>(rt: &impl Abort, alloc: Global, table: &str) {
+    for row in rows_of(table).expect(rt, "rows").iter() {
+        let octets = octets_of(row.octets).expect(rt, "octets");
+        let outcome = row.outcome().expect(rt, "an outcome");
+        judge_row::<T>(rt, alloc, &octets, outcome);
+    }
+}
+
+/// By the bound alone: the contents come to this.
+fn judge_row<T: Primitive>(rt: &impl Abort, alloc: Global, octets: &[u8], outcome: Outcome) {
+    match outcome {
+        Outcome::Itself => comes_to::<T>(rt, alloc, octets, Ok((octets, None))),
+        Outcome::Written(written, mark) => {
+            let written = octets_of(written).expect(rt, "octets");
+            comes_to::<T>(rt, alloc, octets, Ok((&written, Some(mark))));
+        }
+        Outcome::Refused(reason, place) => {
+            comes_to::<T>(rt, alloc, octets, Err((reason, place)));
         }
     }
-    Ok(())
+}
+
+/// By the bound alone: these contents are read as this value.
+fn reads_as<T: Primitive + PartialEq + Debug>(
+    rt: &impl Abort,
+    alloc: Global,
+    octets: &str,
+    wanted: T,
+) {
+    let contents = octets_of(octets).expect(rt, "octets");
+    let read = T::read(alloc, &contents).expect(rt, "a value");
+    assert_same_of(rt, read, wanted, octets);
 }
 
 /// By the bound alone: the contents come to the octets written of their value and the mark, or they are refused for the
@@ -41,11 +58,11 @@ fn comes_to<T: Primitive>(
     alloc: Global,
     octets: &[u8],
     wanted: Result<(&[u8], Option<usize>), (&str, usize)>,
-) -> Result<(), Fail> {
+) {
     let mut out = Vec::new(alloc);
     let found = match T::read(alloc, octets) {
         Ok(value) => {
-            value.write(&mut out)?;
+            value.write(&mut out).expect(rt, "memory");
             assert_same_of(rt, value.written_len(), out.len(), octets);
             Ok((out.as_slice(), value.mark(octets)))
         }
@@ -57,7 +74,6 @@ fn comes_to<T: Primitive>(
         Ok(_) => None,
     };
     foresee::<T>(rt, octets, refused);
-    Ok(())
 }
 
 /// By the bound alone: the fronts of contents are hopeless behind the octet that is refused, and only there.
@@ -66,25 +82,23 @@ fn foresee<T: Primitive>(rt: &impl Abort, octets: &[u8], refused: Option<usize>)
         return;
     }
     for taken in 0..=octets.len() {
-        let wanted = refused.filter(|place| *place < taken);
+        let wanted = match refused {
+            Some(place) if place < taken => Some(place),
+            _ => None,
+        };
         let found = T::hopeless(&octets[..taken], octets.len());
         assert_same_of(rt, found, wanted, (taken, octets));
     }
 }
 
 /// By the bound alone: zeros of every other length from 0 to 9 octets are refused.
-fn refuses_other_lengths<T: Primitive>(
-    rt: &impl Abort,
-    alloc: Global,
-    length: usize,
-) -> Result<(), Fail> {
+fn refuses_other_lengths<T: Primitive>(rt: &impl Abort, alloc: Global, length: usize) {
     let zeros = [0; 9];
     for size in 0..10 {
         if size != length {
-            comes_to::<T>(rt, alloc, &zeros[..size], Err(("Length", 0)))?;
+            comes_to::<T>(rt, alloc, &zeros[..size], Err(("Length", 0)));
         }
     }
-    Ok(())
 }
 
 // The laws are functions that do nothing: their contracts are what they say.

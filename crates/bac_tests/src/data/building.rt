@@ -1,17 +1,17 @@
 //! Building open values, and walking over them. Where memory is refused a call is made again, so that each
 //! test can be run with each of its allocations refused in turn (`rt try --test --fail-alloc N`).
 
+use super::{finished, gives};
 use crate::expectations::{assert_same, assert_same_of};
-use bac_data::{Any, AnyBuilder, BuildFault, Event};
+use bac_data::{AnyBuilder, BuildFault, Event};
 use bac_tables::{octets_of, rows_of};
 use bac_tag::OutOfMemory;
 use bac_value::{
     Boolean, Date, DoubleBits, Enumerated, Null, ObjectId, Prim, PrimRef, RealBits, Signed, Time,
     Unsigned,
 };
-use std::alloc::{AllocError, Global};
+use std::alloc::Global;
 use std::process::Abort;
-use std::test::Fail;
 
 /// What a call of a builder gives that asks for one event more: `close`, `open NUMBER`, `context NUMBER: OCTETS`, or
 /// `push NUMBER: OCTETS` for the value with this application number and these contents.
@@ -20,24 +20,27 @@ fn attempt(
     alloc: Global,
     builder: &mut AnyBuilder,
     call: &str,
-) -> Result<Result<(), BuildFault>, Fail> {
+) -> Result<(), BuildFault> {
     if call == "close" {
-        return Ok(builder.close());
+        return builder.close();
     }
     if let Some(("", number)) = call.split_once("open ") {
-        return Ok(builder.open(u8::from_str_radix(number, 10)?));
+        return builder.open(number_of(rt, number));
     }
-    let Some((name, octets)) = call.split_once(": ") else {
-        panic!(rt; "no call: {call}")
-    };
-    let octets = octets_of(octets)?;
-    if let Some(("", number)) = name.split_once("context ") {
-        return Ok(builder.push_ctx(u8::from_str_radix(number, 10)?, &octets));
+    let (name, octets) = call.split_once(": ").expect(rt, "a call with octets");
+    let octets = octets_of(octets).expect(rt, "octets");
+    let (name, number) = name.split_once(' ').expect(rt, "a number");
+    let number = number_of(rt, number);
+    if name == "context" {
+        return builder.push_ctx(number, &octets);
     }
-    let Some(("", number)) = name.split_once("push ") else {
-        panic!(rt; "no call: {call}")
-    };
-    Ok(push(rt, alloc, builder, u8::from_str_radix(number, 10)?, &octets))
+    assert!(rt; name == "push");
+    push(rt, alloc, builder, number, &octets)
+}
+
+/// The number of decimal digits.
+fn number_of(rt: &impl Abort, digits: &str) -> u8 {
+    u8::from_str_radix(digits, 10).expect(rt, "a number")
 }
 
 /// Pushes the value with these contents. Where memory is refused the one that comes back is pushed again.
@@ -75,20 +78,14 @@ fn told_of(found: Result<(), BuildFault>) -> &'static str {
 }
 
 /// Each call ends as its row says. Where memory is refused the builder is as it was, and the call is made again.
-fn takes(
-    rt: &impl Abort,
-    alloc: Global,
-    builder: &mut AnyBuilder,
-    table: &str,
-) -> Result<(), Fail> {
-    for row in rows_of(table)?.iter() {
-        let mut found = attempt(rt, alloc, builder, row.octets)?;
+fn takes(rt: &impl Abort, alloc: Global, builder: &mut AnyBuilder, table: &str) {
+    for row in rows_of(table).expect(rt, "rows").iter() {
+        let mut found = attempt(rt, alloc, builder, row.octets);
         if found == Err(BuildFault::OutOfMemory) {
-            found = attempt(rt, alloc, builder, row.octets)?;
+            found = attempt(rt, alloc, builder, row.octets);
         }
         assert_same_of(rt, told_of(found), row.told, row.octets);
     }
-    Ok(())
 }
 
 /// A context primitive of many octets ends so. Where memory is refused the call is made again.
@@ -107,39 +104,31 @@ fn refuses_contents(rt: &impl Abort, builder: &mut AnyBuilder, beyond: &[u8]) {
     takes_context(rt, builder, 255, beyond, "Number");
 }
 
-/// The value has these events.
-fn gives(rt: &impl Abort, value: &Any, events: &[Event]) {
-    assert_same(rt, value.count(), events.len());
-    for (event, wanted) in value.events().zip(events) {
-        assert_same(rt, &event, wanted);
-    }
-}
-
 /// A builder with no event, at the latest when memory is asked for again.
-fn begun(alloc: Global) -> Result<AnyBuilder, OutOfMemory> {
+fn begun(rt: &impl Abort, alloc: Global) -> AnyBuilder {
     match AnyBuilder::new(alloc) {
-        Ok(builder) => Ok(builder),
-        Err(OutOfMemory) => AnyBuilder::new(alloc),
+        Ok(builder) => builder,
+        Err(OutOfMemory) => AnyBuilder::new(alloc).expect(rt, "memory"),
     }
 }
 
 /// So many zeros, at the latest when memory is asked for again.
-fn zeros(alloc: Global, count: usize) -> Result<Vec<u8>, AllocError> {
+fn zeros(rt: &impl Abort, alloc: Global, count: usize) -> Vec<u8> {
     match vec![in alloc; 0u8; count] {
-        Ok(octets) => Ok(octets),
-        Err(_) => vec![in alloc; 0u8; count],
+        Ok(octets) => octets,
+        Err(_) => vec![in alloc; 0u8; count].expect(rt, "memory"),
     }
 }
 
 // Of example 15 of docs/EXAMPLES.md.
 #[test]
-fn a_value_is_finished_when_each_group_is_closed(rt: HostRuntime) -> Result<(), Fail> {
-    let mut builder = begun(rt.alloc())?;
+fn a_value_is_finished_when_each_group_is_closed(rt: HostRuntime) {
+    let mut builder = begun(&rt, rt.alloc());
     let group = "
         open 2        -> taken
         context 1: 55 -> taken
     ";
-    takes(&rt, rt.alloc(), &mut builder, group)?;
+    takes(&rt, rt.alloc(), &mut builder, group);
     let mut builder = match builder.finish() {
         Err((builder, BuildFault::StillOpen)) => builder,
         outcome => panic!(rt; "{outcome:?}"),
@@ -149,43 +138,41 @@ fn a_value_is_finished_when_each_group_is_closed(rt: HostRuntime) -> Result<(), 
         close           -> NothingOpen
         context 255: 55 -> Number
     ";
-    takes(&rt, rt.alloc(), &mut builder, end)?;
-    let value = builder.finish()?;
+    takes(&rt, rt.alloc(), &mut builder, end);
+    let value = finished(&rt, builder);
     let events = [Event::Open(2), Event::Ctx(1, &[0x55]), Event::Close(2)];
     gives(&rt, &value, &events);
-    Ok(())
 }
 
 // Of example 15 of docs/EXAMPLES.md.
 #[test]
-fn a_value_may_be_one_primitive(rt: HostRuntime) -> Result<(), Fail> {
-    let mut builder = begun(rt.alloc())?;
+fn a_value_may_be_one_primitive(rt: HostRuntime) {
+    let mut builder = begun(&rt, rt.alloc());
     let real = RealBits(0x4290_999A);
     if let Err((prim, fault)) = builder.push(Prim::RealBits(real)) {
         assert_same(&rt, fault, BuildFault::OutOfMemory);
-        builder.push(prim)?;
+        builder.push(prim).expect(&rt, "memory");
     }
-    let value = builder.finish()?;
+    let value = finished(&rt, builder);
     gives(&rt, &value, &[Event::App(PrimRef::RealBits(real))]);
-    Ok(())
 }
 
 // Of example 44 of docs/EXAMPLES.md.
 #[test]
-fn thirty_two_groups_nest(rt: HostRuntime) -> Result<(), Fail> {
-    let mut builder = begun(rt.alloc())?;
+fn thirty_two_groups_nest(rt: HostRuntime) {
+    let mut builder = begun(&rt, rt.alloc());
     for _ in 0..32 {
-        takes(&rt, rt.alloc(), &mut builder, "open 0 -> taken")?;
+        takes(&rt, rt.alloc(), &mut builder, "open 0 -> taken");
     }
     let beyond = "
         open 0   -> Depth
         open 255 -> Number
     ";
-    takes(&rt, rt.alloc(), &mut builder, beyond)?;
+    takes(&rt, rt.alloc(), &mut builder, beyond);
     for _ in 0..32 {
-        takes(&rt, rt.alloc(), &mut builder, "close -> taken")?;
+        takes(&rt, rt.alloc(), &mut builder, "close -> taken");
     }
-    let value = builder.finish()?;
+    let value = finished(&rt, builder);
     assert_same(&rt, value.count(), 64);
     for (place, event) in value.events().enumerate() {
         let wanted = if place < 32 {
@@ -195,26 +182,24 @@ fn thirty_two_groups_nest(rt: HostRuntime) -> Result<(), Fail> {
         };
         assert_same_of(&rt, event, wanted, place);
     }
-    Ok(())
 }
 
 // Of example 44 of docs/EXAMPLES.md.
 #[test]
-fn contents_have_at_most_1_048_576_octets(rt: HostRuntime) -> Result<(), Fail> {
-    let mut builder = begun(rt.alloc())?;
-    let beyond = zeros(rt.alloc(), 1_048_577)?;
+fn contents_have_at_most_1_048_576_octets(rt: HostRuntime) {
+    let mut builder = begun(&rt, rt.alloc());
+    let beyond = zeros(&rt, rt.alloc(), 1_048_577);
     refuses_contents(&rt, &mut builder, &beyond);
-    let longest = zeros(rt.alloc(), 1_048_576)?;
+    let longest = zeros(&rt, rt.alloc(), 1_048_576);
     takes_context(&rt, &mut builder, 254, &longest, "taken");
     refuses_contents(&rt, &mut builder, &beyond);
-    let value = builder.finish()?;
+    let value = finished(&rt, builder);
     gives(&rt, &value, &[Event::Ctx(254, &longest)]);
-    Ok(())
 }
 
 // Of examples 15 and 44 of docs/EXAMPLES.md.
 #[test]
-fn after_a_fault_the_builder_is_as_it_was(rt: HostRuntime) -> Result<(), Fail> {
+fn after_a_fault_the_builder_is_as_it_was(rt: HostRuntime) {
     let rows = "
         close             -> NothingOpen
         open 255          -> Number
@@ -227,9 +212,9 @@ fn after_a_fault_the_builder_is_as_it_was(rt: HostRuntime) -> Result<(), Fail> {
         context 1: 01     -> taken
         open 255          -> Number
     ";
-    let mut builder = begun(rt.alloc())?;
-    takes(&rt, rt.alloc(), &mut builder, rows)?;
-    let value = builder.finish()?;
+    let mut builder = begun(&rt, rt.alloc());
+    takes(&rt, rt.alloc(), &mut builder, rows);
+    let value = finished(&rt, builder);
     let events = [
         Event::Ctx(254, &[]),
         Event::Open(254),
@@ -238,12 +223,11 @@ fn after_a_fault_the_builder_is_as_it_was(rt: HostRuntime) -> Result<(), Fail> {
         Event::Ctx(1, &[1]),
     ];
     gives(&rt, &value, &events);
-    Ok(())
 }
 
 // Of example 16 of docs/EXAMPLES.md.
 #[test]
-fn groups_hold_primitives_and_groups(rt: HostRuntime) -> Result<(), Fail> {
+fn groups_hold_primitives_and_groups(rt: HostRuntime) {
     let rows = "
         push 7: 00 48 65 6C 6C 6F       -> taken
         open 3                          -> taken
@@ -259,10 +243,10 @@ fn groups_hold_primitives_and_groups(rt: HostRuntime) -> Result<(), Fail> {
         push 12: 00 00 00 05            -> taken
         close                           -> taken
     ";
-    let mut builder = begun(rt.alloc())?;
-    takes(&rt, rt.alloc(), &mut builder, rows)?;
-    let value = builder.finish()?;
-    let input = ObjectId::new(0, 5).ok_or("0:5 is an identifier")?;
+    let mut builder = begun(&rt, rt.alloc());
+    takes(&rt, rt.alloc(), &mut builder, rows);
+    let value = finished(&rt, builder);
+    let input = ObjectId::new(0, 5).expect(&rt, "an identifier");
     let events = [
         Event::App(PrimRef::Text {
             set: 0,
@@ -285,13 +269,12 @@ fn groups_hold_primitives_and_groups(rt: HostRuntime) -> Result<(), Fail> {
         Event::Close(3),
     ];
     gives(&rt, &value, &events);
-    Ok(())
 }
 
 // Of examples 21, 32, 38, 39 and 62 of docs/EXAMPLES.md, and clauses 20.2.12 and 20.2.13: 24 January 1991, a Thursday,
 // at 17:35:45.17.
 #[test]
-fn the_other_primitives_are_kept(rt: HostRuntime) -> Result<(), Fail> {
+fn the_other_primitives_are_kept(rt: HostRuntime) {
     let rows = "
         push 1: 00                                                                                                                                                                                     -> taken
         push 2: 55                                                                                                                                                                                     -> taken
@@ -303,9 +286,9 @@ fn the_other_primitives_are_kept(rt: HostRuntime) -> Result<(), Fail> {
         push 10: 5B 01 18 04                                                                                                                                                                           -> taken
         push 11: 11 23 2D 11                                                                                                                                                                           -> taken
     ";
-    let mut builder = begun(rt.alloc())?;
-    takes(&rt, rt.alloc(), &mut builder, rows)?;
-    let value = builder.finish()?;
+    let mut builder = begun(&rt, rt.alloc());
+    takes(&rt, rt.alloc(), &mut builder, rows);
+    let value = finished(&rt, builder);
     let events = [
         Event::App(PrimRef::Boolean(Boolean(false))),
         Event::App(PrimRef::Unsigned(Unsigned(85))),
@@ -321,5 +304,4 @@ fn the_other_primitives_are_kept(rt: HostRuntime) -> Result<(), Fail> {
         Event::App(PrimRef::Time(Time([17, 35, 45, 17]))),
     ];
     gives(&rt, &value, &events);
-    Ok(())
 }

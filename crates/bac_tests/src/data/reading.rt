@@ -3,11 +3,10 @@
 
 use crate::expectations::{assert_holds, assert_same, assert_same_of};
 use bac_data::{Any, read_any, write_any};
-use bac_tables::{Octets, TableFault, joined, octets_of, rows_of};
-use bac_tag::{OutOfMemory, Refusal, Why};
+use bac_tables::{Octets, enclosed, joined, octets_of, rows_of};
+use bac_tag::{Refusal, Why};
 use std::alloc::Global;
 use std::process::Abort;
-use std::test::Fail;
 
 /// What `read_any` gives with number 3. Where memory is refused it is told at 0, and the value is read again.
 fn read(rt: &impl Abort, alloc: Global, octets: &[u8]) -> Result<(Any, usize), Refusal> {
@@ -21,33 +20,29 @@ fn read(rt: &impl Abort, alloc: Global, octets: &[u8]) -> Result<(Any, usize), R
 }
 
 /// With number 3 the value of these octets takes all of them, and is written so.
-fn reads(rt: &impl Abort, alloc: Global, octets: &[u8], written: &[u8]) -> Result<(), Fail> {
-    let (value, taken) = read(rt, alloc, octets)?;
+fn reads(rt: &impl Abort, alloc: Global, octets: &[u8], written: &[u8]) {
+    let (value, taken) = read(rt, alloc, octets).expect(rt, "a value");
     assert_same(rt, taken, octets.len());
     let mut out = Vec::new(alloc);
-    write_any(&value, 3, &mut out)?;
+    write_any(&value, 3, &mut out).expect(rt, "memory");
     assert_same(rt, out.as_slice(), written);
-    Ok(())
+}
+
+/// Why with number 3 the octets are refused, and where.
+fn refusal_of(rt: &impl Abort, alloc: Global, octets: &[u8]) -> Refusal {
+    read(rt, alloc, octets).err().expect(rt, "a refusal")
 }
 
 /// With number 3 the octets are refused there, for the reason with this name.
 fn refuses(rt: &impl Abort, alloc: Global, octets: &[u8], place: usize, reason: &str) {
-    match read(rt, alloc, octets) {
-        Ok(_) => panic!(rt; "{octets:?} are read"),
-        Err(refusal) => {
-            assert_same_of(
-                rt,
-                (refusal.why.name(), refusal.place),
-                (reason, place),
-                octets,
-            );
-        }
-    }
+    let refusal = refusal_of(rt, alloc, octets);
+    let found = (refusal.why.name(), refusal.place);
+    assert_same_of(rt, found, (reason, place), octets);
 }
 
 // Of examples 10 to 14, 16 and 43 of docs/EXAMPLES.md.
 #[test]
-fn tolerated_octets_are_read_and_written_by_their_fewest(rt: HostRuntime) -> Result<(), Fail> {
+fn tolerated_octets_are_read_and_written_by_their_fewest(rt: HostRuntime) {
     let alloc = rt.alloc();
     let table = "
         none                          -> none
@@ -70,26 +65,22 @@ fn tolerated_octets_are_read_and_written_by_their_fewest(rt: HostRuntime) -> Res
         C4 00 00 00 05                -> C4 00 00 00 05
         2E 2E 19 55 2F 0E 0F 2F 21 07 -> 2E 2E 19 55 2F 0E 0F 2F 21 07
     ";
-    for row in rows_of(table)?.iter() {
-        let octets = in_tags(row.octets)?;
-        let written = in_tags(row.told)?;
-        reads(&rt, alloc, &octets, &written)?;
+    for row in rows_of(table).expect(&rt, "rows").iter() {
+        let octets = in_tags(&rt, row.octets);
+        reads(&rt, alloc, &octets, &in_tags(&rt, row.told));
     }
-    Ok(())
 }
 
 /// The octets between an opening and a closing tag with number 3.
-fn in_tags(inner: &str) -> Result<Octets, Fail> {
-    let mut octets = joined("3E", inner)?;
-    if octets.try_push(0x3F).is_err() {
-        return Err(TableFault::TooMany.into());
-    }
-    Ok(octets)
+fn in_tags(rt: &impl Abort, inner: &str) -> Octets {
+    let mut octets = joined("3E", inner).expect(rt, "octets");
+    assert_holds(rt, octets.try_push(0x3F).is_ok(), inner);
+    octets
 }
 
 // Of examples 10, 13, 14, 43 and 69 of docs/EXAMPLES.md; and each octet with which no value begins.
 #[test]
-fn other_octets_are_refused_at_the_first_hopeless_one(rt: HostRuntime) -> Result<(), Fail> {
+fn other_octets_are_refused_at_the_first_hopeless_one(rt: HostRuntime) {
     let alloc = rt.alloc();
     let table = "
         none                       -> Short at 0
@@ -115,57 +106,45 @@ fn other_octets_are_refused_at_the_first_hopeless_one(rt: HostRuntime) -> Result
         3E F9 FF                   -> Tag at 2
         3E 1E 2F                   -> Tag at 2
     ";
-    for row in rows_of(table)?.iter() {
-        let (reason, place) = row.refusal()?;
-        refuses(&rt, alloc, &octets_of(row.octets)?, place, reason);
+    for row in rows_of(table).expect(&rt, "rows").iter() {
+        let (reason, place) = row.refusal().expect(&rt, "a refusal");
+        let octets = octets_of(row.octets).expect(&rt, "octets");
+        refuses(&rt, alloc, &octets, place, reason);
     }
-    Ok(())
 }
 
-/// The octet so often between an opening and a closing tag with number 3, with as many of the other behind.
-fn nested(alloc: Global, count: usize) -> Result<Vec<u8>, OutOfMemory> {
-    let mut octets = vec![in alloc; 0x3E]?;
-    for _ in 0..count {
-        octets.push(0x0E)?;
-    }
-    for _ in 0..count {
-        octets.push(0x0F)?;
-    }
-    octets.push(0x3F)?;
-    Ok(octets)
+/// So many groups, each in the one in front of it, of a value.
+fn nested(rt: &impl Abort, alloc: Global, count: usize) -> Vec<u8> {
+    let ends = vec![in alloc; 0x0F; count].expect(rt, "memory");
+    let mut octets = inside(rt, alloc, count, &ends);
+    octets.push(0x3F).expect(rt, "memory");
+    octets
 }
 
 // Examples 14 and 68 of docs/EXAMPLES.md.
 #[test]
-fn thirty_two_groups_nest(rt: HostRuntime) -> Result<(), Fail> {
+fn thirty_two_groups_nest(rt: HostRuntime) {
     let alloc = rt.alloc();
-    let octets = nested(alloc, 32)?;
+    let octets = nested(&rt, alloc, 32);
     assert_same(&rt, octets.len(), 66);
-    reads(&rt, alloc, octets.as_slice(), octets.as_slice())?;
-    let octets = nested(alloc, 33)?;
-    refuses(&rt, alloc, octets.as_slice(), 33, "Depth");
-    let octets = inside(alloc, 17, &[])?;
-    refuses(&rt, alloc, octets.as_slice(), 18, "Short");
-    Ok(())
+    reads(&rt, alloc, &octets, &octets);
+    refuses(&rt, alloc, &nested(&rt, alloc, 33), 33, "Depth");
+    refuses(&rt, alloc, &inside(&rt, alloc, 17, &[]), 18, "Short");
 }
 
 /// How many groups nest at most.
 const DEEPEST: usize = 32;
 
 /// The octets inside so many groups of a value.
-fn inside(alloc: Global, groups: usize, octets: &[u8]) -> Result<Vec<u8>, OutOfMemory> {
-    let mut all = vec![in alloc; 0x3E]?;
-    for _ in 0..groups {
-        all.push(0x0E)?;
-    }
-    all.extend_from_slice(octets)?;
-    Ok(all)
+fn inside(rt: &impl Abort, alloc: Global, groups: usize, octets: &[u8]) -> Vec<u8> {
+    let begins = vec![in alloc; 0x0E; groups].expect(rt, "memory");
+    enclosed(alloc, &[0x3E], &begins, octets, &[]).expect(rt, "memory")
 }
 
 // Of examples 14, 43, 44 and 68 of docs/EXAMPLES.md: where no group more may begin, other octets are refused as they are
 // anywhere else.
 #[test]
-fn in_the_deepest_group_the_reason_is_that_of_the_octet(rt: HostRuntime) -> Result<(), Fail> {
+fn in_the_deepest_group_the_reason_is_that_of_the_octet(rt: HostRuntime) {
     let alloc = rt.alloc();
     let table = "
         0E                -> Depth at 0
@@ -183,100 +162,82 @@ fn in_the_deepest_group_the_reason_is_that_of_the_octet(rt: HostRuntime) -> Resu
         0D FF FF FF FF FF -> Length at 2
         81 03             -> Content at 1
     ";
-    for row in rows_of(table)?.iter() {
-        let (reason, place) = row.refusal()?;
-        let octets = inside(alloc, DEEPEST, &octets_of(row.octets)?)?;
-        let Some(place) = place.checked_add(1 + DEEPEST) else {
-            panic!(rt; "no place behind {place}")
-        };
-        refuses(&rt, alloc, &octets, place, reason);
+    for row in rows_of(table).expect(&rt, "rows").iter() {
+        let (reason, place) = row.refusal().expect(&rt, "a refusal");
+        let place = place.checked_add(1 + DEEPEST).expect(&rt, "a place");
+        let octets = octets_of(row.octets).expect(&rt, "octets");
+        refuses(
+            &rt,
+            alloc,
+            &inside(&rt, alloc, DEEPEST, &octets),
+            place,
+            reason,
+        );
     }
-    Ok(())
 }
 
 // Clause 20.2.1.3.2: an opening tag has context class and LVT 6.
 #[test]
-fn depth_is_told_of_opening_tags_alone(rt: HostRuntime) -> Result<(), Fail> {
+fn depth_is_told_of_opening_tags_alone(rt: HostRuntime) {
     let alloc = rt.alloc();
     for first in 0..=255u8 {
-        let octets = inside(alloc, DEEPEST, &[first])?;
-        match read(&rt, alloc, &octets) {
-            Ok(_) => assert_holds(&rt, false, first),
-            Err(refusal) if first & 0x0F == 0x0E => {
-                let place = 1 + DEEPEST;
-                let why = Why::Depth;
-                assert_same_of(&rt, refusal, Refusal { place, why }, first);
-            }
-            Err(refusal) => assert_ne!(rt; refusal.why, Why::Depth, "{first}"),
+        let refusal = refusal_of(&rt, alloc, &inside(&rt, alloc, DEEPEST, &[first]));
+        if first & 0x0F == 0x0E {
+            assert_same_of(&rt, refusal, Why::Depth.at(1 + DEEPEST), first);
+        } else {
+            assert_holds(&rt, refusal.why != Why::Depth, first);
         }
-        let octets = inside(alloc, DEEPEST - 1, &[first])?;
-        match read(&rt, alloc, &octets) {
-            Ok(_) => assert_holds(&rt, false, first),
-            Err(refusal) => assert_ne!(rt; refusal.why, Why::Depth, "{first}"),
-        }
+        let refusal = refusal_of(&rt, alloc, &inside(&rt, alloc, DEEPEST - 1, &[first]));
+        assert_holds(&rt, refusal.why != Why::Depth, first);
     }
-    Ok(())
 }
 
 // Example 43 of docs/EXAMPLES.md: a front is read.
 #[test]
-fn what_stands_behind_the_value_is_left(rt: HostRuntime) -> Result<(), Fail> {
+fn what_stands_behind_the_value_is_left(rt: HostRuntime) {
     let alloc = rt.alloc();
     let octets = [0x3E, 0xF9, 0x0E, 0x55, 0x3F, 0x3E];
-    let (value, taken) = read(&rt, alloc, &octets)?;
+    let (value, taken) = read(&rt, alloc, &octets).expect(&rt, "a value");
     assert_same(&rt, taken, 5);
     assert_same(&rt, value.count(), 1);
-    match read_any(alloc, &octets, 2) {
-        Ok(_) => assert!(rt; false),
-        Err(refusal) => assert_same(
-            &rt,
-            refusal,
-            Refusal {
-                place: 0,
-                why: Why::Tag,
-            },
-        ),
-    }
-    Ok(())
+    let refusal = read_any(alloc, &octets, 2).err();
+    assert_same(&rt, refusal, Some(Why::Tag.at(0)));
 }
 
 // A value of many events, whose octets and nodes outgrow the room that a builder begins with.
 #[test]
-fn a_value_is_read_again_where_memory_was_refused(rt: HostRuntime) -> Result<(), Fail> {
+fn a_value_is_read_again_where_memory_was_refused(rt: HostRuntime) {
     let mut octets = [0x19; 130];
     octets[0] = 0x3E;
     octets[129] = 0x3F;
-    let (value, taken) = read(&rt, rt.alloc(), &octets)?;
+    let (value, taken) = read(&rt, rt.alloc(), &octets).expect(&rt, "a value");
     assert_same(&rt, taken, 130);
     assert_same(&rt, value.count(), 64);
-    Ok(())
 }
 
 // A MiB of tags is refused at the first that cannot stand there.
 #[test]
-fn many_tags_are_refused_at_once(rt: HostRuntime) -> Result<(), Fail> {
+fn many_tags_are_refused_at_once(rt: HostRuntime) {
     let alloc = rt.alloc();
-    let mut octets = vec![in alloc; 0x3E; 1 << 20]?;
-    refuses(&rt, alloc, octets.as_slice(), 33, "Depth");
-    octets.clear();
-    octets.resize(1 << 20, 0x3F)?;
-    refuses(&rt, alloc, octets.as_slice(), 0, "Tag");
-    Ok(())
+    let begins = vec![in alloc; 0x3E; 1 << 20].expect(&rt, "memory");
+    refuses(&rt, alloc, &begins, 33, "Depth");
+    let ends = vec![in alloc; 0x3F; 1 << 20].expect(&rt, "memory");
+    refuses(&rt, alloc, &ends, 0, "Tag");
 }
 
 /// A MiB of short primitives. `make memory` refuses its allocation 64: the vectors double, so there are fewer.
 #[test]
-fn a_mebibyte_is_read_with_few_allocations(rt: HostRuntime) -> Result<(), Fail> {
+fn a_mebibyte_is_read_with_few_allocations(rt: HostRuntime) {
     let alloc = rt.alloc();
-    let mut octets = Vec::with_capacity(alloc, 1 << 20)?;
-    octets.push(0x3E)?;
+    let mut octets = Vec::with_capacity(alloc, 1 << 20).expect(&rt, "memory");
+    octets.push(0x3E).expect(&rt, "memory");
     for _ in 1..1 << 19 {
-        octets.push(0x21)?;
-        octets.push(0x55)?;
+        octets
+            .extend_from_slice(&[0x21, 0x55])
+            .expect(&rt, "memory");
     }
-    octets.push(0x3F)?;
-    let (value, taken) = read_any(alloc, octets.as_slice(), 3)?;
+    octets.push(0x3F).expect(&rt, "memory");
+    let (value, taken) = read_any(alloc, &octets, 3).expect(&rt, "a value");
     assert_same(&rt, taken, 1 << 20);
     assert_same(&rt, value.count(), (1 << 19) - 1);
-    Ok(())
 }

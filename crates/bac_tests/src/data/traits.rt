@@ -1,74 +1,67 @@
 //! Open values by Rust's own traits.
 
-use crate::expectations::assert_same;
+use super::finished;
+use crate::expectations::{assert_same, assert_same_of, assert_shown};
 use bac_data::{Any, AnyBuilder, BuildFault, Event, read_any};
+use bac_tables::octets_of;
 use bac_value::{Prim, PrimRef, Unsigned};
 use std::alloc::Global;
-use std::test::Fail;
+use std::process::Abort;
 
 #[test]
-fn a_value_is_walked_by_a_loop(rt: HostRuntime) -> Result<(), Fail> {
-    let mut builder = AnyBuilder::new(rt.alloc())?;
-    builder.open(7)?;
-    if let Err((_, fault)) = builder.push(Prim::Unsigned(Unsigned(5))) {
-        return Err(Fail::from(fault));
-    }
-    builder.close()?;
-    let Ok(value) = builder.finish() else {
-        panic!(rt; "a group is open");
-    };
-    let wanted = [
+fn a_value_is_walked_by_a_loop(rt: HostRuntime) {
+    let mut builder = AnyBuilder::new(rt.alloc()).expect(&rt, "memory");
+    builder.open(7).expect(&rt, "memory");
+    let prim = Prim::Unsigned(Unsigned(5));
+    builder.push(prim).expect(&rt, "memory");
+    builder.close().expect(&rt, "a group");
+    let value = finished(&rt, builder);
+    assert_same(&rt, value.events().size_hint(), (3, Some(3)));
+    let events = [
         Event::Open(7),
         Event::App(PrimRef::Unsigned(Unsigned(5))),
         Event::Close(7),
     ];
-    assert_same(&rt, value.events().size_hint(), (3, Some(3)));
-    let mut place = 0;
+    let mut wanted = events.iter();
     for event in &value {
-        assert!(rt; place < 3, "{event:?}");
-        assert_eq!(rt; event, wanted[place], "event {place}");
-        place += 1;
+        assert_same(&rt, Some(&event), wanted.next());
     }
-    assert_same(&rt, place, 3);
-    Ok(())
+    assert_same(&rt, wanted.next(), None);
 }
 
 /// The value between tags of the number 3.
-fn value_of(alloc: Global, octets: &[u8]) -> Result<Any, Fail> {
-    let (value, _) = read_any(alloc, octets, 3)?;
-    Ok(value)
+fn value_of(rt: &impl Abort, alloc: Global, octets: &str) -> Any {
+    let octets = octets_of(octets).expect(rt, "octets");
+    let (value, _) = read_any(alloc, &octets, 3).expect(rt, "a value");
+    value
+}
+
+/// Whether the octets say what the value is.
+fn says(rt: &impl Abort, alloc: Global, value: &Any, octets: &str, is_same: bool) {
+    let found = *value == value_of(rt, alloc, octets);
+    assert_same_of(rt, found, is_same, octets);
 }
 
 // The spelling does not count, but each number, each octet and each group does.
 #[test]
-fn values_are_compared_by_what_they_say(rt: HostRuntime) -> Result<(), Fail> {
-    let value = value_of(rt.alloc(), &[0x3E, 0x7E, 0x21, 0x05, 0x7F, 0x3F])?;
-    let longer = [0x3E, 0x7E, 0x22, 0x00, 0x05, 0x7F, 0x3F];
-    assert_same(&rt, &value, &value_of(rt.alloc(), &longer)?);
-    let others: [&[u8]; 6] = [
-        &[0x3E, 0x3F],
-        &[0x3E, 0x21, 0x05, 0x3F],
-        &[0x3E, 0x6E, 0x21, 0x05, 0x6F, 0x3F],
-        &[0x3E, 0x7E, 0x21, 0x06, 0x7F, 0x3F],
-        &[0x3E, 0x7E, 0x91, 0x05, 0x7F, 0x3F],
-        &[0x3E, 0x7E, 0x7F, 0x21, 0x05, 0x3F],
-    ];
-    for other in others {
-        assert_ne!(rt; value, value_of(rt.alloc(), other)?, "{other:?}");
-    }
-    assert_same(&rt, value.clone()?, value);
-    Ok(())
+fn values_are_compared_by_what_they_say(rt: HostRuntime) {
+    let alloc = rt.alloc();
+    let value = value_of(&rt, alloc, "3E 7E 21 05 7F 3F");
+    says(&rt, alloc, &value, "3E 7E 22 00 05 7F 3F", true);
+    says(&rt, alloc, &value, "3E 3F", false);
+    says(&rt, alloc, &value, "3E 21 05 3F", false);
+    says(&rt, alloc, &value, "3E 6E 21 05 6F 3F", false);
+    says(&rt, alloc, &value, "3E 7E 21 06 7F 3F", false);
+    says(&rt, alloc, &value, "3E 7E 91 05 7F 3F", false);
+    says(&rt, alloc, &value, "3E 7E 7F 21 05 3F", false);
+    let clone = value.clone().expect(&rt, "memory");
+    assert_same(&rt, clone, value);
 }
 
 #[test]
-fn faults_are_shown(rt: HostRuntime) -> Result<(), Fail> {
+fn faults_are_shown(rt: HostRuntime) {
     let fault = BuildFault::Number;
-    assert_same(
-        &rt,
-        format!(in rt.alloc(); "{fault}")?.as_str(),
-        "255 is no tag number",
-    );
+    assert_shown(&rt, rt.alloc(), fault, "255 is no tag number");
     assert_same(&rt, fault as u8, 1);
     assert_same(&rt, BuildFault::TooLong as u8, 6);
-    Ok(())
 }

@@ -29,17 +29,16 @@ fn shown(alloc: Global, found: Found) -> Result<String, AllocError> {
 }
 
 /// What is found is what the row tells, at the latest when memory is asked for again.
-fn is_told(rt: &impl Abort, alloc: Global, row: &Row, found: Found) -> Result<(), Fail> {
+fn is_told(rt: &impl Abort, alloc: Global, row: &Row, found: Found) {
     let text = match shown(alloc, found) {
         Ok(text) => text,
-        Err(_) => shown(alloc, found)?,
+        Err(_) => shown(alloc, found).expect(rt, "memory"),
     };
     assert_same_of(rt, text.as_str(), row.told, row.octets);
-    Ok(())
 }
 
 #[test]
-fn reads_heads(rt: HostRuntime) -> Result<(), Fail> {
+fn reads_heads(rt: HostRuntime) {
     let table = "
         FD 00 04 00 00 00 -> Ctx { number: 0, len: 4 } of 3
         0D FF FF FF FF FF -> Ctx { number: 0, len: 4294967295 } of 6
@@ -59,25 +58,24 @@ fn reads_heads(rt: HostRuntime) -> Result<(), Fail> {
         FD FF             -> Tag at 1
         F2 01             -> Tag at 1
     ";
-    for row in rows_of(table)?.iter() {
-        is_told(&rt, rt.alloc(), row, read_head(&octets_of(row.octets)?))?;
+    for row in rows_of(table).expect(&rt, "rows").iter() {
+        let octets = octets_of(row.octets).expect(&rt, "octets");
+        is_told(&rt, rt.alloc(), row, read_head(&octets));
     }
-    Ok(())
 }
 
 /// Each row of the table is as it says, where this head is expected.
-fn expects(rt: &impl Abort, alloc: Global, expected: Expected, table: &str) -> Result<(), Fail>
+fn expects(rt: &impl Abort, alloc: Global, expected: Expected, table: &str)
     requires { IsSound expected }
 {
-    for row in rows_of(table)?.iter() {
-        let found = read_expected(&octets_of(row.octets)?, expected);
-        is_told(rt, alloc, row, found)?;
+    for row in rows_of(table).expect(rt, "rows").iter() {
+        let octets = octets_of(row.octets).expect(rt, "octets");
+        is_told(rt, alloc, row, read_expected(&octets, expected));
     }
-    Ok(())
 }
 
 #[test]
-fn reads_expected_heads(rt: HostRuntime) -> Result<(), Fail> {
+fn reads_expected_heads(rt: HostRuntime) {
     let four = Expected::Ctx {
         number: Some(0),
         least: 4,
@@ -104,20 +102,20 @@ fn reads_expected_heads(rt: HostRuntime) -> Result<(), Fail> {
         0D 05          -> Length at 1
         FC 01          -> Tag at 1
     ";
-    expects(&rt, alloc, four, table)?;
-    expects(&rt, alloc, number, "1D 09 -> Length at 1")?;
+    expects(&rt, alloc, four, table);
+    expects(&rt, alloc, number, "1D 09 -> Length at 1");
     let table = "
         0D FF 00 10 00 01 -> Length at 5
         0D FF FF FF FF FF -> Length at 2
     ";
-    expects(&rt, alloc, any, table)?;
-    expects(&rt, alloc, Expected::Open(Some(4)), "4E -> Open(4) of 1")?;
-    expects(&rt, alloc, Expected::Close(Some(3)), "4F -> Tag at 0")?;
-    expects(&rt, alloc, Expected::AppBool, "11 -> AppBool(true) of 1")
+    expects(&rt, alloc, any, table);
+    expects(&rt, alloc, Expected::Open(Some(4)), "4E -> Open(4) of 1");
+    expects(&rt, alloc, Expected::Close(Some(3)), "4F -> Tag at 0");
+    expects(&rt, alloc, Expected::AppBool, "11 -> AppBool(true) of 1");
 }
 
 #[test]
-fn reads_one_of_several(rt: HostRuntime) -> Result<(), Fail> {
+fn reads_one_of_several(rt: HostRuntime) {
     let several = [
         Expected::Ctx {
             number: Some(2),
@@ -142,26 +140,24 @@ fn reads_one_of_several(rt: HostRuntime) -> Result<(), Fail> {
         3D 09 -> Length at 1
         none  -> Short at 0
     ";
-    for row in rows_of(table)?.iter() {
-        let found = read_one_of(&octets_of(row.octets)?, &several);
-        is_told(&rt, rt.alloc(), row, found)?;
+    for row in rows_of(table).expect(&rt, "rows").iter() {
+        let octets = octets_of(row.octets).expect(&rt, "octets");
+        is_told(&rt, rt.alloc(), row, read_one_of(&octets, &several));
     }
-    Ok(())
 }
 
 /// Each row of the table tells the head that is read of its octets, which is written so, and counted.
-fn are_canonical(rt: &impl Abort, alloc: Global, table: &str) -> Result<(), Fail> {
-    for row in rows_of(table)?.iter() {
-        let octets = octets_of(row.octets)?;
+fn are_canonical(rt: &impl Abort, alloc: Global, table: &str) {
+    for row in rows_of(table).expect(rt, "rows").iter() {
+        let octets = octets_of(row.octets).expect(rt, "octets");
         let found = read_head(&octets);
-        is_told(rt, alloc, row, found)?;
-        let (head, taken) = found?;
+        is_told(rt, alloc, row, found);
+        let (head, taken) = found.expect(rt, "a head");
         assert_same(rt, taken, octets.len());
         assert!(rt; head.is_valid());
         assert_same(rt, write_head(head).as_slice(), octets.as_slice());
         assert_same_of(rt, head_len(head), taken, head);
     }
-    Ok(())
 }
 
 #[test]
@@ -180,7 +176,7 @@ fn appends_heads(rt: HostRuntime) -> Result<(), Fail> {
 }
 
 #[test]
-fn writes_and_marks_heads(rt: HostRuntime) -> Result<(), Fail> {
+fn writes_and_marks_heads(rt: HostRuntime) {
     let table = "
         FD 0F FE 01 2C    -> Ctx { number: 15, len: 300 } of 5
         0C                -> Ctx { number: 0, len: 4 } of 1
@@ -195,14 +191,13 @@ fn writes_and_marks_heads(rt: HostRuntime) -> Result<(), Fail> {
         10                -> AppBool(false) of 1
         2E                -> Open(2) of 1
     ";
-    are_canonical(&rt, rt.alloc(), table)?;
+    are_canonical(&rt, rt.alloc(), table);
     assert!(rt; !context(255, 0).is_valid());
     assert!(rt; !TagHead::App { number: 1, len: 1 }.is_valid());
-    Ok(())
 }
 
 #[test]
-fn counts_octets_of_heads(rt: HostRuntime) -> Result<(), Fail> {
+fn counts_octets_of_heads(rt: HostRuntime) {
     let table = "
         EC                   -> Ctx { number: 14, len: 4 } of 1
         ED 05                -> Ctx { number: 14, len: 5 } of 2
@@ -223,38 +218,28 @@ fn counts_octets_of_heads(rt: HostRuntime) -> Result<(), Fail> {
         EF                   -> Close(14) of 1
         FF 0F                -> Close(15) of 2
     ";
-    are_canonical(&rt, rt.alloc(), table)
+    are_canonical(&rt, rt.alloc(), table);
 }
 
-/// Each row of the table tells where its octets differ from those of the head.
-fn marks(rt: &impl Abort, head: TagHead, table: &str) -> Result<(), Fail> {
+/// The octets of a head differ there from those of this head.
+fn marks(rt: &impl Abort, head: TagHead, octets: &str, wanted: Option<usize>) {
+    let octets = octets_of(octets).expect(rt, "octets");
+    let (read, taken) = read_head(&octets).expect(rt, "a head");
+    // What mark_read_head and mark_head require: assert! tells it to the prover.
     assert!(rt; head.is_valid());
-    for row in rows_of(table)?.iter() {
-        let octets = octets_of(row.octets)?;
-        let wanted = row.mark()?;
-        let (read, taken) = read_head(&octets)?;
-        // What mark_read_head requires: assert_eq! tells it to the prover.
-        assert_eq!(rt; taken, octets.len());
-        assert_same_of(rt, mark_read_head(&octets, read, head), wanted, row.octets);
-        assert_same_of(rt, mark_head(&octets, head), wanted, row.octets);
-    }
-    Ok(())
+    assert!(rt; taken == octets.len());
+    assert_same_of(rt, mark_read_head(&octets, read, head), wanted, head);
+    assert_same_of(rt, mark_head(&octets, head), wanted, head);
 }
 
 #[test]
-fn marks_heads_that_were_read(rt: HostRuntime) -> Result<(), Fail> {
-    let table = "
-        0C    -> itself
-        FC 00 -> differs at 0
-    ";
-    marks(&rt, context(0, 4), table)?;
-    marks(&rt, context(1, 1), "1A -> differs at 0")?;
-    marks(&rt, context(0, 3), "0C -> differs at 0")?;
-    let table = "
-        0D 05       -> itself
-        0D FE 00 05 -> differs at 1
-    ";
-    marks(&rt, context(0, 5), table)
+fn marks_heads_that_were_read(rt: HostRuntime) {
+    marks(&rt, context(0, 4), "0C", None);
+    marks(&rt, context(0, 4), "FC 00", Some(0));
+    marks(&rt, context(1, 1), "1A", Some(0));
+    marks(&rt, context(0, 3), "0C", Some(0));
+    marks(&rt, context(0, 5), "0D 05", None);
+    marks(&rt, context(0, 5), "0D FE 00 05", Some(1));
 }
 
 #[test]
@@ -291,6 +276,11 @@ fn names_reasons(rt: HostRuntime) {
     assert_same(&rt, OutOfMemory, OutOfMemory);
 }
 
+/// Whether the head is one that is expected.
+fn tells_fit(rt: &impl Abort, expected: Expected, head: TagHead, fits: bool) {
+    assert_same_of(rt, expected.fits(head), fits, (head, expected));
+}
+
 #[test]
 fn expected_heads_fit(rt: HostRuntime) {
     let short = Expected::Ctx {
@@ -298,18 +288,14 @@ fn expected_heads_fit(rt: HostRuntime) {
         least: 1,
         most: 4,
     };
-    for (expected, head, fits) in [
-        (Expected::AnyHead, TagHead::Close(254), true),
-        (Expected::AppBool, TagHead::AppBool(true), true),
-        (short, context(9, 4), true),
-        (short, context(9, 5), false),
-        (short, TagHead::App { number: 9, len: 4 }, false),
-        (Expected::Open(Some(3)), TagHead::Open(3), true),
-        (Expected::Open(Some(3)), TagHead::Close(3), false),
-        (Expected::Close(None), TagHead::Close(0), true),
-    ] {
-        assert_same_of(&rt, expected.fits(head), fits, (head, expected));
-    }
+    tells_fit(&rt, Expected::AnyHead, TagHead::Close(254), true);
+    tells_fit(&rt, Expected::AppBool, TagHead::AppBool(true), true);
+    tells_fit(&rt, short, context(9, 4), true);
+    tells_fit(&rt, short, context(9, 5), false);
+    tells_fit(&rt, short, TagHead::App { number: 9, len: 4 }, false);
+    tells_fit(&rt, Expected::Open(Some(3)), TagHead::Open(3), true);
+    tells_fit(&rt, Expected::Open(Some(3)), TagHead::Close(3), false);
+    tells_fit(&rt, Expected::Close(None), TagHead::Close(0), true);
 }
 
 // The laws are functions that do nothing: their contracts are what they say.

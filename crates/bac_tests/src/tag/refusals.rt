@@ -1,32 +1,19 @@
 //! Refusals as they are shown, and the laws.
 
-use crate::expectations::assert_same;
+use crate::expectations::assert_shown;
 use bac_tag::{OutOfMemory, Refusal, Why, laws};
-use std::test::Fail;
 
 // The names are those of section 10 of docs/FORMATS.md.
 #[test]
-fn a_refusal_is_shown_with_its_place(rt: HostRuntime) -> Result<(), Fail> {
+fn a_refusal_is_shown_with_its_place(rt: HostRuntime) {
     let refusal = Refusal {
         place: 3,
         why: Why::Tag,
     };
-    assert_same(
-        &rt,
-        format!(in rt.alloc(); "{refusal}")?.as_str(),
-        "Tag at 3",
-    );
-    assert_same(
-        &rt,
-        format!(in rt.alloc(); "{}", Why::NotCanonical)?.as_str(),
-        "NotCanonical",
-    );
-    assert_same(
-        &rt,
-        format!(in rt.alloc(); "{OutOfMemory}")?.as_str(),
-        "out of memory",
-    );
-    Ok(())
+    let alloc = rt.alloc();
+    assert_shown(&rt, alloc, refusal, "Tag at 3");
+    assert_shown(&rt, alloc, Why::NotCanonical, "NotCanonical");
+    assert_shown(&rt, alloc, OutOfMemory, "out of memory");
 }
 
 /// Values that are octets, each spelled by itself.

@@ -1,41 +1,40 @@
 //! Values as keys, and how they are made of numbers.
 
-use crate::expectations::{assert_holds, assert_same};
+use crate::expectations::{assert_holds, assert_same, assert_shown};
 use bac_value::{Bits, Enumerated, Instance, ObjectId, Priority, RangeFault, Unsigned, ValueFault};
-use std::test::Fail;
+use std::process::Abort;
+
+/// The number is a priority, or it is told that it is none.
+fn tries_priority(rt: &impl Abort, number: u8, is_one: bool) {
+    match Priority::try_from(number) {
+        Ok(priority) => assert_holds(rt, is_one && priority.number() == number, number),
+        Err(fault) => assert_holds(rt, !is_one && fault == RangeFault::Priority, number),
+    }
+}
+
+/// The number is an instance, or it is told that it is none.
+fn tries_instance(rt: &impl Abort, number: u32, is_one: bool) {
+    match Instance::try_from(number) {
+        Ok(instance) => assert_holds(rt, is_one && instance.number() == number, number),
+        Err(fault) => assert_holds(rt, !is_one && fault == RangeFault::Instance, number),
+    }
+}
 
 #[test]
-fn numbers_in_a_range_are_tried(rt: HostRuntime) -> Result<(), Fail> {
-    for (number, wanted) in [
-        (0u8, false),
-        (1, true),
-        (16, true),
-        (17, false),
-        (255, false),
-    ] {
-        match Priority::try_from(number) {
-            Ok(priority) => assert_holds(&rt, wanted && priority.number() == number, number),
-            Err(fault) => assert_holds(&rt, !wanted && fault == RangeFault::Priority, number),
-        }
-    }
-    for (number, wanted) in [
-        (0u32, true),
-        (4_194_303, true),
-        (4_194_304, false),
-        (u32::MAX, false),
-    ] {
-        match Instance::try_from(number) {
-            Ok(instance) => assert_holds(&rt, wanted && instance.number() == number, number),
-            Err(fault) => assert_holds(&rt, !wanted && fault == RangeFault::Instance, number),
-        }
-    }
-    for (fault, text) in [
-        (RangeFault::Priority, "a priority is 1 to 16"),
-        (RangeFault::Instance, "an instance is at most 4194303"),
-    ] {
-        assert_same(&rt, format!(in rt.alloc(); "{fault}")?.as_str(), text);
-    }
-    Ok(())
+fn numbers_in_a_range_are_tried(rt: HostRuntime) {
+    tries_priority(&rt, 0, false);
+    tries_priority(&rt, 1, true);
+    tries_priority(&rt, 16, true);
+    tries_priority(&rt, 17, false);
+    tries_priority(&rt, 255, false);
+    tries_instance(&rt, 0, true);
+    tries_instance(&rt, 4_194_303, true);
+    tries_instance(&rt, 4_194_304, false);
+    tries_instance(&rt, u32::MAX, false);
+    let alloc = rt.alloc();
+    assert_shown(&rt, alloc, RangeFault::Priority, "a priority is 1 to 16");
+    let text = "an instance is at most 4194303";
+    assert_shown(&rt, alloc, RangeFault::Instance, text);
 }
 
 #[test]
@@ -44,48 +43,46 @@ fn each_number_is_a_value(rt: HostRuntime) {
     assert_same(&rt, Unsigned::from(u64::MAX), Unsigned(u64::MAX));
 }
 
+/// Both are values, and the first is less than the second: nothing is less than a value.
+fn are_in_order<T: PartialOrd + Drop>(rt: &impl Abort, first: Option<T>, second: Option<T>) {
+    assert_holds(rt, first.is_some(), "the first");
+    assert_holds(rt, first < second, "the order");
+}
+
 // An identifier is its kind, then its instance.
 #[test]
-fn keys_are_in_order(rt: HostRuntime) -> Result<(), Fail> {
-    let first = ObjectId::new(0, 4_194_303).ok_or("kind 0")?;
-    let second = ObjectId::new(1, 0).ok_or("kind 1")?;
-    assert!(rt; first < second);
-    assert!(rt; Enumerated(1) < Enumerated(2));
-    assert!(rt; Unsigned(1) < Unsigned(256));
-    let (high, low) = (Priority::new(1).ok_or("1")?, Priority::new(16).ok_or("16")?);
-    assert!(rt; high < low);
-    Ok(())
+fn keys_are_in_order(rt: HostRuntime) {
+    are_in_order(&rt, ObjectId::new(0, 4_194_303), ObjectId::new(1, 0));
+    are_in_order(&rt, Some(Enumerated(1)), Some(Enumerated(2)));
+    are_in_order(&rt, Some(Unsigned(1)), Some(Unsigned(256)));
+    are_in_order(&rt, Priority::new(1), Priority::new(16));
 }
 
 #[test]
-fn bits_may_be_none(rt: HostRuntime) -> Result<(), Fail> {
-    assert!(rt; Bits::new(rt.alloc(), &[])?.is_empty());
-    assert!(rt; !Bits::new(rt.alloc(), &[false])?.is_empty());
-    Ok(())
+fn bits_may_be_none(rt: HostRuntime) {
+    let none = Bits::new(rt.alloc(), &[]).expect(&rt, "no bits");
+    assert_holds(&rt, none.is_empty(), "no bits");
+    let one = Bits::new(rt.alloc(), &[false]).expect(&rt, "a bit");
+    assert_holds(&rt, !one.is_empty(), "a bit");
 }
 
 #[test]
-fn bits_are_given_in_their_order(rt: HostRuntime) -> Result<(), Fail> {
+fn bits_are_given_in_their_order(rt: HostRuntime) {
     let wanted = [true, false, false, true, true, false, true, false, true];
-    let bits = Bits::new(rt.alloc(), &wanted)?;
+    let bits = Bits::new(rt.alloc(), &wanted).expect(&rt, "bits");
     assert_same(&rt, bits.iter().len(), 9);
     assert_same(&rt, bits.iter().size_hint(), (9, Some(9)));
     let mut given = Vec::new(rt.alloc());
     for bit in &bits {
-        given.push(bit)?;
+        given.push(bit).expect(&rt, "memory");
     }
     assert_same(&rt, given.as_slice(), wanted.as_slice());
-    Ok(())
 }
 
 #[test]
-fn faults_are_shown(rt: HostRuntime) -> Result<(), Fail> {
+fn faults_are_shown(rt: HostRuntime) {
     let fault = ValueFault::TooLong;
-    assert_same(
-        &rt,
-        format!(in rt.alloc(); "{fault}")?.as_str(),
-        "the contents would have more than 1048576 octets",
-    );
+    let text = "the contents would have more than 1048576 octets";
+    assert_shown(&rt, rt.alloc(), fault, text);
     assert_same(&rt, fault as u8, 1);
-    Ok(())
 }

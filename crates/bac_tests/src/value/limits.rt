@@ -1,14 +1,13 @@
 //! The tag numbers and the lengths of the types, and the longest values.
 
-use crate::expectations::{assert_same, assert_same_of};
-use bac_tag::{Refusal, Why};
+use crate::expectations::{assert_joined, assert_same, assert_same_of};
+use bac_tag::Why;
 use bac_value::{
     Bits, Boolean, Date, DoubleBits, Enumerated, Instance, Null, ObjectId, Octets, Primitive,
     Priority, RealBits, Signed, Text, Time, Unsigned, ValueFault,
 };
 use std::alloc::Global;
 use std::process::Abort;
-use std::test::Fail;
 
 /// By the bound alone: the number of the application tag, and the least and the largest number of octets.
 fn has<T: Primitive>(rt: &impl Abort, app: u8, shortest: usize, longest: usize) {
@@ -38,91 +37,69 @@ fn each_type_has_its_tag_and_its_lengths(rt: HostRuntime) {
 }
 
 /// By the bound alone: so many zeros are contents, and one more makes them none.
-fn ends_at<T: Primitive>(
-    rt: &impl Abort,
-    alloc: Global,
-    longest: &[u8],
-    beyond: &[u8],
-) -> Result<(), Fail> {
-    let value = T::read(alloc, longest)?;
+fn ends_at<T: Primitive>(rt: &impl Abort, alloc: Global, longest: &[u8], beyond: &[u8]) {
+    let value = T::read(alloc, longest).expect(rt, "a value");
     assert_same(rt, value.mark(longest), None);
     assert_same(rt, value.written_len(), longest.len());
     let mut out = Vec::new(alloc);
-    value.write(&mut out)?;
-    assert!(rt; out.as_slice() == longest);
-    let refusal = T::read(alloc, beyond).err();
-    assert_same(
-        rt,
-        refusal,
-        Some(Refusal {
-            place: 0,
-            why: Why::Length,
-        }),
-    );
-    Ok(())
+    value.write(&mut out).expect(rt, "memory");
+    assert_joined(rt, &out, longest, &[]);
+    assert_same(rt, T::read(alloc, beyond).err(), Some(Why::Length.at(0)));
+}
+
+/// So many zeros.
+fn zeros(rt: &impl Abort, alloc: Global, count: usize) -> Vec<u8> {
+    vec![in alloc; 0u8; count].expect(rt, "memory")
 }
 
 #[test]
-fn contents_have_at_most_1_048_576_octets(rt: HostRuntime) -> Result<(), Fail> {
-    let longest = vec![in rt.alloc(); 0u8; 1_048_576]?;
-    let beyond = vec![in rt.alloc(); 0u8; 1_048_577]?;
-    ends_at::<Octets>(&rt, rt.alloc(), &longest, &beyond)?;
-    ends_at::<Text>(&rt, rt.alloc(), &longest, &beyond)?;
-    ends_at::<Bits>(&rt, rt.alloc(), &longest, &beyond)?;
+fn contents_have_at_most_1_048_576_octets(rt: HostRuntime) {
+    let alloc = rt.alloc();
+    let longest = zeros(&rt, alloc, 1_048_576);
+    let beyond = zeros(&rt, alloc, 1_048_577);
+    ends_at::<Octets>(&rt, alloc, &longest, &beyond);
+    ends_at::<Text>(&rt, alloc, &longest, &beyond);
+    ends_at::<Bits>(&rt, alloc, &longest, &beyond);
     assert_same(&rt, Octets::hopeless(&[0xFF], 1_048_576), None);
     assert_same(&rt, Text::hopeless(&[0xFF], 1_048_576), None);
     assert_same(&rt, Bits::hopeless(&[7, 0xFF], 1_048_576), None);
-    Ok(())
+}
+
+/// By the bound alone: the first is made, and has as many octets as contents may have. The second would have more.
+fn is_longest<T: Primitive>(
+    rt: &impl Abort,
+    longest: Result<T, ValueFault>,
+    beyond: Result<T, ValueFault>,
+) {
+    let value = longest.expect(rt, "a value");
+    assert_same(rt, value.written_len(), 1_048_576);
+    assert_same(rt, beyond.err(), Some(ValueFault::TooLong));
 }
 
 // Of examples 32 and 41 of docs/EXAMPLES.md.
 #[test]
-fn more_octets_than_a_value_may_have_are_refused(rt: HostRuntime) -> Result<(), Fail> {
-    let longest = vec![in rt.alloc(); 0u8; 1_048_576]?;
-    assert_same(
-        &rt,
-        Octets::new(rt.alloc(), &longest)?.written_len(),
-        1_048_576,
-    );
-    let beyond = vec![in rt.alloc(); 0u8; 1_048_577]?;
-    assert_same(
-        &rt,
-        Octets::new(rt.alloc(), &beyond).err(),
-        Some(ValueFault::TooLong),
-    );
-    Ok(())
+fn more_octets_than_a_value_may_have_are_refused(rt: HostRuntime) {
+    let alloc = rt.alloc();
+    let longest = Octets::new(alloc, &zeros(&rt, alloc, 1_048_576));
+    let beyond = Octets::new(alloc, &zeros(&rt, alloc, 1_048_577));
+    is_longest(&rt, longest, beyond);
 }
 
 // Of example 41 of docs/EXAMPLES.md.
 #[test]
-fn the_set_counts_among_the_octets_of_a_text(rt: HostRuntime) -> Result<(), Fail> {
-    let longest = vec![in rt.alloc(); 0u8; 1_048_575]?;
-    assert_same(
-        &rt,
-        Text::new(rt.alloc(), 0, &longest)?.written_len(),
-        1_048_576,
-    );
-    let beyond = vec![in rt.alloc(); 0u8; 1_048_576]?;
-    assert_same(
-        &rt,
-        Text::new(rt.alloc(), 0, &beyond).err(),
-        Some(ValueFault::TooLong),
-    );
-    Ok(())
+fn the_set_counts_among_the_octets_of_a_text(rt: HostRuntime) {
+    let alloc = rt.alloc();
+    let longest = Text::new(alloc, 0, &zeros(&rt, alloc, 1_048_575));
+    let beyond = Text::new(alloc, 0, &zeros(&rt, alloc, 1_048_576));
+    is_longest(&rt, longest, beyond);
 }
 
 // Of example 41 of docs/EXAMPLES.md.
 #[test]
-fn the_count_of_unused_bits_counts_among_the_octets_of_bits(rt: HostRuntime) -> Result<(), Fail> {
-    let longest = vec![in rt.alloc(); false; 8_388_600]?;
-    let value = Bits::new(rt.alloc(), &longest)?;
+fn the_count_of_unused_bits_counts_among_the_octets_of_bits(rt: HostRuntime) {
+    let beyond = vec![in rt.alloc(); false; 8_388_601].expect(&rt, "memory");
+    let longest = &beyond[1..];
+    let value = Bits::new(rt.alloc(), longest).expect(&rt, "a value");
     assert_same(&rt, value.len(), 8_388_600);
-    assert_same(&rt, value.written_len(), 1_048_576);
-    let beyond = vec![in rt.alloc(); false; 8_388_601]?;
-    assert_same(
-        &rt,
-        Bits::new(rt.alloc(), &beyond).err(),
-        Some(ValueFault::TooLong),
-    );
-    Ok(())
+    is_longest(&rt, Ok(value), Bits::new(rt.alloc(), &beyond));
 }

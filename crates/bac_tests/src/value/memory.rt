@@ -2,7 +2,7 @@
 //! that it can be run with each of its allocations refused in turn (`rt try --test --fail-alloc N`).
 
 use crate::expectations::assert_same;
-use bac_tag::{OutOfMemory, Refusal, Why};
+use bac_tag::{OutOfMemory, Why};
 use bac_value::{
     Bits, Boolean, Date, DoubleBits, Enumerated, Instance, ObjectId, Octets, Primitive, Priority,
     RealBits, Signed, Text, Time, Unsigned, ValueFault,
@@ -26,6 +26,12 @@ fn appends<T: Primitive>(rt: &impl Abort, alloc: Global, value: &T, written: &[u
     }
 }
 
+/// The same of a value of a range, which the numbers are in.
+fn appends_ranged<T: Primitive>(rt: &impl Abort, alloc: Global, value: Option<T>, written: &[u8]) {
+    let value = value.expect(rt, "a value of the range");
+    appends(rt, alloc, &value, written);
+}
+
 /// A constructor's value is the wanted one, or its fault is the want of memory.
 fn is_made<T: Primitive>(
     rt: &impl Abort,
@@ -43,14 +49,7 @@ fn is_made<T: Primitive>(
 fn is_read<T: Primitive>(rt: &impl Abort, alloc: Global, octets: &[u8]) {
     match T::read(alloc, octets) {
         Ok(value) => appends(rt, alloc, &value, octets),
-        Err(refusal) => assert_same(
-            rt,
-            refusal,
-            Refusal {
-                place: 0,
-                why: Why::OutOfMemory,
-            },
-        ),
+        Err(refusal) => assert_same(rt, refusal, Why::OutOfMemory.at(0)),
     }
 }
 
@@ -91,16 +90,7 @@ fn refused_memory_leaves_what_was_there(rt: HostRuntime) {
     appends(&rt, rt.alloc(), &Enumerated(0x0304), &[3, 4]);
     appends(&rt, rt.alloc(), &Date([1, 2, 3, 4]), &[1, 2, 3, 4]);
     appends(&rt, rt.alloc(), &Time([1, 2, 3, 4]), &[1, 2, 3, 4]);
-    match ObjectId::new(8, 4) {
-        Some(id) => appends(&rt, rt.alloc(), &id, &[2, 0, 0, 4]),
-        None => panic!(rt; "8:4 is an identifier"),
-    }
-    match Priority::new(8) {
-        Some(priority) => appends(&rt, rt.alloc(), &priority, &[8]),
-        None => panic!(rt; "8 is a priority"),
-    }
-    match Instance::new(0x0102) {
-        Some(instance) => appends(&rt, rt.alloc(), &instance, &[1, 2]),
-        None => panic!(rt; "258 is an instance"),
-    }
+    appends_ranged(&rt, rt.alloc(), ObjectId::new(8, 4), &[2, 0, 0, 4]);
+    appends_ranged(&rt, rt.alloc(), Priority::new(8), &[8]);
+    appends_ranged(&rt, rt.alloc(), Instance::new(0x0102), &[1, 2]);
 }

@@ -1,14 +1,23 @@
 //! The contents of strings, of every length from 0 to 9 octets.
 
 use super::judge;
-use crate::expectations::{assert_same, assert_same_of};
+use crate::expectations::{assert_holds, assert_same, assert_same_of};
 use bac_tables::octets_of;
 use bac_value::{Bits, Octets, Primitive, Text};
-use std::test::Fail;
+use std::alloc::Global;
+use std::fmt::Debug;
+use std::process::Abort;
+
+/// By the bound alone: these contents are written of the value.
+fn writes<T: Primitive>(rt: &impl Abort, alloc: Global, value: T, contents: &[u8]) {
+    let mut out = Vec::new(alloc);
+    value.write(&mut out).expect(rt, "memory");
+    assert_same(rt, out.as_slice(), contents);
+}
 
 // Of example 32 of docs/EXAMPLES.md.
 #[test]
-fn octets_are_their_own_contents(rt: HostRuntime) -> Result<(), Fail> {
+fn octets_are_their_own_contents(rt: HostRuntime) {
     let rows = "
         none                       -> itself
         AB                         -> itself
@@ -21,18 +30,15 @@ fn octets_are_their_own_contents(rt: HostRuntime) -> Result<(), Fail> {
         08 07 06 05 04 03 02 01    -> itself
         FF FF FF FF FF FF FF FF FF -> itself
     ";
-    judge::<Octets>(&rt, rt.alloc(), rows)?;
-    let value = Octets::new(rt.alloc(), &[0xAB])?;
+    judge::<Octets>(&rt, rt.alloc(), rows);
+    let value = Octets::new(rt.alloc(), &[0xAB]).expect(&rt, "a value");
     assert_same(&rt, value.octets(), [0xAB].as_slice());
-    let mut out = Vec::new(rt.alloc());
-    value.write(&mut out)?;
-    assert_same(&rt, out.as_slice(), [0xAB].as_slice());
-    Ok(())
+    writes(&rt, rt.alloc(), value, &[0xAB]);
 }
 
 // Of examples 16, 32 and 39 of docs/EXAMPLES.md.
 #[test]
-fn a_text_has_its_set_in_front(rt: HostRuntime) -> Result<(), Fail> {
+fn a_text_has_its_set_in_front(rt: HostRuntime) {
     let rows = "
         none                       -> Length at 0
         00                         -> itself
@@ -47,36 +53,34 @@ fn a_text_has_its_set_in_front(rt: HostRuntime) -> Result<(), Fail> {
         01 02 03 04 05 06 07 08    -> itself
         00 00 00 00 00 00 00 00 00 -> itself
     ";
-    judge::<Text>(&rt, rt.alloc(), rows)?;
-    let mut out = Vec::new(rt.alloc());
-    Text::new(rt.alloc(), 5, &[0xE9])?.write(&mut out)?;
-    assert_same(&rt, out.as_slice(), [5, 0xE9].as_slice());
-    Ok(())
+    judge::<Text>(&rt, rt.alloc(), rows);
+    let value = Text::new(rt.alloc(), 5, &[0xE9]).expect(&rt, "a value");
+    writes(&rt, rt.alloc(), value, &[5, 0xE9]);
+}
+
+/// The contents are the set of a text and its octets, and the text in UTF-8, if it is one.
+fn is_text(rt: &impl Abort, alloc: Global, contents: &str, wanted: Option<&str>) {
+    let octets = octets_of(contents).expect(rt, "octets");
+    let text = Text::read(alloc, &octets).expect(rt, "a text");
+    assert_same(rt, Some(&text.set()), octets.first());
+    assert_same(rt, Some(text.octets()), octets.get(1..));
+    assert_same_of(rt, text.as_utf8(), wanted, contents);
 }
 
 // Of examples 16, 39 and 40 of docs/EXAMPLES.md.
 #[test]
-fn only_a_text_of_set_0_is_utf_8(rt: HostRuntime) -> Result<(), Fail> {
-    let table = [
-        ("00 48 65 6C 6C 6F", Some("Hello")),
-        ("00", Some("")),
-        ("00 E9", None),
-        ("05 E9", None),
-        ("05 41", None),
-    ];
-    for (octets, wanted) in table {
-        let octets = octets_of(octets)?;
-        let text = Text::read(rt.alloc(), &octets)?;
-        assert_same(&rt, Some(&text.set()), octets.first());
-        assert_same(&rt, Some(text.octets()), octets.get(1..));
-        assert_same_of(&rt, text.as_utf8(), wanted, octets);
-    }
-    Ok(())
+fn only_a_text_of_set_0_is_utf_8(rt: HostRuntime) {
+    let alloc = rt.alloc();
+    is_text(&rt, alloc, "00 48 65 6C 6C 6F", Some("Hello"));
+    is_text(&rt, alloc, "00", Some(""));
+    is_text(&rt, alloc, "00 E9", None);
+    is_text(&rt, alloc, "05 E9", None);
+    is_text(&rt, alloc, "05 41", None);
 }
 
 // Of examples 13 and 39 of docs/EXAMPLES.md.
 #[test]
-fn unused_bits_are_written_as_zeros(rt: HostRuntime) -> Result<(), Fail> {
+fn unused_bits_are_written_as_zeros(rt: HostRuntime) {
     let rows = "
         00                         -> itself
         00 FF                      -> itself
@@ -98,12 +102,12 @@ fn unused_bits_are_written_as_zeros(rt: HostRuntime) -> Result<(), Fail> {
         00 00 00 00 00 00 00 00 00 -> itself
         04 08 08 08 08 08 08 08 18 -> 04 08 08 08 08 08 08 08 10, differs at 8
     ";
-    judge::<Bits>(&rt, rt.alloc(), rows)
+    judge::<Bits>(&rt, rt.alloc(), rows);
 }
 
 // Of examples 13 and 39 of docs/EXAMPLES.md.
 #[test]
-fn only_bits_that_are_there_can_be_unused(rt: HostRuntime) -> Result<(), Fail> {
+fn only_bits_that_are_there_can_be_unused(rt: HostRuntime) {
     let rows = "
         none                       -> Length at 0
         01                         -> Content at 0
@@ -121,61 +125,63 @@ fn only_bits_that_are_there_can_be_unused(rt: HostRuntime) -> Result<(), Fail> {
         FF FF FF FF FF FF FF FF    -> Content at 0
         08 08 08 08 08 08 08 08 08 -> Content at 0
     ";
-    judge::<Bits>(&rt, rt.alloc(), rows)
+    judge::<Bits>(&rt, rt.alloc(), rows);
+}
+
+/// The bits are packed into these contents, which have as many bits.
+fn are_packed(rt: &impl Abort, alloc: Global, bits: &[bool], contents: &[u8]) {
+    let value = Bits::new(alloc, bits).expect(rt, "a value");
+    writes(rt, alloc, value, contents);
+    let read = Bits::read(alloc, contents).expect(rt, "bits");
+    assert_same(rt, read.len(), bits.len());
+    for place in 0..10 {
+        let wanted = bits.get(place).copied();
+        assert_same_of(rt, read.get(place), wanted, (place, bits));
+    }
 }
 
 // Of examples 32 and 39 of docs/EXAMPLES.md.
 #[test]
-fn bits_are_packed_from_the_highest_downwards(rt: HostRuntime) -> Result<(), Fail> {
-    let nine = [true, false, false, false, false, false, false, true, true];
-    let table = [
-        ([].as_slice(), [0].as_slice()),
-        (&[true], &[7, 0x80]),
-        (&[false; 4], &[4, 0]),
-        (&[true; 4], &[4, 0xF0]),
-        (&[false, true, false, true], &[4, 0x50]),
-        (&[true; 8], &[0, 0xFF]),
-        (&nine, &[7, 0x81, 0x80]),
-    ];
-    for (bits, contents) in table {
-        let value = Bits::new(rt.alloc(), bits)?;
-        let mut out = Vec::new(rt.alloc());
-        value.write(&mut out)?;
-        assert_same_of(&rt, out.as_slice(), contents, bits);
-        let read = Bits::read(rt.alloc(), contents)?;
-        assert_same_of(&rt, read.len(), bits.len(), bits);
-        for place in 0..10 {
-            assert_same_of(
-                &rt,
-                read.get(place),
-                bits.get(place).copied(),
-                (place, bits),
-            );
-        }
-    }
-    Ok(())
+fn bits_are_packed_from_the_highest_downwards(rt: HostRuntime) {
+    let alloc = rt.alloc();
+    are_packed(&rt, alloc, &[], &[0]);
+    are_packed(&rt, alloc, &[true], &[7, 0x80]);
+    are_packed(&rt, alloc, &[false; 4], &[4, 0]);
+    are_packed(&rt, alloc, &[true; 4], &[4, 0xF0]);
+    are_packed(&rt, alloc, &[false, true, false, true], &[4, 0x50]);
+    are_packed(&rt, alloc, &[true; 8], &[0, 0xFF]);
+    let mut nine = [false; 9];
+    nine[0] = true;
+    nine[7] = true;
+    nine[8] = true;
+    are_packed(&rt, alloc, &nine, &[7, 0x81, 0x80]);
+}
+
+/// By the bound alone: the contents are those of this value, and not of the other.
+fn tells_apart<T: Primitive + PartialEq + Debug, E: Debug>(
+    rt: &impl Abort,
+    alloc: Global,
+    contents: &[u8],
+    same: Result<T, E>,
+    other: Result<T, E>,
+) {
+    let read = T::read(alloc, contents).expect(rt, "a value");
+    assert_holds(rt, read != other.expect(rt, "the other"), contents);
+    assert_same(rt, read, same.expect(rt, "the same"));
 }
 
 // Values are equal where they say the same, whatever unused bits were read. Of example 39 of docs/EXAMPLES.md.
 #[test]
-fn values_are_compared_by_what_they_say(rt: HostRuntime) -> Result<(), Fail> {
-    let read = Bits::read(rt.alloc(), &[4, 0xFF])?;
-    assert_same(&rt, read, Bits::new(rt.alloc(), &[true; 4])?);
-    let read = Bits::read(rt.alloc(), &[4, 0x5F])?;
-    assert_same(
-        &rt,
-        &read,
-        &Bits::new(rt.alloc(), &[false, true, false, true])?,
-    );
-    assert_ne!(rt;
-        read,
-        Bits::new(rt.alloc(), &[false, true, false, true, false])?
-    );
-    let read = Octets::read(rt.alloc(), &[1, 2])?;
-    assert_same(&rt, &read, &Octets::new(rt.alloc(), &[1, 2])?);
-    assert_ne!(rt; read, Octets::new(rt.alloc(), &[1])?);
-    let read = Text::read(rt.alloc(), &[1, 2])?;
-    assert_same(&rt, &read, &Text::new(rt.alloc(), 1, &[2])?);
-    assert_ne!(rt; read, Text::new(rt.alloc(), 0, &[2])?);
-    Ok(())
+fn values_are_compared_by_what_they_say(rt: HostRuntime) {
+    let alloc = rt.alloc();
+    let four = Bits::new(alloc, &[true; 4]);
+    let five = Bits::new(alloc, &[true; 5]);
+    tells_apart(&rt, alloc, &[4, 0xFF], four, five);
+    let four = Bits::new(alloc, &[false, true, false, true]);
+    let five = Bits::new(alloc, &[false, true, false, true, false]);
+    tells_apart(&rt, alloc, &[4, 0x5F], four, five);
+    let (two, one) = (Octets::new(alloc, &[1, 2]), Octets::new(alloc, &[1]));
+    tells_apart(&rt, alloc, &[1, 2], two, one);
+    let (set, other) = (Text::new(alloc, 1, &[2]), Text::new(alloc, 0, &[2]));
+    tells_apart(&rt, alloc, &[1, 2], set, other);
 }
