@@ -17,3 +17,8 @@ pub fn assert_same_of<T: PartialEq + Debug + Drop, C: Debug + Drop>(
 ) {
     assert_eq!(rt; found, wanted, "of {case:?}");
 }
+
+/// Stops the test unless this holds of the case.
+pub fn assert_holds<C: Debug + Drop>(rt: &impl Abort, holds: bool, case: C) {
+    assert!(rt; holds, "of {case:?}");
+}

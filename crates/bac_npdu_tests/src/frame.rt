@@ -11,13 +11,12 @@ mod messages;
 mod sizes;
 mod visitors;
 
-use crate::expectations::{assert_same, assert_same_of};
+use crate::expectations::{assert_holds, assert_same, assert_same_of};
 use bac_npdu::{Frame, append_frame, decode_marked, decode_strict, encode_frame, normalise_frame};
 use bac_tables::{Outcome, octets_of, places_of, rows_of};
 use bac_tag::{OutOfMemory, Refusal, Why};
 use std::alloc::Global;
 use std::process::Abort;
-use std::test::Fail;
 use visitors::rewritten;
 
 /// What `decode_marked` gives. Where memory is refused it is told at 0, and the octets are read again.
@@ -36,10 +35,10 @@ fn decoded(
 }
 
 /// The octets of a frame, at the latest when memory is asked for again.
-fn encoded(alloc: Global, frame: &Frame) -> Result<Vec<u8>, OutOfMemory> {
+fn encoded(rt: &impl Abort, alloc: Global, frame: &Frame) -> Vec<u8> {
     match encode_frame(alloc, frame) {
-        Ok(octets) => Ok(octets),
-        Err(OutOfMemory) => encode_frame(alloc, frame),
+        Ok(octets) => octets,
+        Err(OutOfMemory) => encode_frame(alloc, frame).expect(rt, "memory"),
     }
 }
 
@@ -66,75 +65,99 @@ fn comes_to(
     alloc: Global,
     octets: &[u8],
     wanted: Result<(&[u8], Option<usize>), (&str, usize)>,
-) -> Result<(), Fail> {
+) {
     match decoded(rt, alloc, octets) {
         Ok((found, mark)) => {
-            let written = encoded(alloc, &found)?;
+            let written = encoded(rt, alloc, &found);
             assert_same_of(rt, Ok((written.as_slice(), mark)), wanted, octets);
-            let told = strictly(alloc, octets).map(|refusal| (refusal.why, refusal.place));
-            assert_same(rt, told, mark.map(|place| (Why::NotCanonical, place)));
-            assert!(rt; normalised(alloc, octets)?.as_slice() == written.as_slice());
-            let mut out = Vec::new(alloc);
-            assert_same(rt, rewritten(alloc, octets, &mut out)?, mark);
-            assert!(rt; out.as_slice() == written.as_slice());
+            is_read(rt, alloc, octets, &written, mark);
         }
         Err(refusal) => {
             let told = (refusal.why.name(), refusal.place);
             assert_same_of(rt, Err(told), wanted, octets);
-            assert_same(rt, strictly(alloc, octets), Some(refusal));
-            assert_same(rt, normalised(alloc, octets).err(), Some(refusal));
-            let mut out = Vec::new(alloc);
-            assert_same(rt, rewritten(alloc, octets, &mut out), Err(refusal));
-            assert!(rt; out.is_empty());
+            is_refused(rt, alloc, octets, refusal);
         }
     }
-    Ok(())
+}
+
+/// The octets are read, also by the other calls, as a frame with these canonical octets.
+fn is_read(rt: &impl Abort, alloc: Global, octets: &[u8], written: &[u8], mark: Option<usize>) {
+    let refusal = match mark {
+        Some(place) => Some(Why::NotCanonical.at(place)),
+        None => None,
+    };
+    assert_same(rt, strictly(alloc, octets), refusal);
+    let normal = normalised(alloc, octets).expect(rt, "a frame");
+    assert_holds(rt, normal.as_slice() == written, mark);
+    let mut out = Vec::new(alloc);
+    assert_same(rt, rewritten(alloc, octets, &mut out), Ok(mark));
+    assert_holds(rt, out.as_slice() == written, mark);
+}
+
+/// The octets are refused so, also by the other calls.
+fn is_refused(rt: &impl Abort, alloc: Global, octets: &[u8], refusal: Refusal) {
+    assert_same(rt, strictly(alloc, octets), Some(refusal));
+    assert_same(rt, normalised(alloc, octets).err(), Some(refusal));
+    let mut out = Vec::new(alloc);
+    assert_same(rt, rewritten(alloc, octets, &mut out), Err(refusal));
+    assert_holds(rt, out.is_empty(), refusal);
+}
+
+/// The octets are those of a frame, as they are.
+fn is_canonical(rt: &impl Abort, alloc: Global, octets: &[u8]) {
+    comes_to(rt, alloc, octets, Ok((octets, None)));
+}
+
+/// The octets are refused there, for the reason with this name.
+fn refuses(rt: &impl Abort, alloc: Global, octets: &[u8], reason: &str, place: usize) {
+    comes_to(rt, alloc, octets, Err((reason, place)));
 }
 
 /// Each row of the table is as it says.
-fn judge(rt: &impl Abort, alloc: Global, table: &str) -> Result<(), Fail> {
-    for row in rows_of(table)?.iter() {
-        let octets = octets_of(row.octets)?;
-        match row.outcome()? {
-            Outcome::Itself => comes_to(rt, alloc, &octets, Ok((&octets, None)))?,
-            Outcome::Written(written, mark) => {
-                let written = octets_of(written)?;
-                comes_to(rt, alloc, &octets, Ok((&written, Some(mark))))?;
-            }
-            Outcome::Refused(reason, place) => {
-                comes_to(rt, alloc, &octets, Err((reason, place)))?;
-            }
-        }
+fn judge(rt: &impl Abort, alloc: Global, table: &str) {
+    for row in rows_of(table).expect(rt, "rows").iter() {
+        let octets = octets_of(row.octets).expect(rt, "octets");
+        judge_row(rt, alloc, &octets, row.outcome().expect(rt, "an outcome"));
     }
-    Ok(())
+}
+
+/// The octets come to this.
+fn judge_row(rt: &impl Abort, alloc: Global, octets: &[u8], outcome: Outcome) {
+    match outcome {
+        Outcome::Itself => is_canonical(rt, alloc, octets),
+        Outcome::Written(written, mark) => {
+            let written = octets_of(written).expect(rt, "octets");
+            comes_to(rt, alloc, octets, Ok((&written, Some(mark))));
+        }
+        Outcome::Refused(reason, place) => refuses(rt, alloc, octets, reason, place),
+    }
 }
 
 /// Of canonical octets each front is one of these lengths and canonical, or it is Short.
-fn fronts(rt: &impl Abort, alloc: Global, octets: &str, wholes: &str) -> Result<(), Fail> {
-    let octets = octets_of(octets)?;
-    let wholes = places_of(wholes)?;
-    comes_to(rt, alloc, &octets, Ok((&octets, None)))?;
+fn fronts(rt: &impl Abort, alloc: Global, octets: &str, wholes: &str) {
+    let octets = octets_of(octets).expect(rt, "octets");
+    let wholes = places_of(wholes).expect(rt, "places");
+    is_canonical(rt, alloc, &octets);
     for length in 0..octets.len() {
         let front = &octets[..length];
         if wholes.contains(&length) {
-            comes_to(rt, alloc, front, Ok((front, None)))?;
+            is_canonical(rt, alloc, front);
         } else {
-            comes_to(rt, alloc, front, Err(("Short", length)))?;
+            refuses(rt, alloc, front, "Short", length);
         }
     }
-    Ok(())
 }
 
 /// Behind these octets the canonical ones of a frame are appended, at the latest when memory is asked for again; where
 /// it was refused they stand alone.
-fn appended(rt: &impl Abort, alloc: Global, front: &[u8], frame: &Frame) -> Result<Vec<u8>, Fail> {
+fn appended(rt: &impl Abort, alloc: Global, front: &[u8], frame: &Frame) -> Vec<u8> {
     let mut out = match Vec::from_slice(alloc, front) {
         Ok(out) => out,
-        Err(_) => Vec::from_slice(alloc, front)?,
+        Err(_) => Vec::from_slice(alloc, front).expect(rt, "memory"),
     };
     if append_frame(frame, &mut out).is_err() {
         assert_same(rt, out.as_slice(), front);
-        append_frame(frame, &mut out)?;
+        append_frame(frame, &mut out).expect(rt, "memory");
     }
-    Ok(out)
+    out
 }

@@ -1,12 +1,14 @@
 //! The frames of the worked examples.
 
 use super::{appended, decoded, judge};
+use crate::expectations::assert_same;
 use bac_tables::octets_of;
-use std::test::Fail;
+use std::alloc::Global;
+use std::process::Abort;
 
 // Of examples 1 to 8, 36, 37 and 69 of docs/EXAMPLES.md.
 #[test]
-fn requests_and_answers_are_read(rt: HostRuntime) -> Result<(), Fail> {
+fn requests_and_answers_are_read(rt: HostRuntime) {
     let rows = "
         01 04 00 05 01 0C 0C 00 00 00 05 19 55                      -> itself
         01 54 01 85 01 0C 0C 00 00 00 05 1A 00 55                   -> 01 04 00 05 01 0C 0C 00 00 00 05 19 55, differs at 1
@@ -33,12 +35,12 @@ fn requests_and_answers_are_read(rt: HostRuntime) -> Result<(), Fail> {
         01 04 04 05 01 0C 0C 00 00 00 05 19 55                      -> 01 04 00 05 01 0C 0C 00 00 00 05 19 55, differs at 2
         01 04 00 05 01 0C 0D FF FF FF FF FF 19 55                   -> Length at 8
     ";
-    judge(&rt, rt.alloc(), rows)
+    judge(&rt, rt.alloc(), rows);
 }
 
 // Of examples 17 to 22, 24, 54 to 56 and 74 to 81 of docs/EXAMPLES.md.
 #[test]
-fn other_services_and_messages_are_read(rt: HostRuntime) -> Result<(), Fail> {
+fn other_services_and_messages_are_read(rt: HostRuntime) {
     let rows = "
         01 04 00 05 03 0F 0C 00 40 00 01 19 55 3E 44 42 C8 00 00 3F 49 08 -> itself
         01 04 00 05 03 0F 0C 00 40 00 01 19 55 3E 44 42 C8 00 00 3F 49 11 -> Content at 21
@@ -61,29 +63,30 @@ fn other_services_and_messages_are_read(rt: HostRuntime) -> Result<(), Fail> {
         01 80 06 01 00 02 01 00                                     -> itself
         01 80 06 02 00 02 01 00                                     -> Short at 8
     ";
-    judge(&rt, rt.alloc(), rows)
+    judge(&rt, rt.alloc(), rows);
+}
+
+/// The canonical octets of the frame stand behind others.
+fn is_appended(rt: &impl Abort, alloc: Global, text: &str) {
+    let octets = octets_of(text).expect(rt, "octets");
+    let (frame, mark) = decoded(rt, alloc, &octets).expect(rt, "a frame");
+    assert_same(rt, mark, None);
+    let out = appended(rt, alloc, &[0xAA, 0xBB], &frame);
+    assert_same(rt, out.get(..2), Some([0xAA, 0xBB].as_slice()));
+    assert_same(rt, out.get(2..), Some(octets.as_slice()));
 }
 
 // Of examples 18 and 54 of docs/EXAMPLES.md. With each allocation refused in turn the octets are read and written when
 // memory is asked for again, and what stood in front of them stays.
 #[test]
-fn octets_are_appended_behind_others(rt: HostRuntime) -> Result<(), Fail> {
-    let texts = [
-        "01 04 00 02 F1 0E 0C 00 00 00 21 1E 09 55 1F",
-        "01 28 00 05 01 0A 00 07 02 01 02 FF 10 08",
-        "01 28 00 05 09 01 02 03 04 05 06 07 08 09 00 07 08 01 02 03 04 05 06 07 08 FF 10 08",
-        "01 80 06 02 00 02 01 00 00 03 02 01 AA",
-        "01 80 01 00 02 00 03",
-        "01 80 80 01 04 AA BB",
-    ];
-    for text in texts {
-        let octets = octets_of(text)?;
-        let (frame, mark) = decoded(&rt, rt.alloc(), &octets)?;
-        assert_eq!(rt; mark, None);
-        let out = appended(&rt, rt.alloc(), &[0xAA, 0xBB], &frame)?;
-        let (front, rest) = out.split_at_checked(2).ok_or("two octets")?;
-        assert_eq!(rt; front, [0xAA, 0xBB].as_slice());
-        assert_eq!(rt; rest, octets.as_slice());
-    }
-    Ok(())
+fn octets_are_appended_behind_others(rt: HostRuntime) {
+    let alloc = rt.alloc();
+    is_appended(&rt, alloc, "01 04 00 02 F1 0E 0C 00 00 00 21 1E 09 55 1F");
+    is_appended(&rt, alloc, "01 28 00 05 01 0A 00 07 02 01 02 FF 10 08");
+    let addresses =
+        "01 28 00 05 09 01 02 03 04 05 06 07 08 09 00 07 08 01 02 03 04 05 06 07 08 FF 10 08";
+    is_appended(&rt, alloc, addresses);
+    is_appended(&rt, alloc, "01 80 06 02 00 02 01 00 00 03 02 01 AA");
+    is_appended(&rt, alloc, "01 80 01 00 02 00 03");
+    is_appended(&rt, alloc, "01 80 80 01 04 AA BB");
 }

@@ -1,14 +1,14 @@
 //! The fields of network messages.
 
 use super::decoded;
-use crate::expectations::assert_same_of;
+use crate::expectations::{assert_same, assert_same_of};
 use bac_npdu::{Body, NetMessage, Ports};
 use bac_tables::octets_of;
-use std::alloc::Global;
-use std::test::Fail;
+use std::alloc::{AllocError, Global};
+use std::process::Abort;
 
 /// Of each port the network, the number, and each octet of its information.
-fn numbers_of_ports(alloc: Global, ports: &Ports) -> Result<Vec<u16>, Fail> {
+fn numbers_of_ports(alloc: Global, ports: &Ports) -> Result<Vec<u16>, AllocError> {
     let mut numbers = Vec::new(alloc);
     for port in ports.list() {
         numbers.push(port.network)?;
@@ -21,7 +21,7 @@ fn numbers_of_ports(alloc: Global, ports: &Ports) -> Result<Vec<u16>, Fail> {
 }
 
 /// The name of the message, and the numbers of its fields in their order.
-fn fields_of(alloc: Global, message: &NetMessage) -> Result<(&'static str, Vec<u16>), Fail> {
+fn fields_of(alloc: Global, message: &NetMessage) -> Result<(&'static str, Vec<u16>), AllocError> {
     let (name, numbers): (&str, [Option<u16>; 2]) = match message {
         NetMessage::WhoIsRouter(network) => ("WhoIsRouter", [*network, None]),
         NetMessage::IAmRouter(networks) => {
@@ -70,41 +70,57 @@ fn fields_of(alloc: Global, message: &NetMessage) -> Result<(&'static str, Vec<u
     Ok((name, list))
 }
 
+/// The message has this name and these numbers.
+fn has_fields(rt: &impl Abort, alloc: Global, octets: &str, name: &str, numbers: &[u16]) {
+    let octets = octets_of(octets).expect(rt, "octets");
+    let (frame, _) = decoded(rt, alloc, &octets).expect(rt, "a frame");
+    let Body::Net(message) = &frame.body else {
+        panic!(rt; "no network message")
+    };
+    let (told, fields) = fields_of(alloc, message).expect(rt, "memory");
+    assert_same(rt, told, name);
+    assert_same_of(rt, fields.as_slice(), numbers, name);
+}
+
 // Of examples 22, 55 and 56 of docs/EXAMPLES.md, and one of each other type.
 #[test]
-fn each_message_has_its_fields(rt: HostRuntime) -> Result<(), Fail> {
-    let table: [(&str, &str, &[u16]); 19] = [
-        ("01 80 00", "WhoIsRouter", &[]),
-        ("01 80 00 01 04", "WhoIsRouter", &[260]),
-        ("01 80 01 00 02 00 03", "IAmRouter", &[2, 3]),
-        ("01 80 02 01 04 07", "ICouldBeRouter", &[260, 7]),
-        ("01 80 03 01 02 04", "RejectMessage", &[1, 516]),
-        ("01 80 04", "RouterBusy", &[]),
-        ("01 80 05 FF FF", "RouterAvailable", &[65_535]),
-        ("01 80 06 01 00 02 01 00", "InitTable", &[2, 1]),
-        (
-            "01 80 06 02 01 04 07 02 AA BB 00 03 09 00",
-            "InitTable",
-            &[260, 7, 170, 187, 3, 9],
-        ),
-        ("01 80 07", "InitTableAck without a table", &[]),
-        ("01 80 07 00", "InitTableAck", &[]),
-        ("01 80 07 01 00 02 01 01 AA", "InitTableAck", &[2, 1, 170]),
-        ("01 80 08 01 04 0A", "Establish", &[260, 10]),
-        ("01 80 09 01 04", "Disconnect", &[260]),
-        ("01 D0 12", "WhatIsNetworkNumber", &[]),
-        ("01 80 13 01 04 01", "NetworkNumberIs", &[260, 1]),
-        ("01 80 0A AA", "Opaque", &[10]),
-        ("01 80 7F", "Opaque", &[127]),
-        ("01 80 80 01 04 AA BB", "Opaque", &[128, 260]),
-    ];
-    for (octets, name, numbers) in table {
-        let (frame, _) = decoded(&rt, rt.alloc(), &octets_of(octets)?)?;
-        let Body::Net(message) = &frame.body else {
-            panic!(rt; "no network message")
-        };
-        let (told, fields) = fields_of(rt.alloc(), message)?;
-        assert_same_of(&rt, (told, fields.as_slice()), (name, numbers), octets);
-    }
-    Ok(())
+fn each_message_has_its_fields(rt: HostRuntime) {
+    let alloc = rt.alloc();
+    has_fields(&rt, alloc, "01 80 00", "WhoIsRouter", &[]);
+    has_fields(&rt, alloc, "01 80 00 01 04", "WhoIsRouter", &[260]);
+    has_fields(&rt, alloc, "01 80 01 00 02 00 03", "IAmRouter", &[2, 3]);
+    has_fields(&rt, alloc, "01 80 02 01 04 07", "ICouldBeRouter", &[260, 7]);
+    has_fields(&rt, alloc, "01 80 03 01 02 04", "RejectMessage", &[1, 516]);
+    has_fields(&rt, alloc, "01 80 04", "RouterBusy", &[]);
+    has_fields(&rt, alloc, "01 80 05 FF FF", "RouterAvailable", &[65_535]);
+    has_fields(&rt, alloc, "01 80 06 01 00 02 01 00", "InitTable", &[2, 1]);
+    has_fields(
+        &rt,
+        alloc,
+        "01 80 06 02 01 04 07 02 AA BB 00 03 09 00",
+        "InitTable",
+        &[260, 7, 170, 187, 3, 9],
+    );
+    has_fields(&rt, alloc, "01 80 07", "InitTableAck without a table", &[]);
+    has_fields(&rt, alloc, "01 80 07 00", "InitTableAck", &[]);
+    has_fields(
+        &rt,
+        alloc,
+        "01 80 07 01 00 02 01 01 AA",
+        "InitTableAck",
+        &[2, 1, 170],
+    );
+    has_fields(&rt, alloc, "01 80 08 01 04 0A", "Establish", &[260, 10]);
+    has_fields(&rt, alloc, "01 80 09 01 04", "Disconnect", &[260]);
+    has_fields(&rt, alloc, "01 D0 12", "WhatIsNetworkNumber", &[]);
+    has_fields(
+        &rt,
+        alloc,
+        "01 80 13 01 04 01",
+        "NetworkNumberIs",
+        &[260, 1],
+    );
+    has_fields(&rt, alloc, "01 80 0A AA", "Opaque", &[10]);
+    has_fields(&rt, alloc, "01 80 7F", "Opaque", &[127]);
+    has_fields(&rt, alloc, "01 80 80 01 04 AA BB", "Opaque", &[128, 260]);
 }

@@ -6,76 +6,54 @@ use bac_tables::octets_of;
 use bac_tag::{Refusal, Why};
 use std::alloc::Global;
 use std::process::Abort;
-use std::test::Fail;
 
 /// What `same_meaning` tells, at the latest when memory is asked for again twice.
-fn told(
-    rt: &impl Abort,
-    alloc: Global,
-    left: &str,
-    right: &str,
-) -> Result<Result<bool, (Side, Refusal)>, Fail> {
-    let left = octets_of(left)?;
-    let right = octets_of(right)?;
+fn told(rt: &impl Abort, alloc: Global, left: &str, right: &str) -> Result<bool, (Side, Refusal)> {
+    let left = octets_of(left).expect(rt, "octets");
+    let right = octets_of(right).expect(rt, "octets");
     match same_meaning(alloc, &left, &right) {
         Err((_, refusal)) if refusal.why == Why::OutOfMemory => {
             assert_same(rt, refusal.place, 0);
-            Ok(same_meaning(alloc, &left, &right))
+            same_meaning(alloc, &left, &right)
         }
-        found => Ok(found),
+        found => found,
     }
+}
+
+/// Whether both are the same is told so.
+fn tells(rt: &impl Abort, alloc: Global, left: &str, right: &str, same: bool) {
+    assert_same(rt, told(rt, alloc, left, right), Ok(same));
 }
 
 // Of examples 23 and 56 of docs/EXAMPLES.md.
 #[test]
-fn meanings_are_compared(rt: HostRuntime) -> Result<(), Fail> {
+fn meanings_are_compared(rt: HostRuntime) {
     let first = "01 04 00 05 01 0C 0C 00 00 00 05 19 55";
     let second = "01 54 01 85 01 0C 0C 00 00 00 05 1A 00 55";
     let third = "01 04 00 05 01 0C FD 00 04 00 00 00 05 19 55";
     let other = "01 00 30 01 0C 0C 00 00 00 05 19 55 3E 44 42 90 99 9A 3F";
     let alloc = rt.alloc();
-    for (left, right, same) in [
-        (first, first, true),
-        (first, second, true),
-        (second, first, true),
-        (second, third, true),
-        (first, other, false),
-        (other, first, false),
-        (second, other, false),
-        (other, second, false),
-        ("01 80 07", "01 80 07 00", false),
-    ] {
-        assert_same(&rt, told(&rt, alloc, left, right)?, Ok(same));
-    }
-    Ok(())
+    tells(&rt, alloc, first, first, true);
+    tells(&rt, alloc, first, second, true);
+    tells(&rt, alloc, second, first, true);
+    tells(&rt, alloc, second, third, true);
+    tells(&rt, alloc, first, other, false);
+    tells(&rt, alloc, other, first, false);
+    tells(&rt, alloc, second, other, false);
+    tells(&rt, alloc, other, second, false);
+    tells(&rt, alloc, "01 80 07", "01 80 07 00", false);
+}
+
+/// A side is told, and why it is refused at its beginning.
+fn refuses(rt: &impl Abort, alloc: Global, left: &str, right: &str, side: Side, why: Why) {
+    assert_same(rt, told(rt, alloc, left, right), Err((side, why.at(0))));
 }
 
 #[test]
-fn the_left_side_is_told_first(rt: HostRuntime) -> Result<(), Fail> {
+fn the_left_side_is_told_first(rt: HostRuntime) {
     let first = "01 04 00 05 01 0C 0C 00 00 00 05 19 55";
-    let version = Refusal {
-        place: 0,
-        why: Why::Version,
-    };
-    let short = Refusal {
-        place: 0,
-        why: Why::Short,
-    };
     let alloc = rt.alloc();
-    assert_same(
-        &rt,
-        told(&rt, alloc, first, "02")?,
-        Err((Side::Right, version)),
-    );
-    assert_same(
-        &rt,
-        told(&rt, alloc, "none", first)?,
-        Err((Side::Left, short)),
-    );
-    assert_same(
-        &rt,
-        told(&rt, alloc, "02", "none")?,
-        Err((Side::Left, version)),
-    );
-    Ok(())
+    refuses(&rt, alloc, first, "02", Side::Right, Why::Version);
+    refuses(&rt, alloc, "none", first, Side::Left, Why::Short);
+    refuses(&rt, alloc, "02", "none", Side::Left, Why::Version);
 }

@@ -1,25 +1,25 @@
 //! Frames of many octets.
 
-use super::comes_to;
-use bac_tables::mixed;
-use std::test::Fail;
+use super::is_canonical;
+use bac_tables::{enclosed, mixed};
+use std::alloc::Global;
+use std::process::Abort;
+
+/// Behind the head so many octets are kept.
+fn are_kept(rt: &impl Abort, alloc: Global, head: &[u8], octets: &[u8], count: usize) {
+    let behind = octets.get(..count).expect(rt, "so many octets");
+    let frame = enclosed(alloc, head, behind, &[], &[]).expect(rt, "memory");
+    is_canonical(rt, alloc, &frame);
+}
 
 // Of example 67 of docs/EXAMPLES.md, and longer ones.
 #[test]
-fn long_octets_are_kept(rt: HostRuntime) -> Result<(), Fail> {
-    let octets = mixed(rt.alloc(), 65_536)?;
-    let heads: [&[u8]; 4] = [
-        &[1, 0, 0x10, 9],
-        &[1, 0x80, 10],
-        &[1, 0x80, 200, 1, 4],
-        &[1, 0x80, 1],
-    ];
-    for head in heads {
-        for count in [0, 2, 254, 256, 1_492, 65_534] {
-            let mut frame = Vec::from_slice(rt.alloc(), head)?;
-            frame.extend_from_slice(octets.get(..count).ok_or("so many octets")?)?;
-            comes_to(&rt, rt.alloc(), &frame, Ok((&frame, None)))?;
-        }
+fn long_octets_are_kept(rt: HostRuntime) {
+    let octets = mixed(rt.alloc(), 65_536).expect(&rt, "memory");
+    for count in [0, 2, 254, 256, 1_492, 65_534] {
+        are_kept(&rt, rt.alloc(), &[1, 0, 0x10, 9], &octets, count);
+        are_kept(&rt, rt.alloc(), &[1, 0x80, 10], &octets, count);
+        are_kept(&rt, rt.alloc(), &[1, 0x80, 200, 1, 4], &octets, count);
+        are_kept(&rt, rt.alloc(), &[1, 0x80, 1], &octets, count);
     }
-    Ok(())
 }
