@@ -4,6 +4,7 @@ ghost use Rattle.std.specs.Prelude.{◌+◌, ◌-◌, ◌<◌, ◌^◌, ◌≡�
 
 use bac_record::{DealFault, Dealt, Device, Input, Job, Output};
 use bac_tag::{Refusal, Why};
+use std::alloc::Global;
 use std::io::{self, ErrorKind, Read, Write};
 
 /// Gives octets, at most so many a call, up to the call that fails.
@@ -14,6 +15,18 @@ pub(crate) struct Feed<'a> {
     /// How many calls succeed.
     pub(crate) calls: usize,
     pub(crate) failures: u64,
+}
+
+impl<'a> Feed<'a> {
+    /// Gives the octets without a failure.
+    pub(crate) fn new(octets: &'a [u8], size: usize) -> Self {
+        Self {
+            octets,
+            size,
+            calls: usize::MAX,
+            failures: 0,
+        }
+    }
 }
 
 impl<'a> Input for Feed<'a> {
@@ -62,6 +75,17 @@ pub(crate) struct Drain {
     pub(crate) size: usize,
     pub(crate) room: usize,
     pub(crate) failures: u64,
+}
+
+impl Drain {
+    pub(crate) fn new(alloc: Global, size: usize, room: usize) -> Self {
+        Self {
+            taken: Vec::new(alloc),
+            size,
+            room,
+            failures: 0,
+        }
+    }
 }
 
 impl Output for Drain {

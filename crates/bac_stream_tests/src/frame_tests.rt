@@ -1,13 +1,14 @@
 //! What the runs tell of frames: worked examples of docs/EXAMPLES.md.
 
+ghost use Rattle.std.specs.Prelude.{◌<◌, ◌≤◌};
+
 use crate::expectations::{assert_holds, assert_same, assert_same_of};
 use bac_stream::{
     Counted, Mode, RunFault, StreamFault, Summary, run_check, run_normalise, run_show,
 };
-use bac_tables::{octets_of, rows_of};
-use std::alloc::{AllocError, Global};
+use bac_tables::{enclosed, octets_of, rows_of};
+use std::alloc::Global;
 use std::process::Abort;
-use std::test::Fail;
 
 /// Which run is made.
 #[derive(Clone, Copy, Debug, PartialEq, Eq)]
@@ -29,43 +30,34 @@ fn made(alloc: Global, run: Run, mode: Mode, file: &[u8]) -> (Result<Summary, Ru
     (answer, output.device)
 }
 
-/// Appends the octets, of which there are at most 65,535, as a record.
-fn push_record(file: &mut Vec<u8>, octets: &[u8]) -> Result<(), AllocError> {
-    file.extend_from_slice(&(octets.len().min(65_535) as u16).to_be_bytes())?;
-    file.extend_from_slice(octets)
+/// A record of the octets, of which there are at most 65,535.
+fn record_of(rt: &impl Abort, alloc: Global, octets: &[u8]) -> Vec<u8> {
+    let length = (octets.len().min(65_535) as u16).to_be_bytes();
+    enclosed(alloc, &length, octets, &[], &[]).expect(rt, "memory")
 }
 
 /// The line of the octets, as the one record of a file, tells this behind the number of the record.
-fn tells_of(
-    rt: &impl Abort,
-    alloc: Global,
-    run: Run,
-    mode: Mode,
-    octets: &[u8],
-    told: &str,
-) -> Result<(), Fail> {
-    let mut file = Vec::new(alloc);
-    push_record(&mut file, octets)?;
+fn tells_of(rt: &impl Abort, alloc: Global, run: Run, mode: Mode, octets: &[u8], told: &str) {
+    let file = record_of(rt, alloc, octets);
     let (answer, written) = made(alloc, run, mode, &file);
     let counts = answer.map(|summary| (summary.records, summary.refused));
     let refused = u32::from(told.starts_with("refused"));
     assert_same_of(rt, counts, Ok((1, refused)), told);
-    let line = format!(in alloc; "1 {told}\n")?;
-    assert_same_of(rt, written.as_slice(), line.as_bytes(), told);
-    Ok(())
+    let line = enclosed(alloc, b"1 ", told.as_bytes(), b"\n", &[]).expect(rt, "memory");
+    assert_same_of(rt, written, line, told);
 }
 
 /// Each row of the table is a frame, and what its line tells.
-fn tells(rt: &impl Abort, alloc: Global, run: Run, mode: Mode, table: &str) -> Result<(), Fail> {
-    for row in rows_of(table)?.iter() {
-        tells_of(rt, alloc, run, mode, &octets_of(row.octets)?, row.told)?;
+fn tells(rt: &impl Abort, alloc: Global, run: Run, mode: Mode, table: &str) {
+    for row in rows_of(table).expect(rt, "rows").iter() {
+        let octets = octets_of(row.octets).expect(rt, "octets");
+        tells_of(rt, alloc, run, mode, &octets, row.told);
     }
-    Ok(())
 }
 
 // Examples 1, 4 to 6, 17 to 22, 24, 54, 56, 68, 74, 76 and 77.
 #[test]
-fn check_tells_of_canonical_frames(rt: HostRuntime) -> Result<(), Fail> {
+fn check_tells_of_canonical_frames(rt: HostRuntime) {
     let frames = "
         01 04 00 05 01 0C 0C 00 00 00 05 19 55 -> ok
         01 00 30 01 0C 0C 00 00 00 05 19 55 3E 44 42 90 99 9A 3F -> ok
@@ -90,13 +82,13 @@ fn check_tells_of_canonical_frames(rt: HostRuntime) -> Result<(), Fail> {
         01 04 00 05 02 10 -> ok
         01 04 00 05 01 0D -> ok
     ";
-    tells(&rt, rt.alloc(), Run::Check, Mode::Tolerant, frames)?;
-    tells(&rt, rt.alloc(), Run::Check, Mode::Strict, frames)
+    tells(&rt, rt.alloc(), Run::Check, Mode::Tolerant, frames);
+    tells(&rt, rt.alloc(), Run::Check, Mode::Strict, frames);
 }
 
 // Examples 2, 3, 21, 36, 37, 55 and 75.
 #[test]
-fn check_tells_of_tolerated_frames(rt: HostRuntime) -> Result<(), Fail> {
+fn check_tells_of_tolerated_frames(rt: HostRuntime) {
     let tolerant = "
         01 54 01 85 01 0C 0C 00 00 00 05 1A 00 55 -> tolerated at 1
         01 04 00 05 01 0C FD 00 04 00 00 00 05 19 55 -> tolerated at 6
@@ -112,13 +104,13 @@ fn check_tells_of_tolerated_frames(rt: HostRuntime) -> Result<(), Fail> {
         01 D0 12 -> refused NotCanonical at 1
         01 00 80 -> refused PduType at 2
     ";
-    tells(&rt, rt.alloc(), Run::Check, Mode::Tolerant, tolerant)?;
-    tells(&rt, rt.alloc(), Run::Check, Mode::Strict, strict)
+    tells(&rt, rt.alloc(), Run::Check, Mode::Tolerant, tolerant);
+    tells(&rt, rt.alloc(), Run::Check, Mode::Strict, strict);
 }
 
 // Examples 7, 8, 36, 69, 79 and 81, and the other ends of a ReadProperty request.
 #[test]
-fn check_tells_where_a_request_is_refused(rt: HostRuntime) -> Result<(), Fail> {
+fn check_tells_where_a_request_is_refused(rt: HostRuntime) {
     let frames = "
         none -> refused Short at 0
         02 -> refused Version at 0
@@ -139,12 +131,12 @@ fn check_tells_where_a_request_is_refused(rt: HostRuntime) -> Result<(), Fail> {
         01 04 00 05 01 0C 0C 00 00 00 05 19 55 2D 05 01 -> refused Content at 15
         01 04 00 05 01 0C 0C 00 00 00 05 19 00 29 01 FF -> refused Trailing at 15
     ";
-    tells(&rt, rt.alloc(), Run::Check, Mode::Tolerant, frames)
+    tells(&rt, rt.alloc(), Run::Check, Mode::Tolerant, frames);
 }
 
 // Examples 5, 8, 17, 19, 22, 56, 77 and 79 to 81.
 #[test]
-fn check_tells_where_other_frames_are_refused(rt: HostRuntime) -> Result<(), Fail> {
+fn check_tells_where_other_frames_are_refused(rt: HostRuntime) {
     let frames = "
         01 08 00 01 00 -> refused Address at 4
         01 00 10 08 09 00 -> refused Short at 6
@@ -162,31 +154,30 @@ fn check_tells_where_other_frames_are_refused(rt: HostRuntime) -> Result<(), Fai
         01 00 10 02 09 12 1C 02 00 00 04 2D -> refused Short at 12
         01 00 10 00 C4 02 00 00 01 22 01 E0 91 03 23 01 00 00 -> refused Content at 15
     ";
-    tells(&rt, rt.alloc(), Run::Check, Mode::Tolerant, frames)
+    tells(&rt, rt.alloc(), Run::Check, Mode::Tolerant, frames);
+}
+
+/// The line of an answer whose value has so many groups, each in the one in front of it, tells this.
+fn tells_of_groups(rt: &impl Abort, alloc: Global, depth: usize, told: &str) {
+    let front = octets_of("01 00 30 01 0C 0C 00 00 00 05 19 55 3E").expect(rt, "octets");
+    let begins = vec![in alloc; 0x0E; depth].expect(rt, "memory");
+    let ends = vec![in alloc; 0x0F; depth].expect(rt, "memory");
+    let octets = enclosed(alloc, &front, &begins, &ends, &[0x3F]).expect(rt, "memory");
+    tells_of(rt, alloc, Run::Check, Mode::Tolerant, &octets, told);
 }
 
 // Example 68: so many groups in the value of an answer.
 #[test]
-fn groups_nest_to_a_depth(rt: HostRuntime) -> Result<(), Fail> {
-    for (depth, told) in [
-        (16, "ok"),
-        (17, "ok"),
-        (32, "ok"),
-        (33, "refused Depth at 45"),
-    ] {
-        let mut octets = Vec::new(rt.alloc());
-        octets.extend_from_slice(&octets_of("01 00 30 01 0C 0C 00 00 00 05 19 55 3E")?)?;
-        octets.extend_from_slice(&vec![in rt.alloc(); 0x0E; depth]?)?;
-        octets.extend_from_slice(&vec![in rt.alloc(); 0x0F; depth]?)?;
-        octets.push(0x3F)?;
-        tells_of(&rt, rt.alloc(), Run::Check, Mode::Tolerant, &octets, told)?;
-    }
-    Ok(())
+fn groups_nest_to_a_depth(rt: HostRuntime) {
+    tells_of_groups(&rt, rt.alloc(), 16, "ok");
+    tells_of_groups(&rt, rt.alloc(), 17, "ok");
+    tells_of_groups(&rt, rt.alloc(), 32, "ok");
+    tells_of_groups(&rt, rt.alloc(), 33, "refused Depth at 45");
 }
 
 // Examples 4 to 6, 17, 19, 21, 22, 24, 60, 74 and 76.
 #[test]
-fn show_tells_what_frames_say(rt: HostRuntime) -> Result<(), Fail> {
+fn show_tells_what_frames_say(rt: HostRuntime) {
     let frames = "
         01 00 30 01 0C 0C 00 00 00 05 19 55 3E 44 42 90 99 9A 3F -> prio=0 reply=0 ack id=1 ReadProperty object=0:5 property=85 value={r:4290999A}
         01 20 FF FF 00 FF 10 08 -> prio=0 reply=0 dest=65535/* hops=255 unconf Who-Is
@@ -203,102 +194,119 @@ fn show_tells_what_frames_say(rt: HostRuntime) -> Result<(), Fail> {
         01 04 00 05 02 10 0C 00 40 00 01 1E 09 55 2E 44 42 C8 00 00 2F 39 08 1F -> prio=0 reply=1 conf id=2 sa=0 segs=0 resp=5 WritePropertyMultiple specs=((object=1:1 values=((property=85 value={r:42C80000} priority=8))))
         01 00 50 02 10 0E 91 02 91 20 0F 1E 0C 00 40 00 01 19 55 1F -> prio=0 reply=0 error id=2 choice=16 class=2 code=32 object=1:1 property=85
     ";
-    tells(&rt, rt.alloc(), Run::Show, Mode::Tolerant, frames)
+    tells(&rt, rt.alloc(), Run::Show, Mode::Tolerant, frames);
 }
 
 // Examples 18 and 20.
 #[test]
-fn show_tells_of_lists(rt: HostRuntime) -> Result<(), Fail> {
+fn show_tells_of_lists(rt: HostRuntime) {
     let frames = "
         01 04 00 02 F1 0E 0C 00 00 00 21 1E 09 55 1F -> prio=0 reply=1 conf id=241 sa=0 segs=0 resp=2 ReadPropertyMultiple specs=((object=0:33 properties=((property=85))))
         01 00 30 F1 0E 0C 00 00 00 21 1E 29 55 4E 44 42 90 99 9A 4F 29 67 5E 91 02 91 20 5F 1F -> prio=0 reply=0 ack id=241 ReadPropertyMultiple results=((object=0:33 results=((property=85 value={r:4290999A}) (property=103 error=(class=2 code=32)))))
         01 00 10 02 09 12 1C 02 00 00 04 2C 00 00 00 0A 39 00 4E 09 55 2E 44 42 82 00 00 2F 09 6F 2E 82 04 00 2F 4F -> prio=0 reply=0 unconf UnconfirmedCOVNotification process=18 device=8:4 object=0:10 remaining=0 values=((property=85 value={r:42820000}) (property=111 value={b:0000}))
     ";
-    tells(&rt, rt.alloc(), Run::Show, Mode::Tolerant, frames)
+    tells(&rt, rt.alloc(), Run::Show, Mode::Tolerant, frames);
 }
 
 /// F1: the canonical octets of the first example.
 const F1: &str = "01 04 00 05 01 0C 0C 00 00 00 05 19 55";
 
+/// The run over the file of three records writes this.
+fn writes(rt: &impl Abort, alloc: Global, run: Run, mode: Mode, file: &[u8], output: &[u8]) {
+    let want = Summary {
+        records: 3,
+        canonical: 3,
+        refused: 0,
+    };
+    let (answer, written) = made(alloc, run, mode, file);
+    assert_same_of(rt, answer, Ok(want), (run, file.len()));
+    assert_holds(rt, written.as_slice() == output, (run, file.len()));
+}
+
+/// So many octets, of which the first are those of an Unconfirmed-Request of choice 9, which has no production.
+fn opaque(rt: &impl Abort, alloc: Global, size: usize) -> Vec<u8>
+    requires { 4 ≤ size }
+{
+    let behind = vec![in alloc; 0xAA; size - 4].expect(rt, "memory");
+    enclosed(alloc, &[0x01, 0x00, 0x10, 0x09], &behind, &[], &[]).expect(rt, "memory")
+}
+
+/// What `show` writes of a record of F1, one of such octets and one of F1.
+fn shown(rt: &impl Abort, alloc: Global, size: usize) -> Vec<u8>
+    requires room { 4 ≤ size }
+    requires most { size < 65536 }
+{
+    let front =
+        b"1 prio=0 reply=1 conf id=1 sa=0 segs=0 resp=5 ReadProperty object=0:5 property=85\n\
+        2 prio=0 reply=0 unconf opaque choice=9 octets=";
+    let behind =
+        b"\n3 prio=0 reply=1 conf id=1 sa=0 segs=0 resp=5 ReadProperty object=0:5 property=85\n";
+    let digits = vec![in alloc; b'A'; 2 * (size - 4)].expect(rt, "memory");
+    enclosed(alloc, front, &digits, behind, &[]).expect(rt, "memory")
+}
+
 // Example 78, and of example 67 some: opaque service octets of any number.
 #[test]
-fn records_of_each_size_are_dealt_with(rt: HostRuntime) -> Result<(), Fail> {
-    let first = octets_of(F1)?;
-    let checked = b"1 ok\n2 ok\n3 ok\n".as_slice();
+fn records_of_each_size_are_dealt_with(rt: HostRuntime) {
+    let alloc = rt.alloc();
+    let first = octets_of(F1).expect(&rt, "octets");
+    let first = record_of(&rt, alloc, &first);
+    let checked = b"1 ok\n2 ok\n3 ok\n";
     for size in [4, 255, 256, 1_000, 1_001, 1_497, 1_498, 65_534, 65_535] {
-        let mut octets = vec![in rt.alloc(); 0xAA; size]?;
-        octets[..4].copy_from_slice(&[0x01, 0x00, 0x10, 0x09]);
-        let mut file = Vec::new(rt.alloc());
-        push_record(&mut file, &first)?;
-        push_record(&mut file, &octets)?;
-        push_record(&mut file, &first)?;
-
-        let mut shown = Vec::new(rt.alloc());
-        shown.extend_from_slice(
-            b"1 prio=0 reply=1 conf id=1 sa=0 segs=0 resp=5 ReadProperty object=0:5 property=85\n\
-            2 prio=0 reply=0 unconf opaque choice=9 octets=",
-        )?;
-        shown.extend_from_slice(&vec![in rt.alloc(); b'A'; 2 * (size - 4)]?)?;
-        shown.extend_from_slice(
-            b"\n3 prio=0 reply=1 conf id=1 sa=0 segs=0 resp=5 ReadProperty object=0:5 property=85\n",
-        )?;
-        let want = Summary {
-            records: 3,
-            canonical: 3,
-            refused: 0,
-        };
-        for (run, mode, output) in [
-            (Run::Show, Mode::Tolerant, shown.as_slice()),
-            (Run::Check, Mode::Tolerant, checked),
-            (Run::Check, Mode::Strict, checked),
-            (Run::Normalise, Mode::Tolerant, file.as_slice()),
-        ] {
-            let (answer, written) = made(rt.alloc(), run, mode, &file);
-            assert_same_of(&rt, answer, Ok(want), (run, size));
-            assert_holds(&rt, written.as_slice() == output, (run, size));
-        }
+        let second = record_of(&rt, alloc, &opaque(&rt, alloc, size));
+        let file = enclosed(alloc, &first, &second, &first, &[]).expect(&rt, "memory");
+        let shown = shown(&rt, alloc, size);
+        writes(&rt, alloc, Run::Show, Mode::Tolerant, &file, &shown);
+        writes(&rt, alloc, Run::Check, Mode::Tolerant, &file, checked);
+        writes(&rt, alloc, Run::Check, Mode::Strict, &file, checked);
+        writes(&rt, alloc, Run::Normalise, Mode::Tolerant, &file, &file);
     }
-    Ok(())
 }
 
 /// How many octets the writer of the next test has room for.
 const ROOM: usize = 1_024;
 
+/// What stands in front of the line of a record, where the lines begin at these places.
+fn lines_in_front<'a>(lines: &'a [u8], ends: &[usize], record: u32) -> Option<&'a [u8]> {
+    let end = ends.get((record as usize).saturating_sub(1))?;
+    lines.get(..*end)
+}
+
 // A line that memory is refused for leaves what was there: the lines in front of it are written whole. The writer wants
 // no memory.
 #[test]
-fn refused_memory_leaves_whole_lines(rt: HostRuntime) -> Result<(), Fail> {
-    let octets = octets_of("01 00 30 01 0C 0C 00 00 00 05 19 55 3E 44 42 90 99 9A 3F")?;
+fn refused_memory_leaves_whole_lines(rt: HostRuntime) {
+    let alloc = rt.alloc();
+    let octets = octets_of("01 00 30 01 0C 0C 00 00 00 05 19 55 3E 44 42 90 99 9A 3F");
+    let record = record_of(&rt, alloc, &octets.expect(&rt, "octets"));
     let told = "prio=0 reply=0 ack id=1 ReadProperty object=0:5 property=85 value={r:4290999A}";
-    let mut file = Vec::new(rt.alloc());
-    let mut lines = Vec::new(rt.alloc());
-    let mut ends = Vec::new(rt.alloc());
+    let mut file = Vec::new(alloc);
+    let mut lines = Vec::new(alloc);
+    let mut ends = Vec::new(alloc);
     for number in 1..9 {
-        push_record(&mut file, &octets)?;
-        ends.push(lines.len())?;
-        let line = format!(in rt.alloc(); "{number} {told}\n")?;
-        lines.extend_from_slice(line.as_bytes())?;
+        file.extend_from_slice(&record).expect(&rt, "memory");
+        ends.push(lines.len()).expect(&rt, "memory");
+        let line = format!(in alloc; "{number} {told}\n").expect(&rt, "memory");
+        lines
+            .extend_from_slice(line.as_bytes())
+            .expect(&rt, "memory");
     }
     let mut taken = [0; ROOM];
     let mut input = Counted::new(file.as_slice());
     let mut output = Counted::new(taken.as_mut_slice());
-    let answer = run_show(rt.alloc(), Mode::Tolerant, &mut input, &mut output);
+    let answer = run_show(alloc, Mode::Tolerant, &mut input, &mut output);
     let end = ROOM.saturating_sub(output.device.len());
     let written = taken.get(..end);
     match answer {
         Err(RunFault::Stream { at, fault }) => {
             assert_same(&rt, fault, StreamFault::OutOfMemory);
-            let end = ends
-                .get((at as usize).saturating_sub(1))
-                .copied()
-                .ok_or("a record")?;
-            assert_same(&rt, written, lines.get(..end));
+            assert_same(&rt, written, lines_in_front(&lines, &ends, at));
+            assert_holds(&rt, written.is_some(), at);
         }
         answer => {
-            let summary = answer.ok().ok_or("no refusal")?;
-            assert_same(&rt, (summary.records, summary.canonical), (8, 8));
+            let counts = answer.map(|summary| (summary.records, summary.canonical));
+            assert_same(&rt, counts, Ok((8, 8)));
             assert_same(&rt, written, Some(lines.as_slice()));
         }
     }
-    Ok(())
 }

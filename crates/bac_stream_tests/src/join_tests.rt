@@ -7,9 +7,8 @@ use bac_service::encode_service;
 use bac_stream::{JoinFault, Joined, join};
 use bac_tables::octets_of;
 use bac_tag::Why;
-use std::alloc::Global;
+use std::alloc::{AllocError, Global};
 use std::process::Abort;
-use std::test::Fail;
 
 /// The frames of example 24's segments, by their numbers.
 const SEGMENTS: [&str; 3] = [
@@ -33,76 +32,86 @@ const KEY: Key = Key {
 const CUT_SHORT: &str = "01 00 38 02 00 04 0C 0C 00 00";
 
 /// A frame of the example.
-fn frame_of(alloc: Global, text: &str) -> Result<Frame, Fail> {
-    Ok(decode_frame(alloc, &octets_of(text)?)?)
+fn frame_of(rt: &impl Abort, alloc: Global, text: &str) -> Frame {
+    let octets = octets_of(text).expect(rt, "octets");
+    decode_frame(alloc, &octets).expect(rt, "a frame")
+}
+
+/// What is told of a message, which has these octets.
+fn message_of(alloc: Global, octets: &[u8]) -> Result<String, AllocError> {
+    format!(in alloc; "message {octets:?}")
 }
 
 /// What the frame is answered, in short: of a message the octets of its service.
-fn told(alloc: Global, desk: &mut Desk, peer: u32, text: &str) -> Result<String, Fail> {
-    let frame = frame_of(alloc, text)?;
-    Ok(match join(alloc, desk, peer, &frame) {
-        Ok(Joined::NotSegment) => format!(in alloc; "no segment")?,
-        Ok(Joined::Kept) => format!(in alloc; "kept")?,
-        Ok(Joined::Repeat) => format!(in alloc; "repeat")?,
-        Ok(Joined::Message(service)) => {
-            let octets = encode_service(alloc, &service)?;
-            format!(in alloc; "message {:?}", octets.as_slice())?
-        }
-        Err(fault) => format!(in alloc; "{fault}")?,
-    })
-}
-
-/// Each frame, joined in turn, is answered so.
-fn tells(
+fn told(
     rt: &impl Abort,
     alloc: Global,
     desk: &mut Desk,
     peer: u32,
-    frames: &[(&str, &str)],
-) -> Result<(), Fail> {
-    for (frame, want) in frames {
-        let text = told(alloc, desk, peer, frame)?;
-        assert_same_of(rt, text.as_str(), *want, frame);
+    frame: &Frame,
+) -> Result<String, AllocError> {
+    match join(alloc, desk, peer, frame) {
+        Ok(Joined::NotSegment) => format!(in alloc; "no segment"),
+        Ok(Joined::Kept) => format!(in alloc; "kept"),
+        Ok(Joined::Repeat) => format!(in alloc; "repeat"),
+        Ok(Joined::Message(service)) => {
+            let octets = encode_service(alloc, &service).expect(rt, "memory");
+            message_of(alloc, &octets)
+        }
+        Err(fault) => format!(in alloc; "{fault}"),
     }
-    Ok(())
 }
 
-/// What is told of the whole message of example 24.
-fn message(alloc: Global) -> Result<String, Fail> {
-    let octets = octets_of(SERVICE)?;
-    Ok(format!(in alloc; "message {:?}", octets.as_slice())?)
+/// The frame is answered so, when it is joined.
+fn tells(rt: &impl Abort, alloc: Global, desk: &mut Desk, peer: u32, frame: &str, want: &str) {
+    let text = told(rt, alloc, desk, peer, &frame_of(rt, alloc, frame)).expect(rt, "memory");
+    assert_same_of(rt, text.as_str(), want, frame);
+}
+
+/// The frame is answered by the message with these octets.
+fn tells_message(
+    rt: &impl Abort,
+    alloc: Global,
+    desk: &mut Desk,
+    peer: u32,
+    frame: &str,
+    octets: &str,
+) {
+    let octets = octets_of(octets).expect(rt, "octets");
+    let want = message_of(alloc, &octets).expect(rt, "memory");
+    tells(rt, alloc, desk, peer, frame, &want);
+}
+
+/// Of these segments in turn the last makes the message whole.
+fn are_joined(rt: &impl Abort, alloc: Global, first: &str, second: &str, third: &str) {
+    let mut desk = Desk::new(alloc).expect(rt, "memory");
+    let other = "01 04 00 05 01 0C 0C 00 00 00 05 19 55";
+    tells(rt, alloc, &mut desk, 1, other, "no segment");
+    tells(rt, alloc, &mut desk, 1, first, "kept");
+    tells(rt, alloc, &mut desk, 1, second, "kept");
+    tells(rt, alloc, &mut desk, 1, first, "repeat");
+    tells_message(rt, alloc, &mut desk, 1, third, SERVICE);
+    tells(rt, alloc, &mut desk, 1, third, "repeat");
 }
 
 // Example 27.
 #[test]
-fn segments_are_joined_in_any_order(rt: HostRuntime) -> Result<(), Fail> {
-    let whole = message(rt.alloc())?;
-    for [first, second, third] in [
-        [0, 1, 2],
-        [0, 2, 1],
-        [1, 0, 2],
-        [1, 2, 0],
-        [2, 0, 1],
-        [2, 1, 0],
-    ] {
-        let mut desk = Desk::new(rt.alloc())?;
-        let frames = [
-            ("01 04 00 05 01 0C 0C 00 00 00 05 19 55", "no segment"),
-            (SEGMENTS[first], "kept"),
-            (SEGMENTS[second], "kept"),
-            (SEGMENTS[first], "repeat"),
-            (SEGMENTS[third], whole.as_str()),
-            (SEGMENTS[third], "repeat"),
-        ];
-        tells(&rt, rt.alloc(), &mut desk, 1, &frames)?;
-    }
-    Ok(())
+fn segments_are_joined_in_any_order(rt: HostRuntime) {
+    let alloc = rt.alloc();
+    let [first, second, third] = SEGMENTS;
+    are_joined(&rt, alloc, first, second, third);
+    are_joined(&rt, alloc, first, third, second);
+    are_joined(&rt, alloc, second, first, third);
+    are_joined(&rt, alloc, second, third, first);
+    are_joined(&rt, alloc, third, first, second);
+    are_joined(&rt, alloc, third, second, first);
 }
 
 // Example 72.
 #[test]
-fn a_message_that_is_no_service_is_told(rt: HostRuntime) -> Result<(), Fail> {
-    let mut desk = Desk::new(rt.alloc())?;
+fn a_message_that_is_no_service_is_told(rt: HostRuntime) {
+    let alloc = rt.alloc();
+    let mut desk = Desk::new(alloc).expect(&rt, "memory");
     let key = Key {
         peer: 5,
         request: false,
@@ -110,56 +119,51 @@ fn a_message_that_is_no_service_is_told(rt: HostRuntime) -> Result<(), Fail> {
         choice: 12,
     };
     for _ in 0..2 {
-        let frames = [(CUT_SHORT, "refused Short at 3"), (CUT_SHORT, "repeat")];
-        tells(&rt, rt.alloc(), &mut desk, 5, &frames)?;
+        tells(&rt, alloc, &mut desk, 5, CUT_SHORT, "refused Short at 3");
+        tells(&rt, alloc, &mut desk, 5, CUT_SHORT, "repeat");
         assert_same(&rt, desk.octets(key), Some([0x0C, 0, 0].as_slice()));
         assert!(rt; desk.close(key));
     }
-    Ok(())
 }
 
 // A frame is joined to those of its own sender, kind, invoke id and choice, and a desk that is full says so.
 #[test]
-fn other_messages_are_apart(rt: HostRuntime) -> Result<(), Fail> {
-    let mut desk = Desk::new(rt.alloc())?;
+fn other_messages_are_apart(rt: HostRuntime) {
+    let alloc = rt.alloc();
+    let mut desk = Desk::new(alloc).expect(&rt, "memory");
+    let [first, second, third] = SEGMENTS;
     for peer in 1..9 {
-        tells(&rt, rt.alloc(), &mut desk, peer, &[(SEGMENTS[0], "kept")])?;
+        tells(&rt, alloc, &mut desk, peer, first, "kept");
     }
-    let frames = [(SEGMENTS[1], "eight other keys are open")];
-    tells(&rt, rt.alloc(), &mut desk, 9, &frames)?;
-    let whole = message(rt.alloc())?;
-    let frames = [
-        (
-            "01 00 3C 01 00 04 0C 0C 00 00 00 06 19",
-            "the segment contradicts what is held",
-        ),
-        (SEGMENTS[2], "kept"),
-        (SEGMENTS[1], whole.as_str()),
-    ];
-    tells(&rt, rt.alloc(), &mut desk, 8, &frames)
+    tells(
+        &rt,
+        alloc,
+        &mut desk,
+        9,
+        second,
+        "eight other keys are open",
+    );
+    let other = "01 00 3C 01 00 04 0C 0C 00 00 00 06 19";
+    let fault = "the segment contradicts what is held";
+    tells(&rt, alloc, &mut desk, 8, other, fault);
+    tells(&rt, alloc, &mut desk, 8, third, "kept");
+    tells_message(&rt, alloc, &mut desk, 8, second, SERVICE);
 }
 
 // A request in two segments: ReadProperty of example 1.
 #[test]
-fn requests_are_joined_as_requests(rt: HostRuntime) -> Result<(), Fail> {
-    let mut desk = Desk::new(rt.alloc())?;
-    let octets = octets_of("0C 00 00 00 05 19 55")?;
-    let whole = format!(in rt.alloc(); "message {:?}", octets.as_slice())?;
-    let frames = [
-        ("01 04 0C 05 07 00 04 0C 0C 00 00 00", "kept"),
-        ("01 04 08 05 07 01 04 0C 05 19 55", whole.as_str()),
-    ];
-    tells(&rt, rt.alloc(), &mut desk, 3, &frames)
+fn requests_are_joined_as_requests(rt: HostRuntime) {
+    let alloc = rt.alloc();
+    let mut desk = Desk::new(alloc).expect(&rt, "memory");
+    let first = "01 04 0C 05 07 00 04 0C 0C 00 00 00";
+    let second = "01 04 08 05 07 01 04 0C 05 19 55";
+    tells(&rt, alloc, &mut desk, 3, first, "kept");
+    tells_message(&rt, alloc, &mut desk, 3, second, "0C 00 00 00 05 19 55");
 }
 
 /// Joins the frame, where memory is refused for it a second time: the desk has not changed then. Tells whether the
 /// message is whole.
-fn is_whole_with(
-    rt: &impl Abort,
-    alloc: Global,
-    desk: &mut Desk,
-    frame: &Frame,
-) -> Result<bool, Fail> {
+fn is_whole_with(rt: &impl Abort, alloc: Global, desk: &mut Desk, frame: &Frame) -> bool {
     let mut answer = join(alloc, desk, KEY.peer, frame);
     if let Err(JoinFault::Take(fault)) = &answer {
         assert_same(rt, *fault, TakeFault::OutOfMemory);
@@ -169,30 +173,28 @@ fn is_whole_with(
     match answer {
         Err(JoinFault::Content(refusal)) => {
             assert_same(rt, refusal, Why::OutOfMemory.at(0));
-            Ok(true)
+            true
         }
-        Ok(Joined::Message(_)) => Ok(true),
-        Ok(_) => Ok(false),
-        Err(fault) => Err(fault.into()),
+        answer => matches!(answer.expect(rt, "an answer"), Joined::Message(_)),
     }
+}
+
+/// The segment is joined, and makes the message whole or not.
+fn takes(rt: &impl Abort, alloc: Global, desk: &mut Desk, segment: &str, whole: bool) {
+    let found = is_whole_with(rt, alloc, desk, &frame_of(rt, alloc, segment));
+    assert_same_of(rt, found, whole, segment);
 }
 
 // Example 73: with each allocation refused in turn the message is there in the end.
 #[test]
-fn refused_memory_loses_no_message(rt: HostRuntime) -> Result<(), Fail> {
-    let mut desk = Desk::new(rt.alloc())?;
-    for (number, whole) in [(2, false), (0, false), (1, true)] {
-        let frame = frame_of(rt.alloc(), SEGMENTS[number])?;
-        let found = is_whole_with(&rt, rt.alloc(), &mut desk, &frame)?;
-        assert_same_of(&rt, found, whole, number);
-    }
-    let octets = octets_of(SERVICE)?;
+fn refused_memory_loses_no_message(rt: HostRuntime) {
+    let alloc = rt.alloc();
+    let mut desk = Desk::new(alloc).expect(&rt, "memory");
+    let [first, second, third] = SEGMENTS;
+    takes(&rt, alloc, &mut desk, third, false);
+    takes(&rt, alloc, &mut desk, first, false);
+    takes(&rt, alloc, &mut desk, second, true);
+    let octets = octets_of(SERVICE).expect(&rt, "octets");
     assert_same(&rt, desk.octets(KEY), Some(octets.as_slice()));
-    tells(
-        &rt,
-        rt.alloc(),
-        &mut desk,
-        KEY.peer,
-        &[(SEGMENTS[1], "repeat")],
-    )
+    tells(&rt, alloc, &mut desk, KEY.peer, second, "repeat");
 }

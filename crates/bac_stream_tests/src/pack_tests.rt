@@ -1,180 +1,230 @@
 //! Runs over texts at work.
 
-use crate::expectations::{assert_holds, assert_same, assert_same_of};
+use crate::expectations::{assert_holds, assert_same, assert_same_of, assert_shown};
 use crate::fakes::{Drain, Feed, Interrupted};
 use bac_pack::{PackFault, run_pack};
 use bac_record::Counted;
-use bac_tables::{Octets, octets_of};
-use std::alloc::{AllocError, Global};
-use std::test::Fail;
+use bac_tables::{enclosed, octets_of};
+use std::alloc::Global;
+use std::process::Abort;
 
-/// The text in pieces of this size.
-fn feed(octets: &[u8], size: usize) -> Feed<'_> {
-    Feed {
-        octets,
-        size,
-        calls: usize::MAX,
-        failures: 0,
-    }
-}
-
-/// Texts, what a run answers for them, and the records that it writes.
-const TEXTS: [(&[u8], Result<u32, PackFault>, &str); 30] = [
-    (b"", Ok(0), ""),
-    (b"\n", Ok(1), "00 00"),
-    (b"\n\n", Ok(2), "00 00 00 00"),
-    (b"\r\n", Ok(1), "00 00"),
-    (b"\r", Ok(1), "00 00"),
-    (b" ", Ok(1), "00 00"),
-    (b"  \r\n", Ok(1), "00 00"),
-    (
-        b"0104 0005010C 0C00000005 1955",
-        Ok(1),
-        "00 0D 01 04 00 05 01 0C 0C 00 00 00 05 19 55",
-    ),
-    (
-        b"0104 0005010C 0C00000005 1955\n",
-        Ok(1),
-        "00 0D 01 04 00 05 01 0C 0C 00 00 00 05 19 55",
-    ),
-    (b"AB\r\nCD", Ok(2), "00 01 AB 00 01 CD"),
-    (b"AB\nCD\r", Ok(2), "00 01 AB 00 01 CD"),
-    (b"AB\nCD\r\n", Ok(2), "00 01 AB 00 01 CD"),
-    (b"ab\naB\nAb\n", Ok(3), "00 01 AB 00 01 AB 00 01 AB"),
-    (b" a b \r\n", Ok(1), "00 01 AB"),
-    (b"0 1 0 4", Ok(1), "00 02 01 04"),
-    (b"12\n\n34", Ok(3), "00 01 12 00 00 00 01 34"),
-    (b"01 4", Err(PackFault::NotHex(1)), ""),
-    (b"0\nzz", Err(PackFault::NotHex(1)), ""),
-    (b"00\nzz", Err(PackFault::NotHex(2)), "00 01 00"),
-    (b"00\nzz\n00\n", Err(PackFault::NotHex(2)), "00 01 00"),
-    (b"00\n0\n", Err(PackFault::NotHex(2)), "00 01 00"),
-    (b"00\n0\n0", Err(PackFault::NotHex(2)), "00 01 00"),
-    (b"AB\r\r\n", Err(PackFault::NotHex(1)), ""),
-    (b"AB\r \n", Err(PackFault::NotHex(1)), ""),
-    (b"A\rB\n", Err(PackFault::NotHex(1)), ""),
-    (b"\n\rAB\n", Err(PackFault::NotHex(2)), "00 00"),
-    (b"AB\tCD\n", Err(PackFault::NotHex(1)), ""),
-    (b"0x12\n", Err(PackFault::NotHex(1)), ""),
-    (b"1G\n", Err(PackFault::NotHex(1)), ""),
-    (b"AB\n\xC3\xA9\n", Err(PackFault::NotHex(2)), "00 01 AB"),
-];
-
-#[test]
-fn texts_are_packed_in_pieces_of_any_size(rt: HostRuntime) -> Result<(), Fail> {
-    for (text, want, records) in TEXTS {
-        let records = match records {
-            "" => Octets::new(),
-            _ => octets_of(records)?,
-        };
-        for size in [1, 2, 3, 7, 64, usize::MAX] {
-            let mut writer = Counted::new(Vec::new(rt.alloc()));
-            let got = run_pack(rt.alloc(), &mut feed(text, size), &mut writer);
-            assert_same_of(&rt, got, want, (text, size));
-            assert_same_of(
-                &rt,
-                writer.device.as_slice(),
-                records.as_slice(),
-                (text, size),
-            );
-        }
-    }
-    Ok(())
-}
-
-/// So many octets, and then an octet more.
-fn many(alloc: Global, octet: u8, count: usize, last: u8) -> Result<Vec<u8>, AllocError> {
-    let mut octets = vec![in alloc; octet; count]?;
-    octets.push(last)?;
-    Ok(octets)
-}
-
-/// A run over a text in pieces of this size, and how many octets it wrote.
+/// A run over a text in pieces of this size, and what it wrote.
 fn packed(alloc: Global, text: &[u8], size: usize) -> (Result<u32, PackFault>, Vec<u8>) {
     let mut writer = Counted::new(Vec::new(alloc));
-    let got = run_pack(alloc, &mut feed(text, size), &mut writer);
+    let got = run_pack(alloc, &mut Feed::new(text, size), &mut writer);
     (got, writer.device)
 }
 
+/// In pieces of any size the run over the text answers this, and writes these records.
+fn packs(rt: &impl Abort, alloc: Global, text: &[u8], want: Result<u32, PackFault>, records: &str) {
+    let records = octets_of(records).expect(rt, "octets");
+    for size in [1, 2, 3, 7, 64, usize::MAX] {
+        let (got, written) = packed(alloc, text, size);
+        assert_same_of(rt, got, want, (text, size));
+        assert_same_of(rt, written.as_slice(), records.as_slice(), (text, size));
+    }
+}
+
 #[test]
-fn a_record_has_at_most_65_535_octets(rt: HostRuntime) -> Result<(), Fail> {
+fn texts_are_packed_in_pieces_of_any_size(rt: HostRuntime) {
+    let alloc = rt.alloc();
+    packs(&rt, alloc, b"", Ok(0), "none");
+    packs(&rt, alloc, b"\n", Ok(1), "00 00");
+    packs(&rt, alloc, b"\n\n", Ok(2), "00 00 00 00");
+    packs(&rt, alloc, b"\r\n", Ok(1), "00 00");
+    packs(&rt, alloc, b"\r", Ok(1), "00 00");
+    packs(&rt, alloc, b" ", Ok(1), "00 00");
+    packs(&rt, alloc, b"  \r\n", Ok(1), "00 00");
+    packs(
+        &rt,
+        alloc,
+        b"0104 0005010C 0C00000005 1955",
+        Ok(1),
+        "00 0D 01 04 00 05 01 0C 0C 00 00 00 05 19 55",
+    );
+    packs(
+        &rt,
+        alloc,
+        b"0104 0005010C 0C00000005 1955\n",
+        Ok(1),
+        "00 0D 01 04 00 05 01 0C 0C 00 00 00 05 19 55",
+    );
+    packs(&rt, alloc, b"AB\r\nCD", Ok(2), "00 01 AB 00 01 CD");
+    packs(&rt, alloc, b"AB\nCD\r", Ok(2), "00 01 AB 00 01 CD");
+    packs(&rt, alloc, b"AB\nCD\r\n", Ok(2), "00 01 AB 00 01 CD");
+    packs(
+        &rt,
+        alloc,
+        b"ab\naB\nAb\n",
+        Ok(3),
+        "00 01 AB 00 01 AB 00 01 AB",
+    );
+    packs(&rt, alloc, b" a b \r\n", Ok(1), "00 01 AB");
+    packs(&rt, alloc, b"0 1 0 4", Ok(1), "00 02 01 04");
+    packs(&rt, alloc, b"12\n\n34", Ok(3), "00 01 12 00 00 00 01 34");
+}
+
+/// The same, where this line has an octet that is no digit, or half an octet.
+fn stops(rt: &impl Abort, alloc: Global, text: &[u8], line: u32, records: &str) {
+    packs(rt, alloc, text, Err(PackFault::NotHex(line)), records);
+}
+
+#[test]
+fn a_text_stops_at_what_is_not_hexadecimal(rt: HostRuntime) {
+    let alloc = rt.alloc();
+    stops(&rt, alloc, b"01 4", 1, "none");
+    stops(&rt, alloc, b"0\nzz", 1, "none");
+    stops(&rt, alloc, b"00\nzz", 2, "00 01 00");
+    stops(&rt, alloc, b"00\nzz\n00\n", 2, "00 01 00");
+    stops(&rt, alloc, b"00\n0\n", 2, "00 01 00");
+    stops(&rt, alloc, b"00\n0\n0", 2, "00 01 00");
+    stops(&rt, alloc, b"AB\r\r\n", 1, "none");
+    stops(&rt, alloc, b"AB\r \n", 1, "none");
+    stops(&rt, alloc, b"A\rB\n", 1, "none");
+    stops(&rt, alloc, b"\n\rAB\n", 2, "00 00");
+    stops(&rt, alloc, b"AB\tCD\n", 1, "none");
+    stops(&rt, alloc, b"0x12\n", 1, "none");
+    stops(&rt, alloc, b"1G\n", 1, "none");
+    stops(&rt, alloc, b"AB\n\xC3\xA9\n", 2, "00 01 AB");
+}
+
+/// So many octets, and then an octet more.
+fn many(rt: &impl Abort, alloc: Global, octet: u8, count: usize, last: u8) -> Vec<u8> {
+    let octets = vec![in alloc; octet; count].expect(rt, "memory");
+    enclosed(alloc, &octets, &[last], &[], &[]).expect(rt, "memory")
+}
+
+/// The run over the text in pieces of this size answers this. What it writes.
+fn answers(
+    rt: &impl Abort,
+    alloc: Global,
+    text: &[u8],
+    size: usize,
+    want: Result<u32, PackFault>,
+) -> Vec<u8> {
+    let (got, written) = packed(alloc, text, size);
+    assert_same_of(rt, got, want, (text.len(), size));
+    written
+}
+
+/// The longest record is written in pieces of this size, and a longer one is told, where this octet stands behind it.
+fn tells_long_records(rt: &impl Abort, alloc: Global, size: usize, last: u8) {
+    let longest = vec![in alloc; 0x77; 65_535].expect(rt, "memory");
+    let record = enclosed(alloc, &[0xFF, 0xFF], &longest, &[], &[]).expect(rt, "memory");
+    let written = answers(
+        rt,
+        alloc,
+        &many(rt, alloc, b'7', 131_070, last),
+        size,
+        Ok(1),
+    );
+    assert_holds(rt, written == record, size);
+    let fault = Err(PackFault::RecordTooLong(1));
+    let written = answers(
+        rt,
+        alloc,
+        &many(rt, alloc, b'7', 131_072, last),
+        size,
+        fault,
+    );
+    assert_same_of(rt, written.len(), 0, size);
+    let fault = Err(PackFault::NotHex(1));
+    answers(
+        rt,
+        alloc,
+        &many(rt, alloc, b'7', 131_073, last),
+        size,
+        fault,
+    );
+    answers(
+        rt,
+        alloc,
+        &many(rt, alloc, b'Z', 131_072, last),
+        size,
+        fault,
+    );
+}
+
+#[test]
+fn a_record_has_at_most_65_535_octets(rt: HostRuntime) {
     for size in [1, 64, 65_536, usize::MAX] {
-        for last in [b'\n', b' '] {
-            let text = many(rt.alloc(), b'7', 131_070, last)?;
-            let mut want = Vec::from_slice(rt.alloc(), &[0xFF, 0xFF])?;
-            want.extend_from_slice(&vec![in rt.alloc(); 0x77; 65_535]?)?;
-            let (got, written) = packed(rt.alloc(), &text, size);
-            assert_same_of(&rt, got, Ok(1), size);
-            assert_holds(&rt, written.as_slice() == want.as_slice(), size);
-
-            let text = many(rt.alloc(), b'7', 131_072, last)?;
-            let (got, written) = packed(rt.alloc(), &text, size);
-            assert_same_of(&rt, got, Err(PackFault::RecordTooLong(1)), size);
-            assert_same_of(&rt, written.len(), 0, size);
-
-            let text = many(rt.alloc(), b'7', 131_073, last)?;
-            let (got, _) = packed(rt.alloc(), &text, size);
-            assert_same_of(&rt, got, Err(PackFault::NotHex(1)), size);
-
-            let text = many(rt.alloc(), b'Z', 131_072, last)?;
-            let (got, _) = packed(rt.alloc(), &text, size);
-            assert_same_of(&rt, got, Err(PackFault::NotHex(1)), size);
-        }
+        tells_long_records(&rt, rt.alloc(), size, b'\n');
+        tells_long_records(&rt, rt.alloc(), size, b' ');
     }
-    Ok(())
+}
+
+/// Where so many blanks stand in a line between two others, the run answers this and writes these records.
+fn tells_of_blanks(
+    rt: &impl Abort,
+    alloc: Global,
+    size: usize,
+    count: usize,
+    want: Result<u32, PackFault>,
+    records: &[u8],
+) {
+    let blanks = many(rt, alloc, b' ', count, b'\n');
+    let text = enclosed(alloc, b"12\n", &blanks, b"34", &[]).expect(rt, "memory");
+    let written = answers(rt, alloc, &text, size, want);
+    assert_same_of(rt, written.as_slice(), records, (count, size));
 }
 
 #[test]
-fn a_line_has_at_most_200_000_octets(rt: HostRuntime) -> Result<(), Fail> {
+fn a_line_has_at_most_200_000_octets(rt: HostRuntime) {
+    let alloc = rt.alloc();
+    let three = [0, 1, 0x12, 0, 0, 0, 1, 0x34];
+    let one = [0, 1, 0x12];
     for size in [1, 64, 65_536, 200_000, usize::MAX] {
-        for (count, want) in [
-            (199_999, Ok(3)),
-            (200_000, Ok(3)),
-            (200_001, Err(PackFault::LineTooLong(2))),
-            (400_000, Err(PackFault::LineTooLong(2))),
-        ] {
-            let mut text = Vec::from_slice(rt.alloc(), b"12\n")?;
-            text.extend_from_slice(&many(rt.alloc(), b' ', count, b'\n')?)?;
-            text.extend_from_slice(b"34")?;
-            let (got, written) = packed(rt.alloc(), &text, size);
-            assert_same_of(&rt, got, want, (count, size));
-            let octets = if want.is_ok() {
-                [0, 1, 0x12, 0, 0, 0, 1, 0x34].as_slice()
-            } else {
-                [0, 1, 0x12].as_slice()
-            };
-            assert_same_of(&rt, written.as_slice(), octets, (count, size));
-        }
-        let text = many(rt.alloc(), b' ', 199_999, b'\r')?;
-        let (got, _) = packed(rt.alloc(), &text, size);
-        assert_same_of(&rt, got, Ok(1), size);
-        let text = many(rt.alloc(), b' ', 200_000, b'Z')?;
-        let (got, _) = packed(rt.alloc(), &text, size);
-        assert_same_of(&rt, got, Err(PackFault::LineTooLong(1)), size);
+        tells_of_blanks(&rt, alloc, size, 199_999, Ok(3), &three);
+        tells_of_blanks(&rt, alloc, size, 200_000, Ok(3), &three);
+        let fault = Err(PackFault::LineTooLong(2));
+        tells_of_blanks(&rt, alloc, size, 200_001, fault, &one);
+        tells_of_blanks(&rt, alloc, size, 400_000, fault, &one);
+        answers(
+            &rt,
+            alloc,
+            &many(&rt, alloc, b' ', 199_999, b'\r'),
+            size,
+            Ok(1),
+        );
+        let fault = Err(PackFault::LineTooLong(1));
+        answers(
+            &rt,
+            alloc,
+            &many(&rt, alloc, b' ', 200_000, b'Z'),
+            size,
+            fault,
+        );
     }
-    Ok(())
+}
+
+/// So many empty lines with an octet behind them are answered so, and so many octets are written.
+fn tells_of_lines(
+    rt: &impl Abort,
+    alloc: Global,
+    lines: usize,
+    last: u8,
+    want: Result<u32, PackFault>,
+    count: usize,
+) {
+    let written = answers(rt, alloc, &many(rt, alloc, b'\n', lines, last), 1_000, want);
+    assert_same_of(rt, written.len(), count, (lines, last));
 }
 
 #[test]
-fn a_text_has_at_most_1_000_000_lines(rt: HostRuntime) -> Result<(), Fail> {
-    for (lines, last, want, written) in [
-        (999_999, b' ', Ok(1_000_000), 2_000_000),
-        (999_999, b'0', Err(PackFault::NotHex(1_000_000)), 1_999_998),
-        (1_000_000, b'\n', Err(PackFault::TooManyLines), 2_000_000),
-    ] {
-        let text = many(rt.alloc(), b'\n', lines, last)?;
-        let (got, records) = packed(rt.alloc(), &text, 1_000);
-        assert_same_of(&rt, got, want, (lines, last));
-        assert_same_of(&rt, records.len(), written, (lines, last));
-    }
-    Ok(())
+fn a_text_has_at_most_1_000_000_lines(rt: HostRuntime) {
+    let alloc = rt.alloc();
+    tells_of_lines(&rt, alloc, 999_999, b' ', Ok(1_000_000), 2_000_000);
+    let fault = Err(PackFault::NotHex(1_000_000));
+    tells_of_lines(&rt, alloc, 999_999, b'0', fault, 1_999_998);
+    let fault = Err(PackFault::TooManyLines);
+    tells_of_lines(&rt, alloc, 1_000_000, b'\n', fault, 2_000_000);
 }
 
 #[test]
-fn a_failed_read_tells_the_next_line(rt: HostRuntime) -> Result<(), Fail> {
+fn a_failed_read_tells_the_next_line(rt: HostRuntime) {
     let text = b"12\n34\n56\n";
     for calls in 0..10 {
-        let mut reader = feed(text, 1);
+        let mut reader = Feed::new(text, 1);
         reader.calls = calls;
         let mut writer = Counted::new(Vec::new(rt.alloc()));
         let got = run_pack(rt.alloc(), &mut reader, &mut writer);
@@ -184,72 +234,72 @@ fn a_failed_read_tells_the_next_line(rt: HostRuntime) -> Result<(), Fail> {
         // What is known goes out before the run reads again.
         assert_same_of(&rt, writer.device.len(), 3 * lines, calls);
     }
-    Ok(())
 }
 
-#[test]
-fn a_failed_write_counts_what_was_taken(rt: HostRuntime) -> Result<(), Fail> {
+/// Where the writer takes so many octets a call, and has room for so many, those are written, and the fault tells it.
+fn fills(rt: &impl Abort, alloc: Global, size: usize, takes: usize, room: usize) {
     let text = b"1234\n56\n\n789A";
     let records = [0, 2, 0x12, 0x34, 0, 1, 0x56, 0, 0, 0, 2, 0x78, 0x9A];
+    let mut writer = Drain::new(alloc, takes, room);
+    let got = run_pack(alloc, &mut Feed::new(text, size), &mut writer);
+    let fault = PackFault::WriteFault(room as u128);
+    assert_same_of(rt, got, Err(fault), (room, size));
+    assert_same(rt, Some(writer.taken.as_slice()), records.get(..room));
+    assert_same(rt, writer.failures, 1);
+}
+
+#[test]
+fn a_failed_write_counts_what_was_taken(rt: HostRuntime) {
     for size in [1, 2, 3, 7, 64] {
-        for takes in [1, 3, 100] {
-            for room in 0..records.len() {
-                let mut writer = Drain {
-                    taken: Vec::new(rt.alloc()),
-                    size: takes,
-                    room,
-                    failures: 0,
-                };
-                let got = run_pack(rt.alloc(), &mut feed(text, size), &mut writer);
-                let fault = PackFault::WriteFault(room as u128);
-                assert_same_of(&rt, got, Err(fault), (room, size));
-                assert_same(&rt, writer.taken.as_slice(), &records[..room]);
-                assert_same(&rt, writer.failures, 1);
-            }
+        for room in 0..13 {
+            fills(&rt, rt.alloc(), size, 1, room);
+            fills(&rt, rt.alloc(), size, 3, room);
+            fills(&rt, rt.alloc(), size, 100, room);
         }
     }
-    Ok(())
+}
+
+/// Where each read is interrupted so many times, the run answers this and writes these records.
+fn is_interrupted(
+    rt: &impl Abort,
+    alloc: Global,
+    times: u32,
+    want: Result<u32, PackFault>,
+    records: &[u8],
+) {
+    let mut reader = Counted::new(Interrupted {
+        octets: b"12\n34\n",
+        size: 3,
+        times,
+        left: times,
+    });
+    let mut writer = Counted::new(Vec::new(alloc));
+    let got = run_pack(alloc, &mut reader, &mut writer);
+    assert_same_of(rt, got, want, times);
+    assert_same_of(rt, writer.device.as_slice(), records, times);
+    assert_same(rt, reader.failures, u64::from(want.is_err()));
 }
 
 #[test]
-fn interrupted_reads_are_tried_again(rt: HostRuntime) -> Result<(), Fail> {
-    for (times, want, written) in [
-        (63, Ok(2), [0, 1, 0x12, 0, 1, 0x34].as_slice()),
-        (64, Err(PackFault::ReadFault(1)), [].as_slice()),
-    ] {
-        let mut reader = Counted::new(Interrupted {
-            octets: b"12\n34\n",
-            size: 3,
-            times,
-            left: times,
-        });
-        let mut writer = Counted::new(Vec::new(rt.alloc()));
-        let got = run_pack(rt.alloc(), &mut reader, &mut writer);
-        assert_same_of(&rt, got, want, times);
-        assert_same_of(&rt, writer.device.as_slice(), written, times);
-        assert_same(&rt, reader.failures, u64::from(want.is_err()));
-    }
-    Ok(())
+fn interrupted_reads_are_tried_again(rt: HostRuntime) {
+    let records = [0, 1, 0x12, 0, 1, 0x34];
+    is_interrupted(&rt, rt.alloc(), 63, Ok(2), &records);
+    is_interrupted(&rt, rt.alloc(), 64, Err(PackFault::ReadFault(1)), &[]);
 }
 
 #[test]
-fn faults_are_told(rt: HostRuntime) -> Result<(), Fail> {
-    for (fault, text) in [
-        (PackFault::LineTooLong(3), "line 3: too long"),
-        (PackFault::NotHex(1), "line 1: not hexadecimal"),
-        (
-            PackFault::RecordTooLong(1_000_000),
-            "line 1000000: too long",
-        ),
-        (PackFault::ReadFault(2), "line 2: read fault"),
-        (PackFault::WriteFault(0), "write fault after 0 octets"),
-        (PackFault::TooManyLines, "more than 1000000 records"),
-        (PackFault::OutOfMemory(1), "out of memory"),
-    ] {
-        let told = format!(in rt.alloc(); "{fault}")?;
-        assert_same(&rt, told.as_str(), text);
-    }
-    Ok(())
+fn faults_are_told(rt: HostRuntime) {
+    let alloc = rt.alloc();
+    assert_shown(&rt, alloc, PackFault::LineTooLong(3), "line 3: too long");
+    assert_shown(&rt, alloc, PackFault::NotHex(1), "line 1: not hexadecimal");
+    let fault = PackFault::RecordTooLong(1_000_000);
+    assert_shown(&rt, alloc, fault, "line 1000000: too long");
+    assert_shown(&rt, alloc, PackFault::ReadFault(2), "line 2: read fault");
+    let fault = PackFault::WriteFault(0);
+    assert_shown(&rt, alloc, fault, "write fault after 0 octets");
+    let fault = PackFault::TooManyLines;
+    assert_shown(&rt, alloc, fault, "more than 1000000 records");
+    assert_shown(&rt, alloc, PackFault::OutOfMemory(1), "out of memory");
 }
 
 // The laws are functions that do nothing: their contracts are what they say.

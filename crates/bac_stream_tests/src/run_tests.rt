@@ -1,162 +1,146 @@
 //! Runs, records and devices at work.
 
+ghost use Rattle.std.specs.Prelude.{◌≤◌};
+
 use crate::expectations::{assert_holds, assert_same, assert_same_of};
 use crate::fakes::{CopyOctets, Drain, Feed, Troubled, Unending};
 use bac_record::{
-    Counted, RunFault, StreamFault, Summary, front_record, push_decimal, push_hexadecimal,
+    Counted, Input, RunFault, StreamFault, Summary, front_record, push_decimal, push_hexadecimal,
     push_signed_decimal, read_record, run, write_record, write_whole,
 };
-use bac_tag::{Refusal, Why};
+use bac_tables::enclosed;
+use bac_tag::Why;
 use std::alloc::Global;
 use std::io::ErrorKind;
-use std::test::Fail;
+use std::process::Abort;
 
 /// The fault of the stream at this record.
 fn stream(at: u32, fault: StreamFault) -> Result<Summary, RunFault> {
     Err(RunFault::Stream { at, fault })
 }
 
-/// The run of a file in pieces of this size.
-fn feed(octets: &[u8], size: usize) -> Feed<'_> {
-    Feed {
-        octets,
-        size,
-        calls: usize::MAX,
-        failures: 0,
-    }
+/// What the run over a file answers that copies its records, and what it writes.
+fn copied<R: Input>(alloc: Global, reader: &mut R) -> (Result<Summary, RunFault>, Vec<u8>) {
+    let mut writer = Counted::new(Vec::new(alloc));
+    let got = run(alloc, &CopyOctets, reader, &mut writer);
+    (got, writer.device)
 }
 
 #[test]
-fn pieces_of_any_size_give_the_same(rt: HostRuntime) -> Result<(), Fail> {
+fn pieces_of_any_size_give_the_same(rt: HostRuntime) {
     let file = [0, 1, 7, 0, 0, 0, 3, 1, 2, 3];
+    let want = Summary {
+        records: 3,
+        canonical: 1,
+        refused: 1,
+    };
     for size in [1, 2, 3, 4, 100] {
-        let mut writer = Counted::new(Vec::new(rt.alloc()));
-        let summary = run(rt.alloc(), &CopyOctets, &mut feed(&file, size), &mut writer);
-        let want = Summary {
-            records: 3,
-            canonical: 1,
-            refused: 1,
-        };
-        assert_same_of(&rt, summary, Ok(want), size);
-        assert_same(&rt, writer.device.as_slice(), [7, 1, 2, 3].as_slice());
+        let (got, written) = copied(rt.alloc(), &mut Feed::new(&file, size));
+        assert_same_of(&rt, got, Ok(want), size);
+        assert_same(&rt, written.as_slice(), [7, 1, 2, 3].as_slice());
     }
-    Ok(())
+}
+
+/// The run over the file ends so, when so many octets are written.
+fn ends(
+    rt: &impl Abort,
+    alloc: Global,
+    file: &[u8],
+    want: Result<Summary, RunFault>,
+    count: usize,
+) {
+    let (got, written) = copied(alloc, &mut Counted::new(file));
+    assert_same_of(rt, got, want, file);
+    assert_same_of(rt, written.len(), count, file);
 }
 
 #[test]
-fn each_end_is_told(rt: HostRuntime) -> Result<(), Fail> {
+fn each_end_is_told(rt: HostRuntime) {
+    let alloc = rt.alloc();
     let mut cut = [0; 21];
     cut[1] = 0x14;
-    let stopped = Err(RunFault::Frame {
-        at: 2,
-        refusal: Refusal {
-            place: 0,
-            why: Why::Tag,
-        },
-    });
-    for (file, want, written) in [
-        ([].as_slice(), Ok(Summary::default()), 0),
-        (cut.as_slice(), stream(1, StreamFault::Truncated), 0),
-        ([0, 0, 9].as_slice(), stream(2, StreamFault::Truncated), 0),
-        (
-            [0, 1, 9, 0x05, 0xDA].as_slice(),
-            stream(2, StreamFault::Truncated),
-            1,
-        ),
-        (
-            [0, 1, 9, 0xFF, 0xFF, 1].as_slice(),
-            stream(2, StreamFault::Truncated),
-            1,
-        ),
-        ([0, 1, 9, 0, 1, 255, 0, 1, 9].as_slice(), stopped, 1),
-    ] {
-        let mut reader = Counted::new(file);
-        let mut writer = Counted::new(Vec::new(rt.alloc()));
-        let got = run(rt.alloc(), &CopyOctets, &mut reader, &mut writer);
-        assert_same_of(&rt, got, want, file);
-        assert_same_of(&rt, writer.device.len(), written, file);
-    }
-    Ok(())
+    let first = stream(1, StreamFault::Truncated);
+    let second = stream(2, StreamFault::Truncated);
+    let (at, refusal) = (2, Why::Tag.at(0));
+    let stopped = Err(RunFault::Frame { at, refusal });
+    ends(&rt, alloc, &[], Ok(Summary::default()), 0);
+    ends(&rt, alloc, &cut, first, 0);
+    ends(&rt, alloc, &[0, 0, 9], second, 0);
+    ends(&rt, alloc, &[0, 1, 9, 0x05, 0xDA], second, 1);
+    ends(&rt, alloc, &[0, 1, 9, 0xFF, 0xFF, 1], second, 1);
+    ends(&rt, alloc, &[0, 1, 9, 0, 1, 255, 0, 1, 9], stopped, 1);
 }
 
 #[test]
-fn a_failed_read_tells_the_next_record(rt: HostRuntime) -> Result<(), Fail> {
+fn a_failed_read_tells_the_next_record(rt: HostRuntime) {
     let file = [0, 5, 1, 2, 3, 4, 5, 0, 5, 1, 2, 3, 4, 5];
     for calls in 0..15 {
-        let mut reader = feed(&file, 1);
+        let mut reader = Feed::new(&file, 1);
         reader.calls = calls;
-        let mut writer = Counted::new(Vec::new(rt.alloc()));
-        let got = run(rt.alloc(), &CopyOctets, &mut reader, &mut writer);
+        let (got, written) = copied(rt.alloc(), &mut reader);
         let dealt = calls / 7;
-        assert_same_of(
-            &rt,
-            got,
-            stream(dealt as u32 + 1, StreamFault::ReadFault),
-            calls,
-        );
-        assert_same_of(&rt, writer.device.len(), 5 * dealt, calls);
+        let want = stream(dealt as u32 + 1, StreamFault::ReadFault);
+        assert_same_of(&rt, got, want, calls);
+        assert_same_of(&rt, written.len(), 5 * dealt, calls);
     }
-    Ok(())
 }
 
-#[test]
-fn a_failed_write_counts_what_was_taken(rt: HostRuntime) -> Result<(), Fail> {
+/// Where the writer has room for so many octets, those are written, and the fault tells it at this record.
+fn fills(rt: &impl Abort, alloc: Global, size: usize, room: usize, at: u32) {
     let file = [
         0, 5, 1, 2, 3, 4, 5, 0, 5, 6, 7, 8, 9, 10, 0, 5, 11, 12, 13, 14, 15,
     ];
+    let mut writer = Drain::new(alloc, usize::MAX, room);
+    let got = run(alloc, &CopyOctets, &mut Feed::new(&file, size), &mut writer);
+    let fault = StreamFault::WriteFault(room as u128);
+    assert_same_of(rt, got, stream(at, fault), (room, size));
+    assert_same(rt, writer.taken.len(), room);
+    assert_same(rt, writer.failures, 1);
+}
+
+#[test]
+fn a_failed_write_counts_what_was_taken(rt: HostRuntime) {
+    let alloc = rt.alloc();
     for size in [1, 8, 100] {
-        for (room, at) in [(0, 1), (4, 1), (5, 2), (7, 2), (10, 3), (14, 3)] {
-            let mut writer = Drain {
-                taken: Vec::new(rt.alloc()),
-                size: usize::MAX,
-                room,
-                failures: 0,
-            };
-            let got = run(rt.alloc(), &CopyOctets, &mut feed(&file, size), &mut writer);
-            let fault = StreamFault::WriteFault(room as u128);
-            assert_same_of(&rt, got, stream(at, fault), (room, size));
-            assert_same(&rt, writer.taken.len(), room);
-            assert_same(&rt, writer.failures, 1);
-        }
+        fills(&rt, alloc, size, 0, 1);
+        fills(&rt, alloc, size, 4, 1);
+        fills(&rt, alloc, size, 5, 2);
+        fills(&rt, alloc, size, 7, 2);
+        fills(&rt, alloc, size, 10, 3);
+        fills(&rt, alloc, size, 14, 3);
     }
-    Ok(())
+}
+
+/// A reader that gives these octets again and again has too many records, when so many octets are written.
+fn is_unending(rt: &impl Abort, alloc: Global, octets: [u8; 3], count: usize) {
+    let (got, written) = copied(alloc, &mut Unending { octets });
+    let want = stream(1_000_001, StreamFault::TooManyFrames);
+    assert_same_of(rt, got, want, octets);
+    assert_same_of(rt, written.len(), count, octets);
 }
 
 #[test]
-fn an_unending_reader_has_too_many_records(rt: HostRuntime) -> Result<(), Fail> {
-    for (octets, written) in [([0, 0, 0], 0), ([0, 1, 9], 1_000_000)] {
-        let mut writer = Counted::new(Vec::new(rt.alloc()));
-        let got = run(
-            rt.alloc(),
-            &CopyOctets,
-            &mut Unending { octets },
-            &mut writer,
-        );
-        assert_same_of(
-            &rt,
-            got,
-            stream(1_000_001, StreamFault::TooManyFrames),
-            octets,
-        );
-        assert_same_of(&rt, writer.device.len(), written, octets);
-    }
-    Ok(())
+fn an_unending_reader_has_too_many_records(rt: HostRuntime) {
+    is_unending(&rt, rt.alloc(), [0, 0, 0], 0);
+    is_unending(&rt, rt.alloc(), [0, 1, 9], 1_000_000);
+}
+
+/// The next record has these octets, or there is none.
+fn reads<R: Input>(rt: &impl Abort, alloc: Global, reader: &mut R, want: Option<&[u8]>) {
+    let got = read_record(alloc, reader).expect(rt, "a record");
+    assert_same(rt, got.as_deref(), want);
 }
 
 #[test]
-fn records_come_back(rt: HostRuntime) -> Result<(), Fail> {
+fn records_come_back(rt: HostRuntime) {
     let mut writer = Counted::new(Vec::new(rt.alloc()));
-    write_record(&mut writer, &[])?;
-    write_record(&mut writer, &[7, 8])?;
+    write_record(&mut writer, &[]).expect(&rt, "memory");
+    write_record(&mut writer, &[7, 8]).expect(&rt, "memory");
     assert_same(&rt, writer.device.as_slice(), [0, 0, 0, 2, 7, 8].as_slice());
-
     let mut reader = Counted::new(writer.device.as_slice());
-    for want in [[].as_slice(), [7, 8].as_slice()] {
-        let got = read_record(rt.alloc(), &mut reader)?;
-        assert_same(&rt, got.as_deref(), Some(want));
-    }
-    assert!(rt; read_record(rt.alloc(), &mut reader)?.is_none());
-    Ok(())
+    reads(&rt, rt.alloc(), &mut reader, Some(&[]));
+    reads(&rt, rt.alloc(), &mut reader, Some(&[7, 8]));
+    reads(&rt, rt.alloc(), &mut reader, None);
 }
 
 /// Numbers of octets at which a record could be taken for a longer or a shorter one.
@@ -164,191 +148,184 @@ const SIZES: [u16; 12] = [
     0, 1, 255, 256, 1_000, 1_001, 1_497, 1_498, 32_768, 65_279, 65_534, 65_535,
 ];
 
-/// The octets behind their length.
-fn record_of(alloc: Global, size: u16, octets: &[u8]) -> Result<Vec<u8>, Fail> {
-    let mut record = Vec::new(alloc);
-    record.extend_from_slice(&size.to_be_bytes())?;
-    record.extend_from_slice(octets)?;
-    Ok(record)
+/// So many octets.
+fn octets_of_size(rt: &impl Abort, alloc: Global, size: u16) -> Vec<u8> {
+    vec![in alloc; 0xAA; usize::from(size)].expect(rt, "memory")
+}
+
+/// The octets are written as the record and read of it.
+fn comes_back(rt: &impl Abort, alloc: Global, size: u16, octets: &[u8], record: &[u8]) {
+    // What write_record requires: assert! tells it to the prover.
+    assert!(rt; octets.len() <= 65_535);
+    let mut writer = Counted::new(Vec::new(alloc));
+    write_record(&mut writer, octets).expect(rt, "memory");
+    assert_holds(rt, writer.device.as_slice() == record, size);
+    let mut reader = Counted::new(record);
+    let got = read_record(alloc, &mut reader).expect(rt, "a record");
+    assert_holds(rt, got.as_deref() == Some(octets), size);
+    assert_same_of(rt, reader.device.len(), 0, size);
 }
 
 // Example 78 for records: the longest has 65,535 octets.
 #[test]
-fn records_of_each_size_come_back(rt: HostRuntime) -> Result<(), Fail> {
+fn records_of_each_size_come_back(rt: HostRuntime) {
     for size in SIZES {
-        let octets = vec![in rt.alloc(); 0xAA; usize::from(size)]?;
-        let record = record_of(rt.alloc(), size, &octets)?;
-        let mut writer = Counted::new(Vec::new(rt.alloc()));
-        write_record(&mut writer, &octets)?;
-        assert_holds(&rt, writer.device.as_slice() == record.as_slice(), size);
-
-        let mut reader = Counted::new(record.as_slice());
-        let got = read_record(rt.alloc(), &mut reader)?;
-        assert_holds(&rt, got.as_deref() == Some(octets.as_slice()), size);
-        assert_same_of(&rt, reader.device.len(), 0, size);
-
+        let octets = octets_of_size(&rt, rt.alloc(), size);
+        let length = size.to_be_bytes();
+        let record = enclosed(rt.alloc(), &length, &octets, &[], &[]).expect(&rt, "memory");
+        comes_back(&rt, rt.alloc(), size, &octets, &record);
         let cut = record.len().saturating_sub(1);
         let mut reader = Counted::new(&record[..cut]);
         let fault = read_record(rt.alloc(), &mut reader).err();
         assert_same_of(&rt, fault, Some(StreamFault::Truncated), size);
     }
-    Ok(())
+}
+
+/// The run over the file in pieces of this size takes three records, and writes these octets.
+fn takes_three(rt: &impl Abort, alloc: Global, file: &[u8], piece: usize, want: &[u8], size: u16) {
+    let (got, written) = copied(alloc, &mut Feed::new(file, piece));
+    let records = got.map(|summary| summary.records);
+    assert_same_of(rt, records, Ok(3), (size, piece));
+    assert_holds(rt, written.as_slice() == want, (size, piece));
 }
 
 // The record stands between two others, so that it begins and ends within what a run holds.
 #[test]
-fn a_run_takes_records_of_each_size(rt: HostRuntime) -> Result<(), Fail> {
+fn a_run_takes_records_of_each_size(rt: HostRuntime) {
+    let alloc = rt.alloc();
     for size in SIZES {
-        let octets = vec![in rt.alloc(); 0xAA; usize::from(size)]?;
-        let mut file = Vec::new(rt.alloc());
-        file.extend_from_slice(&[0, 3, 1, 2, 3])?;
-        file.extend_from_slice(&record_of(rt.alloc(), size, &octets)?)?;
-        file.extend_from_slice(&[0, 2, 8, 9])?;
-        let mut want = Vec::new(rt.alloc());
-        want.extend_from_slice(&[1, 2, 3])?;
-        want.extend_from_slice(&octets)?;
-        want.extend_from_slice(&[8, 9])?;
-        for piece in [997, 65_536, usize::MAX] {
-            let mut writer = Counted::new(Vec::new(rt.alloc()));
-            let got = run(
-                rt.alloc(),
-                &CopyOctets,
-                &mut feed(&file, piece),
-                &mut writer,
-            );
-            let records = got.map(|summary| summary.records);
-            assert_same_of(&rt, records, Ok(3), (size, piece));
-            assert_holds(
-                &rt,
-                writer.device.as_slice() == want.as_slice(),
-                (size, piece),
-            );
-        }
+        let octets = octets_of_size(&rt, alloc, size);
+        let [high, low] = size.to_be_bytes();
+        let front = [0, 3, 1, 2, 3, high, low];
+        let file = enclosed(alloc, &front, &octets, &[0, 2, 8, 9], &[]).expect(&rt, "memory");
+        let want = enclosed(alloc, &[1, 2, 3], &octets, &[8, 9], &[]).expect(&rt, "memory");
+        takes_three(&rt, alloc, &file, 997, &want, size);
+        takes_three(&rt, alloc, &file, 65_536, &want, size);
+        takes_three(&rt, alloc, &file, usize::MAX, &want, size);
         let cut = file.len().saturating_sub(5);
-        let mut writer = Counted::new(Vec::new(rt.alloc()));
-        let got = run(
-            rt.alloc(),
-            &CopyOctets,
-            &mut feed(&file[..cut], 65_536),
-            &mut writer,
-        );
+        let (got, written) = copied(alloc, &mut Feed::new(&file[..cut], 65_536));
         assert_same_of(&rt, got, stream(2, StreamFault::Truncated), size);
-        assert_same_of(&rt, writer.device.len(), 3, size);
+        assert_same_of(&rt, written.len(), 3, size);
     }
-    Ok(())
+}
+
+/// A device with so many errors of this kind, which takes so many octets a call.
+fn troubled(error: ErrorKind, times: u32, takes: usize) -> Counted<Troubled> {
+    Counted::new(Troubled {
+        error,
+        times,
+        takes,
+    })
+}
+
+/// A read of the device ends so.
+fn tells_read(
+    rt: &impl Abort,
+    alloc: Global,
+    mut device: Counted<Troubled>,
+    want: Option<StreamFault>,
+) {
+    assert_same(rt, read_record(alloc, &mut device).err(), want);
+    assert_same(rt, device.failures, u64::from(want.is_some()));
+}
+
+/// A write to the device ends so.
+fn tells_write(rt: &impl Abort, mut device: Counted<Troubled>, want: Result<(), StreamFault>) {
+    assert_same(rt, write_record(&mut device, &[5]), want);
+    assert_same(rt, device.failures, u64::from(want.is_err()));
 }
 
 #[test]
-fn interrupted_calls_are_tried_again(rt: HostRuntime) -> Result<(), Fail> {
-    let fault = StreamFault::WriteFault(0);
-    for (error, times, takes, read, written) in [
-        (ErrorKind::Interrupted, 63, 9, None, Ok(())),
-        (
-            ErrorKind::Interrupted,
-            64,
-            9,
-            Some(StreamFault::ReadFault),
-            Err(fault),
-        ),
-        (
-            ErrorKind::NotFound,
-            1,
-            9,
-            Some(StreamFault::ReadFault),
-            Err(fault),
-        ),
-        (ErrorKind::NotFound, 0, 0, None, Err(fault)),
-    ] {
-        let troubled = || Troubled {
-            error,
-            times,
-            takes,
-        };
-        let mut reader = Counted::new(troubled());
-        assert_same_of(
-            &rt,
-            read_record(rt.alloc(), &mut reader).err(),
-            read,
-            (times, error),
-        );
-        assert_same(&rt, reader.failures, u64::from(read.is_some()));
+fn interrupted_calls_are_tried_again(rt: HostRuntime) {
+    let alloc = rt.alloc();
+    let (interrupted, missing) = (ErrorKind::Interrupted, ErrorKind::NotFound);
+    let unread = Some(StreamFault::ReadFault);
+    let unwritten = Err(StreamFault::WriteFault(0));
+    tells_read(&rt, alloc, troubled(interrupted, 63, 9), None);
+    tells_read(&rt, alloc, troubled(interrupted, 64, 9), unread);
+    tells_read(&rt, alloc, troubled(missing, 1, 9), unread);
+    tells_read(&rt, alloc, troubled(missing, 0, 0), None);
+    tells_write(&rt, troubled(interrupted, 63, 9), Ok(()));
+    tells_write(&rt, troubled(interrupted, 64, 9), unwritten);
+    tells_write(&rt, troubled(missing, 1, 9), unwritten);
+    tells_write(&rt, troubled(missing, 0, 0), unwritten);
+}
 
-        let mut writer = Counted::new(troubled());
-        assert_same_of(
-            &rt,
-            write_record(&mut writer, &[5]),
-            written,
-            (times, error),
-        );
-        assert_same(&rt, writer.failures, u64::from(written.is_err()));
-    }
-    Ok(())
+/// The record at the front of the octets has these octets, or there is none.
+fn begins(rt: &impl Abort, octets: &[u8], want: Option<&[u8]>) {
+    assert_same_of(rt, front_record(octets), want, octets);
 }
 
 #[test]
 fn the_record_at_the_front_is_found(rt: HostRuntime) {
-    for (octets, want) in [
-        ([].as_slice(), None),
-        (&[0], None),
-        (&[0, 0], Some([].as_slice())),
-        (&[0, 2, 7], None),
-        (&[0, 2, 7, 8], Some(&[7, 8])),
-        (&[0, 2, 7, 8, 9], Some(&[7, 8])),
-        (&[1, 0, 7], None),
-    ] {
-        assert_same_of(&rt, front_record(octets), want, octets);
-    }
+    begins(&rt, &[], None);
+    begins(&rt, &[0], None);
+    begins(&rt, &[0, 0], Some(&[]));
+    begins(&rt, &[0, 2, 7], None);
+    begins(&rt, &[0, 2, 7, 8], Some(&[7, 8]));
+    begins(&rt, &[0, 2, 7, 8, 9], Some(&[7, 8]));
+    begins(&rt, &[1, 0, 7], None);
+}
+
+/// Where there is room for so many octets, so many are written, or the fault tells how many were.
+fn fits(rt: &impl Abort, room: usize, size: usize)
+    requires room { room ≤ 9 }
+    requires size { size ≤ 3 }
+{
+    let mut taken = [0; 9];
+    let mut writer = Counted::new(&mut taken[..room]);
+    let octets = &[7, 8, 9][..size];
+    let want = if size <= room { Ok(()) } else { Err(room) };
+    assert_same_of(rt, write_whole(&mut writer, octets), want, (size, room));
+    assert_same_of(rt, writer.failures, u64::from(want.is_err()), (size, room));
 }
 
 #[test]
 fn all_octets_are_written(rt: HostRuntime) {
-    for (room, size) in [(3, 3), (9, 3), (2, 3), (0, 3), (0, 0)] {
-        let mut taken = [0; 9];
-        let mut writer = Counted::new(&mut taken[..room]);
-        let octets = &[7, 8, 9][..size];
-        let want = if size <= room { Ok(()) } else { Err(room) };
-        assert_same_of(&rt, write_whole(&mut writer, octets), want, (size, room));
-        assert_same_of(&rt, writer.failures, u64::from(want.is_err()), (size, room));
-    }
+    fits(&rt, 3, 3);
+    fits(&rt, 9, 3);
+    fits(&rt, 2, 3);
+    fits(&rt, 0, 3);
+    fits(&rt, 0, 0);
+}
+
+/// The number in decimal digits.
+fn is_decimal(rt: &impl Abort, alloc: Global, number: u64, text: &str) {
+    let mut out = Vec::new(alloc);
+    push_decimal(&mut out, number).expect(rt, "memory");
+    assert_same(rt, out.as_slice(), text.as_bytes());
+}
+
+/// The signed number in decimal digits.
+fn is_signed_decimal(rt: &impl Abort, alloc: Global, number: i64, text: &str) {
+    let mut out = Vec::new(alloc);
+    push_signed_decimal(&mut out, number).expect(rt, "memory");
+    assert_same(rt, out.as_slice(), text.as_bytes());
 }
 
 #[test]
-fn numbers_are_decimal(rt: HostRuntime) -> Result<(), Fail> {
-    let numbers = [
-        (0, "0"),
-        (10, "10"),
-        (100, "100"),
-        (9_999, "9999"),
-        (10_000, "10000"),
-        (4_194_303, "4194303"),
-        (100_000_000, "100000000"),
-        (1_000_000_000_007, "1000000000007"),
-        (u64::MAX, "18446744073709551615"),
-    ];
-    for (number, text) in numbers {
-        let mut out = Vec::new(rt.alloc());
-        push_decimal(&mut out, number)?;
-        assert_same_of(&rt, out.as_slice(), text.as_bytes(), number);
-    }
-    for (number, text) in [
-        (i64::MIN, "-9223372036854775808"),
-        (-1, "-1"),
-        (0, "0"),
-        (i64::MAX, "9223372036854775807"),
-    ] {
-        let mut out = Vec::new(rt.alloc());
-        push_signed_decimal(&mut out, number)?;
-        assert_same_of(&rt, out.as_slice(), text.as_bytes(), number);
-    }
-    Ok(())
+fn numbers_are_decimal(rt: HostRuntime) {
+    let alloc = rt.alloc();
+    is_decimal(&rt, alloc, 0, "0");
+    is_decimal(&rt, alloc, 10, "10");
+    is_decimal(&rt, alloc, 100, "100");
+    is_decimal(&rt, alloc, 9_999, "9999");
+    is_decimal(&rt, alloc, 10_000, "10000");
+    is_decimal(&rt, alloc, 4_194_303, "4194303");
+    is_decimal(&rt, alloc, 100_000_000, "100000000");
+    is_decimal(&rt, alloc, 1_000_000_000_007, "1000000000007");
+    is_decimal(&rt, alloc, u64::MAX, "18446744073709551615");
+    is_signed_decimal(&rt, alloc, i64::MIN, "-9223372036854775808");
+    is_signed_decimal(&rt, alloc, -1, "-1");
+    is_signed_decimal(&rt, alloc, 0, "0");
+    is_signed_decimal(&rt, alloc, i64::MAX, "9223372036854775807");
 }
 
 #[test]
-fn octets_are_hexadecimal(rt: HostRuntime) -> Result<(), Fail> {
-    let mut out = Vec::from_slice(rt.alloc(), b"x")?;
-    push_hexadecimal(&mut out, &[0x00, 0x0F, 0xA9, 0xFF])?;
+fn octets_are_hexadecimal(rt: HostRuntime) {
+    let mut out = Vec::from_slice(rt.alloc(), b"x").expect(&rt, "memory");
+    push_hexadecimal(&mut out, &[0x00, 0x0F, 0xA9, 0xFF]).expect(&rt, "memory");
     assert_same(&rt, out.as_slice(), b"x000FA9FF".as_slice());
-    Ok(())
 }
 
 // The laws are functions that do nothing: their contracts are what they say.
