@@ -2,8 +2,18 @@
 use Rattle.std.proofs.Common.{◌≡◌, ℕ, ◌+◌, ◌/◌, ◌%◌, ◌^◌, ◌<◌, ◌≤◌, List, [], ◌∷◌, ◌++◌, length, take, get_or, arith, refl, sym, ap, ◌∙◌, append_assoc}
 use Rattle.std.specs.Fmt.{decimal}
 use Rattle.std.proofs.lemmas.Fmt.{decimal_step, decimal_digit}
-use Rattle.std.proofs.lemmas.List.{take_more}
+use Rattle.std.proofs.Math.ListN.{set}
+use Rattle.std.proofs.lemmas.List.{take_more, take_more_set}
 use Rattle.bac_record.specs.Digits.{digit, hexadecimal, two, four}
+
+-- ---- words
+
+-- one octet more of a word, at a place
+pub word_step : (old room word : List ℕ) (at i : ℕ) → at + i < length room → i < length word → take (at + i) room ≡ old ++ take i word → take (at + (i + 1)) (set room (at + i) (get_or word i 0)) ≡ old ++ take (i + 1) word
+word_step old room word at i inside below p =
+    let behind : at + (i + 1) ≡ at + i + 1 = omega arith in
+    ap (λ k. take k (set room (at + i) (get_or word i 0))) behind ∙ take_more_set room (at + i) (get_or word i 0) inside ∙ ap (λ l. l ++ get_or word i 0 ∷ []) p
+    ∙ append_assoc old (take i word) (get_or word i 0 ∷ []) ∙ ap (λ l. old ++ l) (sym (take_more word i 0 below))
 
 -- ---- numbers of few digits
 

@@ -1,5 +1,6 @@
 pub mod PairLemmas
 pub mod DigitLemmas
+pub mod RoomLemmas
 pub mod Lists
 pub mod Partial
 pub mod Stops

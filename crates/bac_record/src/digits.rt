@@ -44,6 +44,31 @@ fn put_pair(room: &mut [u8], at: usize, first: u8, second: u8)
     room[at + 1] = second;
 }
 
+/// Writes a word at a place, and returns where it ends.
+#[inline(always)]
+pub fn put_word<const N: usize>(room: &mut [u8], at: usize, word: &[u8; N]) -> usize
+    requires { at + N ≤ length room.old }
+    ensures text { take result room.new ≡ take at room.old ++ word.now }
+    ensures end { result ≡ at + N }
+{
+    for index in 0..N {
+        room[at + index] = word[index];
+    }
+    at + N
+}
+
+/// Writes octets at a place, and returns where they end.
+#[inline(always)]
+pub fn put_octets(room: &mut [u8], at: usize, octets: &[u8]) -> usize
+    requires { at + length octets.now ≤ length room.old }
+    ensures text { take result room.new ≡ take at room.old ++ octets.now }
+    ensures end { result ≡ at + length octets.now }
+{
+    let end = at + octets.len();
+    room[at..end].copy_from_slice(octets);
+    end
+}
+
 /// Writes the two digits of a number below 100 at a place.
 #[inline(always)]
 fn put_two(room: &mut [u8], at: usize, number: u64)
@@ -82,8 +107,9 @@ fn put_front(room: &mut [u8], at: usize, number: u64) -> usize
         put_two(room, at, number);
         at + 2
     } else if number < 1_000 {
-        room[at] = digit(number / 100);
-        put_two(room, at + 1, number % 100);
+        let hundreds = number / 100;
+        room[at] = digit(hundreds);
+        put_two(room, at + 1, number - 100 * hundreds);
         at + 3
     } else {
         put_four(room, at, number);
@@ -133,6 +159,9 @@ fn put_digits(room: &mut [u8], at: usize, number: u64) -> usize
     ensures most { result ≤ at + 20 }
     ensures few { number < 2 ^ 32 → result ≤ at + 10 }
 {
+    if number < 10_000 {
+        return put_front(room, at, number);
+    }
     if number < 100_000_000 {
         return put_eight(room, at, number);
     }
@@ -159,6 +188,45 @@ pub fn put_decimal(room: &mut [u8], at: usize, number: u64) -> usize
     put_digits(room, at, number)
 }
 
+/// Writes a minus where the number is negative, and its decimal digits, without leading zeros, at a place behind which
+/// there is room for twenty-one octets. Returns where they end.
+pub fn put_signed_decimal(room: &mut [u8], at: usize, number: i64) -> usize
+    requires { at + 21 ≤ length room.old }
+    ensures digits { take result room.new ≡ take at room.old ++ signed_decimal number }
+    ensures most { result ≤ at + 21 }
+{
+    if number < 0 {
+        room[at] = b'-';
+        return put_decimal(room, at + 1, number.unsigned_abs());
+    }
+    put_decimal(room, at, number.unsigned_abs())
+}
+
+/// The two hexadecimal digits of an octet.
+#[inline(always)]
+fn digits_of(octet: u8) -> [u8; 2]
+    ensures { result ≡ hexadecimal_digit (octet / 16) ∷ hexadecimal_digit (octet % 16) ∷ [] }
+{
+    [
+        DIGITS[usize::from(octet / 16)],
+        DIGITS[usize::from(octet % 16)],
+    ]
+}
+
+/// Writes two hexadecimal digits for each octet at a place, in upper case. Returns where they end.
+#[inline(always)]
+pub fn put_hexadecimal(room: &mut [u8], at: usize, octets: &[u8]) -> usize
+    requires room { at + 2 * length octets.now ≤ length room.old }
+    ensures digits { take result room.new ≡ take at room.old ++ hexadecimal octets.now }
+    ensures end { result ≡ at + 2 * length octets.now }
+{
+    for (index, octet) in octets.iter().enumerate() {
+        let [first, second] = digits_of(*octet);
+        put_pair(room, at + 2 * index, first, second);
+    }
+    at + 2 * octets.len()
+}
+
 /// Makes the vector longer by so many octets, at most 4,096, and returns where they begin.
 ///
 /// # Errors
@@ -174,72 +242,37 @@ pub fn add_room<const ROOM: usize>(out: &mut Vec<u8>) -> Result<usize, OutOfMemo
     Ok(start)
 }
 
-/// Appends the decimal digits of a number, without leading zeros.
-///
-/// # Errors
-/// `OutOfMemory` where memory is refused. `out` then stays as it was.
-#[inline(always)]
-pub fn push_decimal(out: &mut Vec<u8>, number: u64) -> Result<(), OutOfMemory>
-    ensures ok { OnOk result (out.new.items ≡ out.old.items ++ decimal number) }
-    ensures err { OnErr result (out.new.items ≡ out.old.items) }
+/// How many octets a vector is made longer at once, so that it is seldom asked again.
+const STEP: usize = 256;
+
+/// Makes the vector longer, so that there is so much room behind the place.
+#[inline(never)]
+fn lengthen(out: &mut Vec<u8>, at: usize, room: usize) -> Result<(), OutOfMemory>
+    requires { at ≤ length out.old.items }
+    ensures ok { OnOk result (at + room ≤ length out.new.items) }
+    ensures kept { Extends out.old.items out.new.items }
 {
-    let start = add_room::<20>(out)?;
-    let end = put_decimal(out.as_mut_slice(), start, number);
-    out.truncate(end);
+    while out.len() - at < room {
+        out.extend_from_slice(&[0; STEP])?;
+    }
     Ok(())
 }
 
-/// Appends a minus where the number is negative, and its decimal digits, without leading zeros.
+/// Makes the vector longer where it has less room than this behind the place. What is written there begins at the place:
+/// so a text of many parts asks for room part by part, and the vector is made longer only now and then. What stands
+/// behind the place is of no meaning; `truncate` cuts it off where the text ends.
 ///
 /// # Errors
-/// `OutOfMemory` where memory is refused. The minus may then be there.
-pub fn push_signed_decimal(out: &mut Vec<u8>, number: i64) -> Result<(), OutOfMemory>
-    ensures ok { OnOk result (out.new.items ≡ out.old.items ++ signed_decimal number) }
-    ensures err { OnErr result (Extends out.old.items out.new.items) }
-{
-    if number < 0 {
-        out.extend_from_slice(b"-")?;
-    }
-    push_decimal(out, number.unsigned_abs())
-}
-
-/// The two hexadecimal digits of an octet.
+/// `OutOfMemory` where memory is refused. `out` then has what it had in front of the place.
 #[inline(always)]
-fn digits_of(octet: u8) -> [u8; 2]
-    ensures { result ≡ hexadecimal_digit (octet / 16) ∷ hexadecimal_digit (octet % 16) ∷ [] }
+pub fn make_room(out: &mut Vec<u8>, at: usize, room: usize) -> Result<(), OutOfMemory>
+    requires { at ≤ length out.old.items }
+    ensures ok { OnOk result (at + room ≤ length out.new.items) }
+    ensures front { take at out.new.items ≡ take at out.old.items }
+    ensures err { OnErr result (Extends (take at out.old.items) out.new.items) }
 {
-    [
-        DIGITS[usize::from(octet / 16)],
-        DIGITS[usize::from(octet % 16)],
-    ]
-}
-
-/// Writes two hexadecimal digits for each octet of a few at a place, in upper case. Returns where they end.
-#[inline(always)]
-pub fn put_hexadecimal<const N: usize>(room: &mut [u8], at: usize, octets: &[u8; N]) -> usize
-    requires few { N ≤ 4096 }
-    requires room { at + 2 * N ≤ length room.old }
-    ensures digits { take result room.new ≡ take at room.old ++ hexadecimal octets.now }
-    ensures end { result ≡ at + 2 * N }
-{
-    for index in 0..N {
-        let [first, second] = digits_of(octets[index]);
-        put_pair(room, at + 2 * index, first, second);
-    }
-    at + 2 * N
-}
-
-/// Appends two hexadecimal digits for each octet, in upper case.
-///
-/// # Errors
-/// `OutOfMemory` where memory is refused. Digits of some of the octets may then be there.
-pub fn push_hexadecimal(out: &mut Vec<u8>, octets: &[u8]) -> Result<(), OutOfMemory>
-    ensures ok { OnOk result (out.new.items ≡ out.old.items ++ hexadecimal octets.now) }
-    ensures err { OnErr result (Extends out.old.items out.new.items) }
-{
-    out.reserve(octets.len().saturating_mul(2))?;
-    for octet in octets {
-        out.extend_from_slice(&digits_of(*octet))?;
+    if out.len() - at < room {
+        lengthen(out, at, room)?;
     }
     Ok(())
 }

@@ -6,7 +6,8 @@
 //! - [`read_record`] and [`write_record`] take and give one record.
 //! - [`run`] does a [`Job`] with each record of a file: it appends what the job makes of the record to what it writes,
 //!   and counts. A [`Summary`] or a [`RunFault`] says how it ended.
-//! - [`push_decimal`], [`push_signed_decimal`] and [`push_hexadecimal`] append numbers and octets as digits.
+//! - [`put_word`], [`put_octets`], [`put_decimal`], [`put_signed_decimal`] and [`put_hexadecimal`] write words, numbers
+//!   and octets into room that was made for them, by [`make_room`] or [`add_room`].
 #![tactic(auto)]
 
 mod batches;
@@ -27,7 +28,7 @@ pub use counting::Counted;
 pub use dealing::{DealFault, Dealt, Job};
 pub use devices::{Device, Input, Output};
 pub use digits::{
-    add_room, push_decimal, push_hexadecimal, push_signed_decimal, put_decimal, put_hexadecimal,
+    add_room, make_room, put_decimal, put_hexadecimal, put_octets, put_signed_decimal, put_word,
 };
 pub use faults::{RunFault, StreamFault};
 pub use fronts::front_record;

@@ -1,14 +1,17 @@
 //! The lines of `show` and `check`.
 
-ghost use Rattle.std.specs.Prelude.{◌≡◌, ◌++◌, codes, OnOk, OnErr};
+ghost use Rattle.std.specs.Prelude.{◌≡◌, ◌≤◌, ◌+◌, ◌++◌, codes, IfOk, OnOk, OnErr, length, take};
 ghost use Rattle.std.specs.Fmt.{decimal};
 ghost use Rattle.bac_tag.specs.Octets.{Extends};
-ghost use Rattle.bac_stream.specs.Lines.{said_by, said_of, said_text, numbered};
+ghost use Rattle.bac_npdu.specs.FrameHeads.{frame_with};
+ghost use Rattle.bac_npdu.specs.Frames.{body_value};
+ghost use Rattle.bac_text.specs.FrameText.{text};
+ghost use Rattle.bac_stream.specs.Lines.{ok, tolerated, refused, said_by, said_of, said_text, numbered};
 
 use bac_npdu::{Body, FrameHead};
-use bac_record::{add_room, push_decimal, put_decimal};
+use bac_record::{add_room, make_room, put_decimal, put_octets, put_word};
 use bac_tag::{OutOfMemory, Refusal};
-use bac_text::append_text_of;
+use bac_text::write_text_of;
 
 /// What a line says of a record, behind its number.
 #[derive(Clone, Copy, Debug)]
@@ -23,18 +26,78 @@ pub(crate) enum Line<'a> {
     Shown(&'a FrameHead<'a>, &'a Body),
 }
 
-/// Appends the number of a record, and a blank.
+/// Writes the number of a record, and a blank, at a place. Returns where they end.
 #[inline(always)]
-fn push_number(out: &mut Vec<u8>, number: u32) -> Result<(), OutOfMemory>
-    ensures ok { OnOk result (out.new.items ≡ out.old.items ++ (decimal number ++ codes " ")) }
+fn put_number(room: &mut [u8], at: usize, number: u32) -> usize
+    requires { at + 20 ≤ length room.old }
+    ensures text { take result room.new ≡ take at room.old ++ (decimal number ++ codes " ") }
+    ensures end { result ≤ at + 11 }
+{
+    let end = put_decimal(room, at, u64::from(number));
+    put_word(room, end, b" ")
+}
+
+/// Writes the line of a canonical record behind what there is: `ok` behind its number. Returns where it ends.
+#[inline(always)]
+fn write_ok(number: u32, out: &mut Vec<u8>) -> Result<usize, OutOfMemory>
+    ensures text { IfOk result (λ end. take end out.new.items ≡ out.old.items ++ numbered number (said_text ok)) }
     ensures err { OnErr result (Extends out.old.items out.new.items) }
 {
     let start = add_room::<32>(out)?;
     let room = out.as_mut_slice();
-    let end = put_decimal(room, start, u64::from(number));
-    room[end] = b' ';
-    out.truncate(end + 1);
-    Ok(())
+    let end = put_number(room, start, number);
+    Ok(put_word(room, end, b"ok\n"))
+}
+
+/// Writes `tolerated at P` behind the number of the record. Returns where the line ends.
+#[inline(always)]
+fn write_tolerated(number: u32, place: usize, out: &mut Vec<u8>) -> Result<usize, OutOfMemory>
+    ensures text { IfOk result (λ end. take end out.new.items ≡ out.old.items ++ numbered number (said_text (tolerated place))) }
+    ensures err { OnErr result (Extends out.old.items out.new.items) }
+{
+    let start = add_room::<64>(out)?;
+    let room = out.as_mut_slice();
+    let end = put_number(room, start, number);
+    let end = put_word(room, end, b"tolerated at ");
+    let end = put_decimal(room, end, place as u64);
+    Ok(put_word(room, end, b"\n"))
+}
+
+/// Writes `refused WHY at P` behind the number of the record. Returns where the line ends.
+fn write_refused(number: u32, refusal: Refusal, out: &mut Vec<u8>) -> Result<usize, OutOfMemory>
+    ensures text { IfOk result (λ end. take end out.new.items ≡ out.old.items ++ numbered number (said_text (refused refusal))) }
+    ensures err { OnErr result (Extends out.old.items out.new.items) }
+{
+    let why = refusal.why.name().as_bytes();
+    let start = out.len();
+    make_room(out, start, why.len() + 64)?;
+    let room = out.as_mut_slice();
+    let end = put_number(room, start, number);
+    let end = put_word(room, end, b"refused ");
+    let end = put_octets(room, end, why);
+    let end = put_word(room, end, b" at ");
+    let end = put_decimal(room, end, refusal.place as u64);
+    Ok(put_word(room, end, b"\n"))
+}
+
+/// Writes the text of the frame with this head and this body behind the number of the record. Returns where the line
+/// ends.
+#[inline(always)]
+fn write_shown(
+    number: u32,
+    head: &FrameHead<'_>,
+    body: &Body,
+    out: &mut Vec<u8>,
+) -> Result<usize, OutOfMemory>
+    ensures text { IfOk result (λ end. take end out.new.items ≡ out.old.items ++ numbered number (text (frame_with head.now (body_value body.now)))) }
+    ensures err { OnErr result (Extends out.old.items out.new.items) }
+{
+    // Most lines have fewer octets.
+    let start = add_room::<256>(out)?;
+    let end = put_number(out.as_mut_slice(), start, number);
+    let end = write_text_of(head, body, out, end)?;
+    make_room(out, end, 1)?;
+    Ok(put_word(out.as_mut_slice(), end, b"\n"))
 }
 
 impl Line<'_> {
@@ -49,41 +112,19 @@ impl Line<'_> {
         }
     }
 
-    /// Appends the text, and a line feed behind it. Where memory is refused some of it may be there.
-    fn append_text(&self, out: &mut Vec<u8>) -> Result<(), OutOfMemory>
-        ensures ok { OnOk result (out.new.items ≡ out.old.items ++ said_text (said_by self.now) ++ codes "\n") }
+    /// Writes the line of the record with this number behind what there is. Returns where it ends. Where memory is
+    /// refused some of it may be there.
+    #[inline(always)]
+    fn write(&self, number: u32, out: &mut Vec<u8>) -> Result<usize, OutOfMemory>
+        ensures text { IfOk result (λ end. take end out.new.items ≡ out.old.items ++ numbered number (said_text (said_by self.now))) }
         ensures err { OnErr result (Extends out.old.items out.new.items) }
     {
         match self {
-            // Most records are canonical: their text is appended at once.
-            Line::Canonical => out.extend_from_slice(b"ok\n")?,
-            Line::Tolerated(place) => {
-                out.extend_from_slice(b"tolerated at ")?;
-                push_decimal(out, *place as u64)?;
-                out.push(b'\n')?;
-            }
-            Line::Refused(refusal) => {
-                out.extend_from_slice(b"refused ")?;
-                out.extend_from_slice(refusal.why.name().as_bytes())?;
-                out.extend_from_slice(b" at ")?;
-                push_decimal(out, refusal.place as u64)?;
-                out.push(b'\n')?;
-            }
-            Line::Shown(head, body) => {
-                append_text_of(head, body, out)?;
-                out.push(b'\n')?;
-            }
+            Line::Canonical => write_ok(number, out),
+            Line::Tolerated(place) => write_tolerated(number, *place, out),
+            Line::Refused(refusal) => write_refused(number, *refusal, out),
+            Line::Shown(head, body) => write_shown(number, head, body, out),
         }
-        Ok(())
-    }
-
-    /// Appends the line of the record with this number. Where memory is refused some of it may be there.
-    fn append(&self, number: u32, out: &mut Vec<u8>) -> Result<(), OutOfMemory>
-        ensures ok { OnOk result (out.new.items ≡ out.old.items ++ numbered number (said_text (said_by self.now))) }
-        ensures err { OnErr result (Extends out.old.items out.new.items) }
-    {
-        push_number(out, number)?;
-        self.append_text(out)
     }
 
     /// Appends the line of the record with this number. Where memory is refused `out` stays as it was.
@@ -94,10 +135,15 @@ impl Line<'_> {
         ensures err { OnErr result (out.new.items ≡ out.old.items) }
     {
         let start = out.len();
-        let appended = self.append(number, out);
-        if appended.is_err() {
-            out.truncate(start);
+        match self.write(number, out) {
+            Ok(end) => {
+                out.truncate(end);
+                Ok(())
+            }
+            Err(fault) => {
+                out.truncate(start);
+                Err(fault)
+            }
         }
-        appended
     }
 }

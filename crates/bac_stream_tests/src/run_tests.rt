@@ -5,8 +5,8 @@ ghost use Rattle.std.specs.Prelude.{◌≤◌};
 use crate::expectations::{assert_holds, assert_same, assert_same_of};
 use crate::fakes::{CopyOctets, Drain, Feed, Troubled, Unending};
 use bac_record::{
-    Counted, Input, RunFault, StreamFault, Summary, front_record, push_decimal, push_hexadecimal,
-    push_signed_decimal, read_record, run, write_record, write_whole,
+    Counted, Input, RunFault, StreamFault, Summary, front_record, make_room, put_decimal,
+    put_hexadecimal, put_signed_decimal, read_record, run, write_record, write_whole,
 };
 use bac_tables::enclosed;
 use bac_tag::Why;
@@ -289,18 +289,37 @@ fn all_octets_are_written(rt: HostRuntime) {
     fits(&rt, 0, 0);
 }
 
+/// Behind three octets there is so much room, and they are as they were.
+fn has_room(rt: &impl Abort, alloc: Global, room: usize) {
+    let mut out = Vec::from_slice(alloc, b"abc").expect(rt, "memory");
+    make_room(&mut out, 3, room).expect(rt, "memory");
+    assert_holds(rt, out.len() >= 3 + room, room);
+    assert_holds(rt, out.starts_with(b"abc"), room);
+}
+
+#[test]
+fn room_is_made_at_each_size(rt: HostRuntime) {
+    has_room(&rt, rt.alloc(), 0);
+    has_room(&rt, rt.alloc(), 1);
+    has_room(&rt, rt.alloc(), 1_497);
+    has_room(&rt, rt.alloc(), 65_535);
+    has_room(&rt, rt.alloc(), 1_048_576);
+}
+
 /// The number in decimal digits.
 fn is_decimal(rt: &impl Abort, alloc: Global, number: u64, text: &str) {
     let mut out = Vec::new(alloc);
-    push_decimal(&mut out, number).expect(rt, "memory");
-    assert_same(rt, out.as_slice(), text.as_bytes());
+    make_room(&mut out, 0, 20).expect(rt, "memory");
+    let end = put_decimal(&mut out, 0, number);
+    assert_same(rt, &out[..end], text.as_bytes());
 }
 
 /// The signed number in decimal digits.
 fn is_signed_decimal(rt: &impl Abort, alloc: Global, number: i64, text: &str) {
     let mut out = Vec::new(alloc);
-    push_signed_decimal(&mut out, number).expect(rt, "memory");
-    assert_same(rt, out.as_slice(), text.as_bytes());
+    make_room(&mut out, 0, 21).expect(rt, "memory");
+    let end = put_signed_decimal(&mut out, 0, number);
+    assert_same(rt, &out[..end], text.as_bytes());
 }
 
 #[test]
@@ -324,8 +343,9 @@ fn numbers_are_decimal(rt: HostRuntime) {
 #[test]
 fn octets_are_hexadecimal(rt: HostRuntime) {
     let mut out = Vec::from_slice(rt.alloc(), b"x").expect(&rt, "memory");
-    push_hexadecimal(&mut out, &[0x00, 0x0F, 0xA9, 0xFF]).expect(&rt, "memory");
-    assert_same(&rt, out.as_slice(), b"x000FA9FF".as_slice());
+    make_room(&mut out, 1, 8).expect(&rt, "memory");
+    let end = put_hexadecimal(&mut out, 1, &[0x00, 0x0F, 0xA9, 0xFF]);
+    assert_same(&rt, &out[..end], b"x000FA9FF".as_slice());
 }
 
 // The laws are functions that do nothing: their contracts are what they say.

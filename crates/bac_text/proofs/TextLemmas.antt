@@ -1,9 +1,9 @@
 -- Texts that are appended one behind the other.
-use Rattle.std.proofs.Common.{◌≡◌, ℕ, ◌+◌, ◌<◌, ◌≤◌, List, [], ◌∷◌, ◌++◌, length, take, get_or, map, refl, sym, ap, ◌∙◌, append_assoc, append-nil, arith}
+use Rattle.std.proofs.Common.{◌≡◌, ℕ, ◌+◌, ◌<◌, List, [], ◌∷◌, ◌++◌, length, take, get_or, map, refl, sym, ap, ◌∙◌, append_assoc, append-nil, arith}
 use Rattle.std.proofs.Math.ListN.{set}
 use Rattle.std.proofs.lemmas.List.{take_more, take_more_set, take_at, map-append}
 use Rattle.std.proofs.lemmas.List.FromFn.{map-range_with_len_more}
-use Rattle.std.specs.Prelude.{Bool, true, false, codes, Result, Ok, Err, OnOk, OnErr}
+use Rattle.std.specs.Prelude.{Bool, true, false, codes, Result, Ok, Err, IfOk, OnErr}
 use Rattle.std.specs.Int.{from_bool}
 use Rattle.std.specs.List.{flat_map}
 use Rattle.bac_tag.specs.Octets.{Extends}
@@ -15,36 +15,28 @@ use Rattle.bac_text.specs.PrimitiveText.{bit_digit}
 pub appended : (old mid new a b : List ℕ) → mid ≡ old ++ a → new ≡ mid ++ b → new ≡ old ++ (a ++ b)
 appended old mid new a b p q = q ∙ ap (λ l. l ++ b) p ∙ append_assoc old a b
 
+-- the first text in room behind a place
+pub first_put : (at : ℕ) (old mid room new a : List ℕ) → take at mid ≡ take at old → room ≡ mid → new ≡ take at room ++ a → new ≡ take at old ++ a
+first_put at old mid room new a p e q = q ∙ ap (λ l. take at l ++ a) e ∙ ap (λ l. l ++ a) p
+
+-- what stands in the room stands in the vector
+pub in_room : (end n : ℕ) (room rest : List ℕ) → length room ≡ n → take end (take n (room ++ rest)) ≡ take end room
+in_room end n room rest len = ap (λ k. take end (take k (room ++ rest))) (sym len) ∙ ap (take end) (take_at room rest (length room) refl)
+
 -- the last of several texts, where the result of its call is handed on
-pub appended_last : {T E : Type 0} (r : Result T E) (old mid new a b : List ℕ) → mid ≡ old ++ a → OnOk r (new ≡ mid ++ b) → OnOk r (new ≡ old ++ (a ++ b))
-appended_last (Ok x) old mid new a b p q = appended old mid new a b p q
-appended_last (Err x) old mid new a b p q = tt
-
--- one octet more of a word, at a place
-pub word_step : (old room word : List ℕ) (at i : ℕ) → at + i < length room → i < length word → take (at + i) room ≡ old ++ take i word → take (at + (i + 1)) (set room (at + i) (get_or word i 0)) ≡ old ++ take (i + 1) word
-word_step old room word at i inside below p =
-    let behind : at + (i + 1) ≡ at + i + 1 = omega arith in
-    ap (λ k. take k (set room (at + i) (get_or word i 0))) behind ∙ take_more_set room (at + i) (get_or word i 0) inside ∙ ap (λ l. l ++ get_or word i 0 ∷ []) p
-    ∙ append_assoc old (take i word) (get_or word i 0 ∷ []) ∙ ap (λ l. old ++ l) (sym (take_more word i 0 below))
-
--- the first text in room behind what stood there
-pub first_put : (start : ℕ) (old before room new a : List ℕ) → take start before ≡ old → room ≡ before → new ≡ take start room ++ a → new ≡ old ++ a
-first_put start old before room new a p e q = q ∙ ap (λ l. take start l ++ a) e ∙ ap (λ l. l ++ a) p
-
--- what is left of the room is cut off
-pub cut : (e n : ℕ) (room behind new : List ℕ) → new ≡ take e (take n (room ++ behind)) → length room ≡ n → e ≤ n → new ≡ take e room
-cut e n room behind new p len within =
-    p ∙ ap (λ k. take e (take k (room ++ behind))) (sym len) ∙ ap (take e) (take_at room behind (length room) refl)
+pub written_last : {E : Type 0} (r : Result ℕ E) (old mid new a b : List ℕ) → mid ≡ old ++ a → IfOk r (λ end. take end new ≡ mid ++ b) → IfOk r (λ end. take end new ≡ old ++ (a ++ b))
+written_last (Ok end) old mid new a b p q = appended old mid (take end new) a b p q
+written_last (Err x) old mid new a b p q = tt
 
 -- a word, and what stands behind it
-pub behind_word : {T E : Type 0} (r : Result T E) (old mid named new a word b : List ℕ) → mid ≡ old ++ a → named ≡ mid ++ word → OnOk r (new ≡ named ++ b) → OnOk r (new ≡ old ++ (a ++ (word ++ b)))
-behind_word (Ok x) old mid named new a word b p q r =
+pub behind_word : {E : Type 0} (r : Result ℕ E) (old mid named new a word b : List ℕ) → mid ≡ old ++ a → named ≡ mid ++ word → IfOk r (λ end. take end new ≡ named ++ b) → IfOk r (λ end. take end new ≡ old ++ (a ++ (word ++ b)))
+behind_word (Ok end) old mid named new a word b p q r =
     r ∙ ap (λ l. l ++ b) (q ∙ ap (λ l. l ++ word) p) ∙ append_assoc (old ++ a) word b ∙ append_assoc old a (word ++ b)
 behind_word (Err x) old mid named new a word b p q r = tt
 
 -- the same text
-pub same_text : {T E : Type 0} (r : Result T E) (old new a b : List ℕ) → a ≡ b → OnOk r (new ≡ old ++ a) → OnOk r (new ≡ old ++ b)
-same_text (Ok x) old new a b e q = q ∙ ap (λ l. old ++ l) e
+pub same_text : {E : Type 0} (r : Result ℕ E) (old new a b : List ℕ) → a ≡ b → IfOk r (λ end. take end new ≡ old ++ a) → IfOk r (λ end. take end new ≡ old ++ b)
+same_text (Ok end) old new a b e q = q ∙ ap (λ l. old ++ l) e
 same_text (Err x) old new a b e q = tt
 
 -- the digit of a truth
@@ -72,9 +64,12 @@ flat_map-append f [] ys = refl
 flat_map-append f (x ∷ xs) ys = ap (λ l. f x ++ l) (flat_map-append f xs ys) ∙ sym (append_assoc (f x) (flat_map f xs) (flat_map f ys))
 
 -- one bit more
-pub bits_step : (old out new packed : List ℕ) (n d : ℕ) → d ≡ bit_digit (bit_in packed n) → out ≡ old ++ map bit_digit (bits_in packed n) → new ≡ out ++ d ∷ [] → new ≡ old ++ map bit_digit (bits_in packed (n + 1))
-bits_step old out new packed n d e p q =
-    q ∙ ap (λ k. out ++ k ∷ []) e ∙ ap (λ l. l ++ bit_digit (bit_in packed n) ∷ []) p ∙ append_assoc old (map bit_digit (bits_in packed n)) (bit_digit (bit_in packed n) ∷ [])
+pub bits_step : (old room packed : List ℕ) (at n d : ℕ) → at + n < length room → d ≡ bit_digit (bit_in packed n) → take (at + n) room ≡ old ++ map bit_digit (bits_in packed n)
+    → take (at + (n + 1)) (set room (at + n) d) ≡ old ++ map bit_digit (bits_in packed (n + 1))
+bits_step old room packed at n d inside e p =
+    let behind : at + (n + 1) ≡ at + n + 1 = omega arith in
+    ap (λ k. take k (set room (at + n) d)) behind ∙ take_more_set room (at + n) d inside ∙ ap (λ k. take (at + n) room ++ k ∷ []) e ∙ ap (λ l. l ++ bit_digit (bit_in packed n) ∷ []) p
+    ∙ append_assoc old (map bit_digit (bits_in packed n)) (bit_digit (bit_in packed n) ∷ [])
     ∙ ap (λ l. old ++ l) (sym (ap (map bit_digit) (map-range_with_len_more (bit_in packed) 0 n n (omega arith)) ∙ map-append bit_digit (bits_in packed n) (bit_in packed n ∷ [])))
 
 -- one item more behind a list

@@ -1,6 +1,6 @@
 //! The text of APDUs.
 
-use crate::texts::{HasText, push_short};
+use crate::texts::{HasText, write_short};
 use bac_apdu::Apdu;
 use bac_tag::OutOfMemory;
 
@@ -10,17 +10,17 @@ impl HasText for Apdu {
 
     ghost text = { λ apdu. apdu_text (value_of apdu) };
 
-    fn push_text(&self, out: &mut Vec<u8>) -> Result<(), OutOfMemory> {
+    fn write_text(&self, out: &mut Vec<u8>, at: usize) -> Result<usize, OutOfMemory> {
         match self {
-            Apdu::Confirmed(request) => request.push_text(out),
-            Apdu::Unconfirmed(request) => request.push_text(out),
-            Apdu::SimpleAck(ack) => push_short::<_, 48>(out, ack),
-            Apdu::ComplexAck(ack) => ack.push_text(out),
-            Apdu::SegmentAck(ack) => push_short::<_, 80>(out, ack),
-            Apdu::Error(answer) => answer.push_text(out),
-            Apdu::Reject(answer) => push_short::<_, 48>(out, answer),
-            Apdu::Abort(answer) => push_short::<_, 64>(out, answer),
-            Apdu::Segment(segment) => segment.push_text(out),
+            Apdu::Confirmed(request) => request.write_text(out, at),
+            Apdu::Unconfirmed(request) => request.write_text(out, at),
+            Apdu::SimpleAck(ack) => write_short(out, at, ack),
+            Apdu::ComplexAck(ack) => ack.write_text(out, at),
+            Apdu::SegmentAck(ack) => write_short(out, at, ack),
+            Apdu::Error(answer) => answer.write_text(out, at),
+            Apdu::Reject(answer) => write_short(out, at, answer),
+            Apdu::Abort(answer) => write_short(out, at, answer),
+            Apdu::Segment(segment) => segment.write_text(out, at),
         }
     }
 }

@@ -1,42 +1,48 @@
 //! The text of frames.
 
-ghost use Rattle.std.specs.Prelude.{◌≡◌, ◌++◌, ◌<◌, OnOk, OnErr};
+ghost use Rattle.std.specs.Prelude.{◌≡◌, ◌≤◌, ◌++◌, ◌<◌, IfOk, OnOk, OnErr, length, take};
 ghost use Rattle.bac_tag.specs.Octets.{Extends};
 ghost use Rattle.bac_npdu.specs.FrameHeads.{frame_with};
 ghost use Rattle.bac_npdu.specs.Frames.{body_value, value_of};
 ghost use Rattle.bac_text.specs.FrameText.{address_text, text};
 ghost use Rattle.bac_text.specs.Words.{field, number, truth};
 
-use crate::scalars::push_octets;
-use crate::texts::{HasText, push_field, push_named, push_optional};
+use crate::scalars::{write_digits, write_octets};
+use crate::texts::{HasText, write_field, write_named, write_optional, write_word};
 use bac_npdu::{Addressed, Body, DestRef, Frame, FrameHead};
-use bac_record::push_hexadecimal;
 use bac_tag::OutOfMemory;
 
-/// Appends the octets of an address, or `*` where it has none.
-fn push_address(out: &mut Vec<u8>, octets: &[u8]) -> Result<(), OutOfMemory>
-    ensures ok { OnOk result (out.new.items ≡ out.old.items ++ address_text octets.now) }
-    ensures err { OnErr result (Extends out.old.items out.new.items) }
+/// Writes the octets of an address, or `*` where it has none.
+fn write_address(out: &mut Vec<u8>, at: usize, octets: &[u8]) -> Result<usize, OutOfMemory>
+    requires { at ≤ length out.old.items }
+    ensures text { IfOk result (λ end. take end out.new.items ≡ take at out.old.items ++ address_text octets.now) }
+    ensures end { IfOk result (λ end. end ≤ length out.new.items) }
+    ensures err { OnErr result (Extends (take at out.old.items) out.new.items) }
 {
     if octets.is_empty() {
-        out.push(b'*')?;
-        return Ok(());
+        return write_word(out, at, b"*");
     }
-    push_hexadecimal(out, octets)
+    write_digits(out, at, octets)
 }
 
-/// Appends `prio=P reply=R`, with which every line begins, at once.
+/// Writes `prio=P reply=R`, with which every line begins, at once.
 #[inline(always)]
-fn push_control(out: &mut Vec<u8>, priority: u8, reply: bool) -> Result<(), OutOfMemory>
-    requires { priority < 10 }
-    ensures ok { OnOk result (out.new.items ≡ out.old.items ++ (field "prio=" (number priority) ++ field " reply=" (truth reply))) }
-    ensures err { OnErr result (Extends out.old.items out.new.items) }
+fn write_control(
+    out: &mut Vec<u8>,
+    at: usize,
+    priority: u8,
+    reply: bool,
+) -> Result<usize, OutOfMemory>
+    requires place { at ≤ length out.old.items }
+    requires priority { priority < 10 }
+    ensures text { IfOk result (λ end. take end out.new.items ≡ take at out.old.items ++ (field "prio=" (number priority) ++ field " reply=" (truth reply))) }
+    ensures end { IfOk result (λ end. end ≤ length out.new.items) }
+    ensures err { OnErr result (Extends (take at out.old.items) out.new.items) }
 {
     let mut text = *b"prio=P reply=R";
     text[5] = b'0' + priority;
     text[13] = b'0' + u8::from(reply);
-    out.extend_from_slice(&text)?;
-    Ok(())
+    write_word(out, at, &text)
 }
 
 /// `NET/HEX`.
@@ -45,9 +51,9 @@ impl HasText for Addressed<'_> {
 
     ghost text = { λ from. source_text (record { network = from.network; address = from.address.now }) };
 
-    fn push_text(&self, out: &mut Vec<u8>) -> Result<(), OutOfMemory> {
-        self.network.push_text(out)?;
-        push_octets(out, b"/", self.address)
+    fn write_text(&self, out: &mut Vec<u8>, at: usize) -> Result<usize, OutOfMemory> {
+        let end = self.network.write_text(out, at)?;
+        write_octets(out, end, b"/", self.address)
     }
 }
 
@@ -57,11 +63,11 @@ impl HasText for DestRef<'_> {
 
     ghost text = { λ to. destination_text (record { network = to.network; address = to.address.now; hops = to.hops }) };
 
-    fn push_text(&self, out: &mut Vec<u8>) -> Result<(), OutOfMemory> {
-        self.network.push_text(out)?;
-        out.push(b'/')?;
-        push_address(out, self.address)?;
-        push_named::<_, _, 32>(out, b" hops=", &self.hops)
+    fn write_text(&self, out: &mut Vec<u8>, at: usize) -> Result<usize, OutOfMemory> {
+        let end = self.network.write_text(out, at)?;
+        let end = write_word(out, end, b"/")?;
+        let end = write_address(out, end, self.address)?;
+        write_named(out, end, b" hops=", &self.hops)
     }
 }
 
@@ -71,44 +77,34 @@ impl HasText for Body {
 
     ghost text = { λ body. body_text (body_value body) };
 
-    fn push_text(&self, out: &mut Vec<u8>) -> Result<(), OutOfMemory> {
+    fn write_text(&self, out: &mut Vec<u8>, at: usize) -> Result<usize, OutOfMemory> {
         match self {
-            Body::Apdu(apdu) => apdu.push_text(out),
-            Body::Net(message) => message.push_text(out),
+            Body::Apdu(apdu) => apdu.write_text(out, at),
+            Body::Net(message) => message.write_text(out, at),
         }
     }
 }
 
-/// Appends `prio=P reply=R [dest=NET/ADR hops=H] [src=NET/HEX]` and the body. Where memory is refused some of it may be
-/// there.
-fn push_parts(head: &FrameHead<'_>, body: &Body, out: &mut Vec<u8>) -> Result<(), OutOfMemory>
-    ensures ok { OnOk result (out.new.items ≡ out.old.items ++ text (frame_with head.now (body_value body.now))) }
-    ensures err { OnErr result (Extends out.old.items out.new.items) }
-{
-    push_control(out, head.priority().number(), head.reply())?;
-    push_optional(out, b" dest=", &head.destination())?;
-    push_optional(out, b" src=", &head.source())?;
-    push_field(out, b" ", body)
-}
-
-/// Appends the text of the frame with this head and this body, as [`append_text`] does of a frame.
+/// Writes the text of the frame with this head and this body, which [`append_text`] describes, at a place of the vector,
+/// and returns where it ends. The vector is made longer where it has too little room; behind the end anything may stand.
 ///
 /// # Errors
-/// `OutOfMemory` where memory is refused. `out` then stays as it was.
-pub fn append_text_of(
+/// `OutOfMemory` where memory is refused. Some of the text may then be there.
+pub fn write_text_of(
     head: &FrameHead<'_>,
     body: &Body,
     out: &mut Vec<u8>,
-) -> Result<(), OutOfMemory>
-    ensures written { OnOk result (out.new.items ≡ out.old.items ++ text (frame_with head.now (body_value body.now))) }
-    ensures unchanged { OnErr result (out.new.items ≡ out.old.items) }
+    at: usize,
+) -> Result<usize, OutOfMemory>
+    requires { at ≤ length out.old.items }
+    ensures text { IfOk result (λ end. take end out.new.items ≡ take at out.old.items ++ text (frame_with head.now (body_value body.now))) }
+    ensures end { IfOk result (λ end. end ≤ length out.new.items) }
+    ensures err { OnErr result (Extends (take at out.old.items) out.new.items) }
 {
-    let start = out.len();
-    let appended = push_parts(head, body, out);
-    if appended.is_err() {
-        out.truncate(start);
-    }
-    appended
+    let end = write_control(out, at, head.priority().number(), head.reply())?;
+    let end = write_optional(out, end, b" dest=", &head.destination())?;
+    let end = write_optional(out, end, b" src=", &head.source())?;
+    write_field(out, end, b" ", body)
 }
 
 /// Appends the text of a frame, without a line feed behind it:
@@ -135,5 +131,15 @@ pub fn append_text(frame: &Frame, out: &mut Vec<u8>) -> Result<(), OutOfMemory>
     ensures written { OnOk result (out.new.items ≡ out.old.items ++ text (value_of frame.now)) }
     ensures unchanged { OnErr result (out.new.items ≡ out.old.items) }
 {
-    append_text_of(&frame.head(), &frame.body, out)
+    let start = out.len();
+    match write_text_of(&frame.head(), &frame.body, out, start) {
+        Ok(end) => {
+            out.truncate(end);
+            Ok(())
+        }
+        Err(fault) => {
+            out.truncate(start);
+            Err(fault)
+        }
+    }
 }

@@ -1,11 +1,11 @@
 //! The text of network messages.
 
-use crate::messages::networks::{push_networks, push_who_is_router};
+use crate::messages::networks::{write_networks, write_who_is_router};
 use crate::messages::single_numbers::{
-    push_connection, push_disconnect, push_network_number, push_performance, push_reject,
-    push_what_is_network_number,
+    write_connection, write_disconnect, write_network_number, write_performance, write_reject,
+    write_what_is_network_number,
 };
-use crate::messages::tables::{push_table, push_table_ack};
+use crate::messages::tables::{write_table, write_table_ack};
 use crate::texts::HasText;
 use bac_npdu::NetMessage;
 use bac_tag::OutOfMemory;
@@ -22,26 +22,33 @@ impl HasText for NetMessage {
 
     ghost text = { λ message. message_text (message_value message) };
 
-    fn push_text(&self, out: &mut Vec<u8>) -> Result<(), OutOfMemory> {
+    fn write_text(&self, out: &mut Vec<u8>, at: usize) -> Result<usize, OutOfMemory> {
         match self {
-            NetMessage::WhoIsRouter(network) => push_who_is_router(out, network),
-            NetMessage::IAmRouter(networks) => push_networks(out, b"net type=01", networks),
+            NetMessage::WhoIsRouter(network) => write_who_is_router(out, at, network),
+            NetMessage::IAmRouter(networks) => write_networks(out, at, b"net type=01", networks),
             NetMessage::ICouldBeRouter {
                 network,
                 performance,
-            } => push_performance(out, *network, *performance),
-            NetMessage::RejectMessage { reason, network } => push_reject(out, *reason, *network),
-            NetMessage::RouterBusy(networks) => push_networks(out, b"net type=04", networks),
-            NetMessage::RouterAvailable(networks) => push_networks(out, b"net type=05", networks),
-            NetMessage::InitTable(ports) => push_table(out, ports),
-            NetMessage::InitTableAck(ports) => push_table_ack(out, ports),
-            NetMessage::Establish { network, time } => push_connection(out, *network, *time),
-            NetMessage::Disconnect(network) => push_disconnect(out, *network),
-            NetMessage::WhatIsNetworkNumber => push_what_is_network_number(out),
+            } => write_performance(out, at, *network, *performance),
+            NetMessage::RejectMessage { reason, network } => write_reject(
+                out, at, *reason, *network,
+            ),
+            NetMessage::RouterBusy(networks) => write_networks(out, at, b"net type=04", networks),
+            NetMessage::RouterAvailable(networks) => write_networks(
+                out,
+                at,
+                b"net type=05",
+                networks,
+            ),
+            NetMessage::InitTable(ports) => write_table(out, at, ports),
+            NetMessage::InitTableAck(ports) => write_table_ack(out, at, ports),
+            NetMessage::Establish { network, time } => write_connection(out, at, *network, *time),
+            NetMessage::Disconnect(network) => write_disconnect(out, at, *network),
+            NetMessage::WhatIsNetworkNumber => write_what_is_network_number(out, at),
             NetMessage::NetworkNumberIs { network, flag } => {
-                push_network_number(out, *network, *flag)
+                write_network_number(out, at, *network, *flag)
             }
-            NetMessage::Opaque(message) => message.push_text(out),
+            NetMessage::Opaque(message) => message.write_text(out, at),
         }
     }
 }

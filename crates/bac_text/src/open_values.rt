@@ -1,28 +1,17 @@
 //! The text of open values.
 
-ghost use Rattle.std.specs.Prelude.{◌≡◌, ◌≤◌, ◌+◌, ◌++◌, OnOk, OnErr, length, take};
+ghost use Rattle.std.specs.Prelude.{◌≡◌, ◌≤◌, ◌+◌, ◌++◌, IfOk, OnErr, length, take};
 ghost use Rattle.bac_tag.specs.Octets.{Extends};
 ghost use Rattle.bac_data.specs.Walks.{event_of, IsPackedStep};
 ghost use Rattle.bac_text.specs.Words.{field, number};
 ghost use Rattle.bac_text.specs.WalkText.{blank, event_text, begins_group};
 
-use crate::primitives::push_primitive;
-use crate::texts::{HasText, put_field, put_word};
+use crate::primitives::write_primitive;
+use crate::scalars::write_digits;
+use crate::texts::{HasText, ROOM, put_field, write_word};
 use bac_data::{Any, Event};
-use bac_record::{add_room, push_hexadecimal};
+use bac_record::{make_room, put_word};
 use bac_tag::OutOfMemory;
-
-/// Appends a blank, unless what follows is the first of its group.
-#[inline]
-fn push_blank(out: &mut Vec<u8>, first: bool) -> Result<(), OutOfMemory>
-    ensures ok { OnOk result (out.new.items ≡ out.old.items ++ blank first) }
-    ensures err { OnErr result (Extends out.old.items out.new.items) }
-{
-    if !first {
-        out.push(b' ')?;
-    }
-    Ok(())
-}
 
 /// Writes a blank at a place, unless what follows is the first of its group. Returns where it ends.
 #[inline(always)]
@@ -37,47 +26,54 @@ fn put_blank(room: &mut [u8], at: usize, first: bool) -> usize
     put_word(room, at, b" ")
 }
 
-/// Appends a blank, unless what follows is the first of its group, `[N` of a number, and what stands behind it.
+/// Writes a blank, unless what follows is the first of its group, `[N` of a number, and what stands behind it.
 #[inline(always)]
-fn push_tag<const N: usize>(
+fn write_tag<const N: usize>(
     out: &mut Vec<u8>,
+    at: usize,
     first: bool,
     tag: u8,
     behind: &[u8; N],
-) -> Result<(), OutOfMemory>
-    requires { N ≤ 2 }
-    ensures ok { OnOk result (out.new.items ≡ out.old.items ++ (blank first ++ (field "[" (number tag) ++ behind.now))) }
-    ensures err { OnErr result (Extends out.old.items out.new.items) }
+) -> Result<usize, OutOfMemory>
+    requires place { at ≤ length out.old.items }
+    requires few { N ≤ 2 }
+    ensures text { IfOk result (λ end. take end out.new.items ≡ take at out.old.items ++ (blank first ++ (field "[" (number tag) ++ behind.now))) }
+    ensures end { IfOk result (λ end. end ≤ length out.new.items) }
+    ensures err { OnErr result (Extends (take at out.old.items) out.new.items) }
 {
-    let start = add_room::<32>(out)?;
+    make_room(out, at, ROOM)?;
     let room = out.as_mut_slice();
-    let end = put_blank(room, start, first);
+    let end = put_blank(room, at, first);
     let end = put_field(room, end, b"[", &tag);
-    let end = put_word(room, end, behind);
-    out.truncate(end);
-    Ok(())
+    Ok(put_word(room, end, behind))
 }
 
-/// Appends what one event adds.
-fn push_event(out: &mut Vec<u8>, first: bool, event: &Event<'_>) -> Result<(), OutOfMemory>
-    requires { IsPackedStep event.now }
-    ensures ok { OnOk result (out.new.items ≡ out.old.items ++ event_text first (event_of event.now)) }
-    ensures err { OnErr result (Extends out.old.items out.new.items) }
+/// Writes what one event adds.
+#[inline(always)]
+fn write_event(
+    out: &mut Vec<u8>,
+    at: usize,
+    first: bool,
+    event: &Event<'_>,
+) -> Result<usize, OutOfMemory>
+    requires place { at ≤ length out.old.items }
+    requires packed { IsPackedStep event.now }
+    ensures text { IfOk result (λ end. take end out.new.items ≡ take at out.old.items ++ event_text first (event_of event.now)) }
+    ensures end { IfOk result (λ end. end ≤ length out.new.items) }
+    ensures err { OnErr result (Extends (take at out.old.items) out.new.items) }
 {
     match event {
         Event::App(prim) => {
-            push_blank(out, first)?;
-            push_primitive(out, prim)
+            make_room(out, at, ROOM)?;
+            let end = put_blank(out.as_mut_slice(), at, first);
+            write_primitive(out, end, prim)
         }
         Event::Ctx(tag, octets) => {
-            push_tag(out, first, *tag, b"]")?;
-            push_hexadecimal(out, octets)
+            let end = write_tag(out, at, first, *tag, b"]")?;
+            write_digits(out, end, octets)
         }
-        Event::Open(tag) => push_tag(out, first, *tag, b"]{"),
-        Event::Close(_) => {
-            out.push(b'}')?;
-            Ok(())
-        }
+        Event::Open(tag) => write_tag(out, at, first, *tag, b"]{"),
+        Event::Close(_) => write_word(out, at, b"}"),
     }
 }
 
@@ -96,15 +92,14 @@ impl HasText for Any {
 
     ghost text = { open_text };
 
-    fn push_text(&self, out: &mut Vec<u8>) -> Result<(), OutOfMemory> {
-        out.push(b'{')?;
+    fn write_text(&self, out: &mut Vec<u8>, at: usize) -> Result<usize, OutOfMemory> {
+        let mut end = write_word(out, at, b"{")?;
         let mut first = true;
         for event in self.events() {
             let begins = begins_group(&event);
-            push_event(out, first, &event)?;
+            end = write_event(out, end, first, &event)?;
             first = begins;
         }
-        out.push(b'}')?;
-        Ok(())
+        write_word(out, end, b"}")
     }
 }

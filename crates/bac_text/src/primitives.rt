@@ -1,6 +1,7 @@
 //! The text of primitive values.
 
-ghost use Rattle.std.specs.Prelude.{◌≡◌, ◌<◌, ◌/◌, ◌++◌, length, codes, map, if◌then◌else◌, OnOk, OnErr};
+ghost use Rattle.std.specs.Prelude.{◌≡◌, ◌<◌, ◌≤◌, ◌+◌, ◌/◌, ◌++◌, length, take, codes, map, if◌then◌else◌, IfOk, OnErr};
+ghost use Rattle.std.specs.Fmt.{signed_decimal};
 ghost use Rattle.std.specs.Int.{w64, to_be_bytes};
 ghost use Rattle.std.specs.List.{list_all};
 ghost use Rattle.std.specs.Str.{is_utf8};
@@ -8,11 +9,12 @@ ghost use Rattle.bac_tag.specs.Octets.{Extends};
 ghost use Rattle.bac_value.specs.BitsContents.{bits_in, bit_in, IsPacked};
 ghost use Rattle.bac_value.specs.PrimRefValue.{prim_of, IsPackedRef};
 ghost use Rattle.bac_record.specs.Digits.{hexadecimal};
+ghost use Rattle.bac_text.specs.Words.{field};
 ghost use Rattle.bac_text.specs.PrimitiveText.{is_plain_octet, is_plain, string_text, bit_digit, primitive_text};
 
-use crate::scalars::{push_few_octets, push_octets};
-use crate::texts::{push_field, push_named, push_word};
-use bac_record::push_signed_decimal;
+use crate::scalars::{write_few_octets, write_octets};
+use crate::texts::{ROOM, write_field, write_named, write_word};
+use bac_record::{make_room, put_octets, put_signed_decimal, put_word};
 use bac_tag::OutOfMemory;
 use bac_value::{Boolean, Null, PrimRef};
 
@@ -45,19 +47,32 @@ fn is_plain(set: u8, octets: &[u8]) -> bool
     set == 0 && are_plain_octets(octets) && is_utf8(octets)
 }
 
-/// Appends `s:"TEXT"` where the octets of the text are plain, or `sSET:OCTETS`.
-fn push_string(out: &mut Vec<u8>, set: u8, octets: &[u8]) -> Result<(), OutOfMemory>
-    ensures ok { OnOk result (out.new.items ≡ out.old.items ++ string_text (record { set = set; octets = octets.now })) }
-    ensures err { OnErr result (Extends out.old.items out.new.items) }
+/// Writes `s:"TEXT"` with these octets.
+fn write_quoted(out: &mut Vec<u8>, at: usize, octets: &[u8]) -> Result<usize, OutOfMemory>
+    requires { at ≤ length out.old.items }
+    ensures text { IfOk result (λ end. take end out.new.items ≡ take at out.old.items ++ (field "s:\"" octets.now ++ codes "\"")) }
+    ensures end { IfOk result (λ end. end ≤ length out.new.items) }
+    ensures err { OnErr result (Extends (take at out.old.items) out.new.items) }
+{
+    make_room(out, at, octets.len() + ROOM)?;
+    let room = out.as_mut_slice();
+    let end = put_word(room, at, b"s:\"");
+    let end = put_octets(room, end, octets);
+    Ok(put_word(room, end, b"\""))
+}
+
+/// Writes `s:"TEXT"` where the octets of the text are plain, or `sSET:OCTETS`.
+fn write_string(out: &mut Vec<u8>, at: usize, set: u8, octets: &[u8]) -> Result<usize, OutOfMemory>
+    requires { at ≤ length out.old.items }
+    ensures text { IfOk result (λ end. take end out.new.items ≡ take at out.old.items ++ string_text (record { set = set; octets = octets.now })) }
+    ensures end { IfOk result (λ end. end ≤ length out.new.items) }
+    ensures err { OnErr result (Extends (take at out.old.items) out.new.items) }
 {
     if is_plain(set, octets) {
-        push_word(out, b"s:\"")?;
-        out.extend_from_slice(octets)?;
-        out.push(b'"')?;
-        Ok(())
+        write_quoted(out, at, octets)
     } else {
-        push_named::<_, _, 32>(out, b"s", &set)?;
-        push_octets(out, b":", octets)
+        let end = write_named(out, at, b"s", &set)?;
+        write_octets(out, end, b":", octets)
     }
 }
 
@@ -74,70 +89,109 @@ fn bit_digit(packed: &[u8], place: usize) -> u8
     }
 }
 
-/// Appends `b:` and a digit for each of so many bits.
-fn push_bits(out: &mut Vec<u8>, packed: &[u8], count: usize) -> Result<(), OutOfMemory>
-    requires { IsPacked count packed.now }
-    ensures ok { OnOk result (out.new.items ≡ out.old.items ++ (codes "b:" ++ map bit_digit (bits_in packed.now count))) }
-    ensures err { OnErr result (Extends out.old.items out.new.items) }
+/// Writes a digit for each of so many bits at a place. Returns where they end.
+fn put_bits(room: &mut [u8], at: usize, packed: &[u8], count: usize) -> usize
+    requires packed { IsPacked count packed.now }
+    requires room { at + count ≤ length room.old }
+    ensures text { take result room.new ≡ take at room.old ++ map bit_digit (bits_in packed.now count) }
+    ensures end { result ≡ at + count }
 {
-    push_word(out, b"b:")?;
-    out.reserve(count)?;
     for place in 0..count {
-        out.push(bit_digit(packed, place))?;
+        room[at + place] = bit_digit(packed, place);
     }
-    Ok(())
+    at + count
 }
 
-/// Appends the word for Null.
-fn push_null(out: &mut Vec<u8>, _null: Null) -> Result<(), OutOfMemory>
-    ensures ok { OnOk result (out.new.items ≡ out.old.items ++ codes "null") }
-    ensures err { OnErr result (Extends out.old.items out.new.items) }
+/// Writes `b:` and a digit for each of so many bits.
+fn write_bits(
+    out: &mut Vec<u8>,
+    at: usize,
+    packed: &[u8],
+    count: usize,
+) -> Result<usize, OutOfMemory>
+    requires place { at ≤ length out.old.items }
+    requires packed { IsPacked count packed.now }
+    ensures text { IfOk result (λ end. take end out.new.items ≡ take at out.old.items ++ (codes "b:" ++ map bit_digit (bits_in packed.now count))) }
+    ensures end { IfOk result (λ end. end ≤ length out.new.items) }
+    ensures err { OnErr result (Extends (take at out.old.items) out.new.items) }
 {
-    push_word(out, b"null")
+    let end = write_word(out, at, b"b:")?;
+    make_room(out, end, count)?;
+    Ok(put_bits(out.as_mut_slice(), end, packed, count))
 }
 
-/// Appends `true` or `false`.
-fn push_boolean(out: &mut Vec<u8>, value: Boolean) -> Result<(), OutOfMemory>
-    ensures ok { OnOk result (out.new.items ≡ out.old.items ++ (if value.0 then codes "true" else codes "false")) }
-    ensures err { OnErr result (Extends out.old.items out.new.items) }
+/// Writes `i:` and a signed number.
+fn write_signed(out: &mut Vec<u8>, at: usize, number: i64) -> Result<usize, OutOfMemory>
+    requires { at ≤ length out.old.items }
+    ensures text { IfOk result (λ end. take end out.new.items ≡ take at out.old.items ++ (codes "i:" ++ signed_decimal number)) }
+    ensures end { IfOk result (λ end. end ≤ length out.new.items) }
+    ensures err { OnErr result (Extends (take at out.old.items) out.new.items) }
+{
+    make_room(out, at, ROOM)?;
+    let room = out.as_mut_slice();
+    let end = put_word(room, at, b"i:");
+    Ok(put_signed_decimal(room, end, number))
+}
+
+/// Writes the word for Null.
+fn write_null(out: &mut Vec<u8>, at: usize, _null: Null) -> Result<usize, OutOfMemory>
+    requires { at ≤ length out.old.items }
+    ensures text { IfOk result (λ end. take end out.new.items ≡ take at out.old.items ++ codes "null") }
+    ensures end { IfOk result (λ end. end ≤ length out.new.items) }
+    ensures err { OnErr result (Extends (take at out.old.items) out.new.items) }
+{
+    write_word(out, at, b"null")
+}
+
+/// Writes `true` or `false`.
+fn write_boolean(out: &mut Vec<u8>, at: usize, value: Boolean) -> Result<usize, OutOfMemory>
+    requires { at ≤ length out.old.items }
+    ensures text { IfOk result (λ end. take end out.new.items ≡ take at out.old.items ++ (if value.0 then codes "true" else codes "false")) }
+    ensures end { IfOk result (λ end. end ≤ length out.new.items) }
+    ensures err { OnErr result (Extends (take at out.old.items) out.new.items) }
 {
     if value.0 {
-        push_word(out, b"true")
+        write_word(out, at, b"true")
     } else {
-        push_word(out, b"false")
+        write_word(out, at, b"false")
     }
 }
 
-/// Appends the bits of a Double.
-fn push_double(out: &mut Vec<u8>, bits: u64) -> Result<(), OutOfMemory>
-    ensures ok { OnOk result (out.new.items ≡ out.old.items ++ (codes "d:" ++ hexadecimal (to_be_bytes w64 bits))) }
-    ensures err { OnErr result (Extends out.old.items out.new.items) }
+/// Writes the bits of a Double.
+fn write_double(out: &mut Vec<u8>, at: usize, bits: u64) -> Result<usize, OutOfMemory>
+    requires { at ≤ length out.old.items }
+    ensures text { IfOk result (λ end. take end out.new.items ≡ take at out.old.items ++ (codes "d:" ++ hexadecimal (to_be_bytes w64 bits))) }
+    ensures end { IfOk result (λ end. end ≤ length out.new.items) }
+    ensures err { OnErr result (Extends (take at out.old.items) out.new.items) }
 {
-    push_few_octets(out, b"d:", &bits.to_be_bytes())
+    write_few_octets(out, at, b"d:", &bits.to_be_bytes())
 }
 
-/// Appends a primitive value: its type as a letter, a colon, and its value.
-pub(crate) fn push_primitive(out: &mut Vec<u8>, prim: &PrimRef<'_>) -> Result<(), OutOfMemory>
-    requires { IsPackedRef prim.now }
-    ensures ok { OnOk result (out.new.items ≡ out.old.items ++ primitive_text (prim_of prim.now)) }
-    ensures err { OnErr result (Extends out.old.items out.new.items) }
+/// Writes a primitive value: its type as a letter, a colon, and its value.
+pub(crate) fn write_primitive(
+    out: &mut Vec<u8>,
+    at: usize,
+    prim: &PrimRef<'_>,
+) -> Result<usize, OutOfMemory>
+    requires place { at ≤ length out.old.items }
+    requires packed { IsPackedRef prim.now }
+    ensures text { IfOk result (λ end. take end out.new.items ≡ take at out.old.items ++ primitive_text (prim_of prim.now)) }
+    ensures end { IfOk result (λ end. end ≤ length out.new.items) }
+    ensures err { OnErr result (Extends (take at out.old.items) out.new.items) }
 {
     match prim {
-        PrimRef::Null(null) => push_null(out, *null),
-        PrimRef::Boolean(value) => push_boolean(out, *value),
-        PrimRef::Unsigned(value) => push_field(out, b"u:", &value.0),
-        PrimRef::Signed(value) => {
-            push_word(out, b"i:")?;
-            push_signed_decimal(out, value.0)
-        }
-        PrimRef::RealBits(value) => push_few_octets(out, b"r:", &value.0.to_be_bytes()),
-        PrimRef::DoubleBits(value) => push_double(out, value.0),
-        PrimRef::Octets(octets) => push_octets(out, b"o:", octets),
-        PrimRef::Text { set, octets } => push_string(out, *set, octets),
-        PrimRef::Bits { count, packed } => push_bits(out, packed, *count),
-        PrimRef::Enumerated(value) => push_named::<_, _, 32>(out, b"e:", value),
-        PrimRef::Date(value) => push_few_octets(out, b"D:", &value.0),
-        PrimRef::Time(value) => push_few_octets(out, b"T:", &value.0),
-        PrimRef::ObjectId(object) => push_named::<_, _, 48>(out, b"id:", object),
+        PrimRef::Null(null) => write_null(out, at, *null),
+        PrimRef::Boolean(value) => write_boolean(out, at, *value),
+        PrimRef::Unsigned(value) => write_field(out, at, b"u:", &value.0),
+        PrimRef::Signed(value) => write_signed(out, at, value.0),
+        PrimRef::RealBits(value) => write_few_octets(out, at, b"r:", &value.0.to_be_bytes()),
+        PrimRef::DoubleBits(value) => write_double(out, at, value.0),
+        PrimRef::Octets(octets) => write_octets(out, at, b"o:", octets),
+        PrimRef::Text { set, octets } => write_string(out, at, *set, octets),
+        PrimRef::Bits { count, packed } => write_bits(out, at, packed, *count),
+        PrimRef::Enumerated(value) => write_named(out, at, b"e:", value),
+        PrimRef::Date(value) => write_few_octets(out, at, b"D:", &value.0),
+        PrimRef::Time(value) => write_few_octets(out, at, b"T:", &value.0),
+        PrimRef::ObjectId(object) => write_named(out, at, b"id:", object),
     }
 }

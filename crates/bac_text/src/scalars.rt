@@ -1,46 +1,66 @@
 //! The text of numbers, truth values, octets and objects.
 
-ghost use Rattle.std.specs.Prelude.{◌≡◌, ◌≤◌, ◌++◌, OnOk, OnErr};
+ghost use Rattle.std.specs.Prelude.{◌≡◌, ◌≤◌, ◌++◌, IfOk, OnErr, length, take};
 ghost use Rattle.bac_tag.specs.Octets.{Extends};
 ghost use Rattle.bac_record.specs.Digits.{hexadecimal};
 
-use crate::texts::{HasShortText, HasText, push_short, push_word, put_field, put_word};
-use bac_record::{add_room, push_decimal, push_hexadecimal, put_decimal, put_hexadecimal};
+use crate::texts::{HasShortText, HasText, ROOM, put_field, write_short, write_word};
+use bac_record::{make_room, put_decimal, put_hexadecimal, put_word};
 use bac_tag::OutOfMemory;
 use bac_value::{Enumerated, Instance, ObjectId, Priority, Unsigned16, Unsigned32};
 
-/// Appends a name, and two digits for each octet.
-#[inline(always)]
-pub(crate) fn push_octets<const N: usize>(
+/// Writes two digits for each octet.
+#[inline]
+pub(crate) fn write_digits(
     out: &mut Vec<u8>,
-    name: &[u8; N],
+    at: usize,
     octets: &[u8],
-) -> Result<(), OutOfMemory>
-    ensures ok { OnOk result (out.new.items ≡ out.old.items ++ (name.now ++ hexadecimal octets.now)) }
-    ensures err { OnErr result (Extends out.old.items out.new.items) }
+) -> Result<usize, OutOfMemory>
+    requires { at ≤ length out.old.items }
+    ensures text { IfOk result (λ end. take end out.new.items ≡ take at out.old.items ++ hexadecimal octets.now) }
+    ensures end { IfOk result (λ end. end ≤ length out.new.items) }
+    ensures err { OnErr result (Extends (take at out.old.items) out.new.items) }
 {
-    push_word(out, name)?;
-    push_hexadecimal(out, octets)
+    make_room(out, at, 2 * octets.len())?;
+    Ok(put_hexadecimal(out.as_mut_slice(), at, octets))
 }
 
-/// Appends a name, and two digits for each octet of a few, at most sixteen.
+/// Writes a name, and two digits for each octet.
 #[inline(always)]
-pub(crate) fn push_few_octets<const N: usize, const M: usize>(
+pub(crate) fn write_octets<const N: usize>(
     out: &mut Vec<u8>,
+    at: usize,
+    name: &[u8; N],
+    octets: &[u8],
+) -> Result<usize, OutOfMemory>
+    requires { at ≤ length out.old.items }
+    ensures text { IfOk result (λ end. take end out.new.items ≡ take at out.old.items ++ (name.now ++ hexadecimal octets.now)) }
+    ensures end { IfOk result (λ end. end ≤ length out.new.items) }
+    ensures err { OnErr result (Extends (take at out.old.items) out.new.items) }
+{
+    let end = write_word(out, at, name)?;
+    write_digits(out, end, octets)
+}
+
+/// Writes a name, and two digits for each octet of a few, at most sixteen.
+#[inline(always)]
+pub(crate) fn write_few_octets<const N: usize, const M: usize>(
+    out: &mut Vec<u8>,
+    at: usize,
     name: &[u8; N],
     octets: &[u8; M],
-) -> Result<(), OutOfMemory>
+) -> Result<usize, OutOfMemory>
+    requires place { at ≤ length out.old.items }
     requires name { N ≤ 16 }
     requires few { M ≤ 16 }
-    ensures ok { OnOk result (out.new.items ≡ out.old.items ++ (name.now ++ hexadecimal octets.now)) }
-    ensures err { OnErr result (Extends out.old.items out.new.items) }
+    ensures text { IfOk result (λ end. take end out.new.items ≡ take at out.old.items ++ (name.now ++ hexadecimal octets.now)) }
+    ensures end { IfOk result (λ end. end ≤ length out.new.items) }
+    ensures err { OnErr result (Extends (take at out.old.items) out.new.items) }
 {
-    let start = add_room::<48>(out)?;
+    make_room(out, at, ROOM)?;
     let room = out.as_mut_slice();
-    let end = put_word(room, start, name);
-    let end = put_hexadecimal(room, end, octets);
-    out.truncate(end);
-    Ok(())
+    let end = put_word(room, at, name);
+    Ok(put_hexadecimal(room, end, octets))
 }
 
 impl HasShortText for u8 {
@@ -88,8 +108,8 @@ impl HasText for u16 {
     ghost text = { number };
 
     #[inline(always)]
-    fn push_text(&self, out: &mut Vec<u8>) -> Result<(), OutOfMemory> {
-        push_short::<_, 20>(out, self)
+    fn write_text(&self, out: &mut Vec<u8>, at: usize) -> Result<usize, OutOfMemory> {
+        write_short(out, at, self)
     }
 }
 
@@ -99,8 +119,9 @@ impl HasText for u64 {
     ghost text = { number };
 
     #[inline(always)]
-    fn push_text(&self, out: &mut Vec<u8>) -> Result<(), OutOfMemory> {
-        push_decimal(out, *self)
+    fn write_text(&self, out: &mut Vec<u8>, at: usize) -> Result<usize, OutOfMemory> {
+        make_room(out, at, ROOM)?;
+        Ok(put_decimal(out.as_mut_slice(), at, *self))
     }
 }
 

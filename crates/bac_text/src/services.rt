@@ -1,6 +1,6 @@
 //! The text of services.
 
-use crate::texts::{HasText, push_short};
+use crate::texts::{HasText, write_short};
 use bac_service::Service;
 use bac_tag::OutOfMemory;
 
@@ -22,21 +22,21 @@ impl HasText for Service {
 
     ghost text = { λ service. service_text (value_of service) };
 
-    fn push_text(&self, out: &mut Vec<u8>) -> Result<(), OutOfMemory> {
+    fn write_text(&self, out: &mut Vec<u8>, at: usize) -> Result<usize, OutOfMemory> {
         match self {
-            Service::ReadProperty(request) => push_short::<_, 96>(out, request),
-            Service::ReadPropertyAck(ack) => ack.push_text(out),
-            Service::WriteProperty(request) => request.push_text(out),
-            Service::ReadPropertyMultiple(request) => request.push_text(out),
-            Service::ReadPropertyMultipleAck(ack) => ack.push_text(out),
-            Service::WritePropertyMultiple(request) => request.push_text(out),
-            Service::WhoIs(request) => push_short::<_, 48>(out, request),
-            Service::IAm(request) => push_short::<_, 112>(out, request),
-            Service::SubscribeCov(request) => push_short::<_, 112>(out, request),
-            Service::CovNotification(notification) => notification.push_text(out),
-            Service::ServiceError(error) => push_short::<_, 64>(out, error),
-            Service::WritePropertyMultipleError(error) => push_short::<_, 128>(out, error),
-            Service::Opaque(service) => service.push_text(out),
+            Service::ReadProperty(request) => write_short(out, at, request),
+            Service::ReadPropertyAck(ack) => ack.write_text(out, at),
+            Service::WriteProperty(request) => request.write_text(out, at),
+            Service::ReadPropertyMultiple(request) => request.write_text(out, at),
+            Service::ReadPropertyMultipleAck(ack) => ack.write_text(out, at),
+            Service::WritePropertyMultiple(request) => request.write_text(out, at),
+            Service::WhoIs(request) => write_short(out, at, request),
+            Service::IAm(request) => write_short(out, at, request),
+            Service::SubscribeCov(request) => write_short(out, at, request),
+            Service::CovNotification(notification) => notification.write_text(out, at),
+            Service::ServiceError(error) => write_short(out, at, error),
+            Service::WritePropertyMultipleError(error) => write_short(out, at, error),
+            Service::Opaque(service) => service.write_text(out, at),
         }
     }
 }

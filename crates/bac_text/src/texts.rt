@@ -1,22 +1,30 @@
 //! What has a text.
 
-ghost use Rattle.std.specs.Prelude.{◌≡◌, ◌≤◌, ◌+◌, ◌++◌, ℕ, List, [], OnOk, OnErr, length, take};
+ghost use Rattle.std.specs.Prelude.{◌≡◌, ◌≤◌, ◌+◌, ◌++◌, ℕ, List, [], IfOk, OnErr, length, take};
 ghost use Rattle.std.specs.Option.{option_map_or};
 ghost use Rattle.bac_tag.specs.Octets.{Extends};
 
-use bac_record::add_room;
+use bac_record::{make_room, put_word};
 use bac_tag::OutOfMemory;
 
 /// What has a text.
+///
+/// Texts are written one behind the other: each at the place where the one before it ends.
 pub(crate) trait HasText: Drop {
     /// Its text.
     ghost text: { Self → List ℕ };
 
-    /// Appends the text. Where memory is refused some of it may be there.
-    fn push_text(&self, out: &mut Vec<u8>) -> Result<(), OutOfMemory>
-        ensures ok { OnOk result (out.new.items ≡ out.old.items ++ text self.now) }
-        ensures err { OnErr result (Extends out.old.items out.new.items) };
+    /// Writes the text at a place of the vector, which is made longer where it has too little room. Returns where it ends.
+    /// Where memory is refused some of the text may be there.
+    fn write_text(&self, out: &mut Vec<u8>, at: usize) -> Result<usize, OutOfMemory>
+        requires { at ≤ length out.old.items }
+        ensures text { IfOk result (λ end. take end out.new.items ≡ take at out.old.items ++ text self.now) }
+        ensures end { IfOk result (λ end. end ≤ length out.new.items) }
+        ensures err { OnErr result (Extends (take at out.old.items) out.new.items) };
 }
+
+/// Room for a few short texts and their names, which are written into it without asking for room again.
+pub(crate) const ROOM: usize = 128;
 
 /// What has a text of few octets. It is written into room that was made for it and for its neighbours, since to ask for
 /// room takes longer than to write a word.
@@ -32,19 +40,6 @@ pub(crate) trait HasShortText {
         requires { at + (most + 10) ≤ length room.old }
         ensures text { take result room.new ≡ take at room.old ++ text self.now }
         ensures end { result ≤ at + most };
-}
-
-/// Writes a word at a place, and returns where it ends.
-#[inline(always)]
-pub(crate) fn put_word<const N: usize>(room: &mut [u8], at: usize, word: &[u8; N]) -> usize
-    requires { at + N ≤ length room.old }
-    ensures text { take result room.new ≡ take at room.old ++ word.now }
-    ensures end { result ≡ at + N }
-{
-    for index in 0..N {
-        room[at + index] = word[index];
-    }
-    at + N
 }
 
 /// Writes a name and a part at a place, and returns where they end.
@@ -81,82 +76,89 @@ pub(crate) fn put_optional<T: HasShortText, const N: usize>(
     }
 }
 
-/// Appends a short text, for which it makes so much room.
+/// Writes a short text.
 #[inline(always)]
-pub(crate) fn push_short<T: HasShortText, const ROOM: usize>(
+pub(crate) fn write_short<T: HasShortText>(
     out: &mut Vec<u8>,
+    at: usize,
     part: &T,
-) -> Result<(), OutOfMemory>
-    requires room { T.most + 10 ≤ ROOM }
-    requires few { ROOM ≤ 4096 }
-    ensures ok { OnOk result (out.new.items ≡ out.old.items ++ T.text part.now) }
-    ensures err { OnErr result (Extends out.old.items out.new.items) }
+) -> Result<usize, OutOfMemory>
+    requires place { at ≤ length out.old.items }
+    requires few { T.most + 10 ≤ 128 }
+    ensures text { IfOk result (λ end. take end out.new.items ≡ take at out.old.items ++ T.text part.now) }
+    ensures end { IfOk result (λ end. end ≤ length out.new.items) }
+    ensures err { OnErr result (Extends (take at out.old.items) out.new.items) }
 {
-    let start = add_room::<ROOM>(out)?;
-    let end = part.put_text(out.as_mut_slice(), start);
-    out.truncate(end);
-    Ok(())
+    make_room(out, at, ROOM)?;
+    Ok(part.put_text(out.as_mut_slice(), at))
 }
 
-/// Appends a name and a short text, for which it makes so much room.
+/// Writes a name and a short text.
 #[inline(always)]
-pub(crate) fn push_named<T: HasShortText, const N: usize, const ROOM: usize>(
+pub(crate) fn write_named<T: HasShortText, const N: usize>(
     out: &mut Vec<u8>,
+    at: usize,
     name: &[u8; N],
     part: &T,
-) -> Result<(), OutOfMemory>
-    requires room { N + (T.most + 10) ≤ ROOM }
-    requires few { ROOM ≤ 4096 }
-    ensures ok { OnOk result (out.new.items ≡ out.old.items ++ (name.now ++ T.text part.now)) }
-    ensures err { OnErr result (Extends out.old.items out.new.items) }
+) -> Result<usize, OutOfMemory>
+    requires place { at ≤ length out.old.items }
+    requires few { N + (T.most + 10) ≤ 128 }
+    ensures text { IfOk result (λ end. take end out.new.items ≡ take at out.old.items ++ (name.now ++ T.text part.now)) }
+    ensures end { IfOk result (λ end. end ≤ length out.new.items) }
+    ensures err { OnErr result (Extends (take at out.old.items) out.new.items) }
 {
-    let start = add_room::<ROOM>(out)?;
-    let end = put_field(out.as_mut_slice(), start, name, part);
-    out.truncate(end);
-    Ok(())
+    make_room(out, at, ROOM)?;
+    Ok(put_field(out.as_mut_slice(), at, name, part))
 }
 
-/// Appends a word.
+/// Writes a word.
 #[inline(always)]
-pub(crate) fn push_word<const N: usize>(
+pub(crate) fn write_word<const N: usize>(
     out: &mut Vec<u8>,
+    at: usize,
     word: &[u8; N],
-) -> Result<(), OutOfMemory>
-    ensures ok { OnOk result (out.new.items ≡ out.old.items ++ word.now) }
-    ensures err { OnErr result (Extends out.old.items out.new.items) }
+) -> Result<usize, OutOfMemory>
+    requires { at ≤ length out.old.items }
+    ensures text { IfOk result (λ end. take end out.new.items ≡ take at out.old.items ++ word.now) }
+    ensures end { IfOk result (λ end. end ≤ length out.new.items) }
+    ensures err { OnErr result (Extends (take at out.old.items) out.new.items) }
 {
-    // From a copy, of which the compiler knows that it is not in the vector.
-    let copy = *word;
-    out.extend_from_slice(&copy)?;
-    Ok(())
+    make_room(out, at, N)?;
+    Ok(put_word(out.as_mut_slice(), at, word))
 }
 
-/// Appends a name and a part.
+/// Writes a name and a part.
 #[inline(always)]
-pub(crate) fn push_field<T: HasText, const N: usize>(
+pub(crate) fn write_field<T: HasText, const N: usize>(
     out: &mut Vec<u8>,
+    at: usize,
     name: &[u8; N],
     part: &T,
-) -> Result<(), OutOfMemory>
-    ensures ok { OnOk result (out.new.items ≡ out.old.items ++ (name.now ++ T.text part.now)) }
-    ensures err { OnErr result (Extends out.old.items out.new.items) }
+) -> Result<usize, OutOfMemory>
+    requires { at ≤ length out.old.items }
+    ensures text { IfOk result (λ end. take end out.new.items ≡ take at out.old.items ++ (name.now ++ T.text part.now)) }
+    ensures end { IfOk result (λ end. end ≤ length out.new.items) }
+    ensures err { OnErr result (Extends (take at out.old.items) out.new.items) }
 {
-    push_word(out, name)?;
-    part.push_text(out)
+    let end = write_word(out, at, name)?;
+    part.write_text(out, end)
 }
 
-/// Appends a name and a part, where the part is there.
+/// Writes a name and a part, where the part is there.
 #[inline(always)]
-pub(crate) fn push_optional<T: HasText, const N: usize>(
+pub(crate) fn write_optional<T: HasText, const N: usize>(
     out: &mut Vec<u8>,
+    at: usize,
     name: &[u8; N],
     part: &Option<T>,
-) -> Result<(), OutOfMemory>
-    ensures ok { OnOk result (out.new.items ≡ out.old.items ++ option_map_or (λ there. name.now ++ T.text there) part.now []) }
-    ensures err { OnErr result (Extends out.old.items out.new.items) }
+) -> Result<usize, OutOfMemory>
+    requires { at ≤ length out.old.items }
+    ensures text { IfOk result (λ end. take end out.new.items ≡ take at out.old.items ++ option_map_or (λ there. name.now ++ T.text there) part.now []) }
+    ensures end { IfOk result (λ end. end ≤ length out.new.items) }
+    ensures err { OnErr result (Extends (take at out.old.items) out.new.items) }
 {
     match part {
-        Some(part) => push_field(out, name, part),
-        None => Ok(()),
+        Some(part) => write_field(out, at, name, part),
+        None => Ok(at),
     }
 }

@@ -1,7 +1,7 @@
 //! The text of messages without a layout.
 
-use crate::scalars::push_octets;
-use crate::texts::{HasText, push_optional};
+use crate::scalars::write_octets;
+use crate::texts::{HasText, write_optional};
 use bac_npdu::OpaqueNet;
 use bac_tag::OutOfMemory;
 
@@ -11,9 +11,9 @@ impl HasText for OpaqueNet {
 
     ghost text = { opaque_net_text };
 
-    fn push_text(&self, out: &mut Vec<u8>) -> Result<(), OutOfMemory> {
-        push_octets(out, b"net type=", &[self.kind()])?;
-        push_optional(out, b" vendor=", &self.vendor())?;
-        push_octets(out, b" data=", self.octets())
+    fn write_text(&self, out: &mut Vec<u8>, at: usize) -> Result<usize, OutOfMemory> {
+        let end = write_octets(out, at, b"net type=", &[self.kind()])?;
+        let end = write_optional(out, end, b" vendor=", &self.vendor())?;
+        write_octets(out, end, b" data=", self.octets())
     }
 }

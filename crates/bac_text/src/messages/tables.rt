@@ -1,14 +1,14 @@
 //! The text of routing tables.
 
-ghost use Rattle.std.specs.Prelude.{◌≡◌, ◌++◌, OnOk, OnErr};
+ghost use Rattle.std.specs.Prelude.{◌≡◌, ◌≤◌, ◌++◌, IfOk, OnErr, length, take};
 ghost use Rattle.bac_tag.specs.Octets.{Extends};
 ghost use Rattle.bac_text.specs.MessageText.{init_table_text, init_table_ack_text};
 
-use crate::lists::push_list;
-use crate::scalars::push_octets;
-use crate::texts::{HasText, push_field, push_optional, put_field};
+use crate::lists::write_list;
+use crate::scalars::write_octets;
+use crate::texts::{HasText, ROOM, put_field, write_field, write_optional, write_word};
 use bac_npdu::{Port, Ports};
-use bac_record::add_room;
+use bac_record::make_room;
 use bac_tag::OutOfMemory;
 
 /// `(network=N id=N info=HEX)`.
@@ -17,15 +17,13 @@ impl HasText for Port {
 
     ghost text = { port_text };
 
-    fn push_text(&self, out: &mut Vec<u8>) -> Result<(), OutOfMemory> {
-        let start = add_room::<48>(out)?;
+    fn write_text(&self, out: &mut Vec<u8>, at: usize) -> Result<usize, OutOfMemory> {
+        make_room(out, at, ROOM)?;
         let room = out.as_mut_slice();
-        let end = put_field(room, start, b"(network=", &self.network);
+        let end = put_field(room, at, b"(network=", &self.network);
         let end = put_field(room, end, b" id=", &self.id);
-        out.truncate(end);
-        push_octets(out, b" info=", self.info.octets())?;
-        out.push(b')')?;
-        Ok(())
+        let end = write_octets(out, end, b" info=", self.info.octets())?;
+        write_word(out, end, b")")
     }
 }
 
@@ -36,24 +34,32 @@ impl HasText for Ports {
 
     ghost text = { listed port_text };
 
-    fn push_text(&self, out: &mut Vec<u8>) -> Result<(), OutOfMemory> {
-        push_list(out, self.list())
+    fn write_text(&self, out: &mut Vec<u8>, at: usize) -> Result<usize, OutOfMemory> {
+        write_list(out, at, self.list())
     }
 }
 
-/// Appends `net type=06 ports=(..)`.
-pub(crate) fn push_table(out: &mut Vec<u8>, ports: &Ports) -> Result<(), OutOfMemory>
-    ensures ok { OnOk result (out.new.items ≡ out.old.items ++ init_table_text ports.now) }
-    ensures err { OnErr result (Extends out.old.items out.new.items) }
+/// Writes `net type=06 ports=(..)`.
+pub(crate) fn write_table(out: &mut Vec<u8>, at: usize, ports: &Ports) -> Result<usize, OutOfMemory>
+    requires { at ≤ length out.old.items }
+    ensures text { IfOk result (λ end. take end out.new.items ≡ take at out.old.items ++ init_table_text ports.now) }
+    ensures end { IfOk result (λ end. end ≤ length out.new.items) }
+    ensures err { OnErr result (Extends (take at out.old.items) out.new.items) }
 {
-    push_field(out, b"net type=06 ports=", ports)
+    write_field(out, at, b"net type=06 ports=", ports)
 }
 
-/// Appends `net type=07 [ports=(..)]`.
-pub(crate) fn push_table_ack(out: &mut Vec<u8>, ports: &Option<Ports>) -> Result<(), OutOfMemory>
-    ensures ok { OnOk result (out.new.items ≡ out.old.items ++ init_table_ack_text ports.now) }
-    ensures err { OnErr result (Extends out.old.items out.new.items) }
+/// Writes `net type=07 [ports=(..)]`.
+pub(crate) fn write_table_ack(
+    out: &mut Vec<u8>,
+    at: usize,
+    ports: &Option<Ports>,
+) -> Result<usize, OutOfMemory>
+    requires { at ≤ length out.old.items }
+    ensures text { IfOk result (λ end. take end out.new.items ≡ take at out.old.items ++ init_table_ack_text ports.now) }
+    ensures end { IfOk result (λ end. end ≤ length out.new.items) }
+    ensures err { OnErr result (Extends (take at out.old.items) out.new.items) }
 {
-    out.extend_from_slice(b"net type=07")?;
-    push_optional(out, b" ports=", ports)
+    let end = write_word(out, at, b"net type=07")?;
+    write_optional(out, end, b" ports=", ports)
 }

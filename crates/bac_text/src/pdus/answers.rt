@@ -1,8 +1,8 @@
 //! The text of answers, and of ends of transactions.
 
-use crate::texts::{HasShortText, HasText, put_field, put_word};
+use crate::texts::{HasShortText, HasText, ROOM, put_field};
 use bac_apdu::{Abort, ComplexAck, ErrorPdu, Reject, SimpleAck};
-use bac_record::add_room;
+use bac_record::{make_room, put_word};
 use bac_tag::OutOfMemory;
 
 /// `simple id=I choice=C`.
@@ -26,13 +26,12 @@ impl HasText for ComplexAck {
 
     ghost text = { λ ack. complex_ack_text ack.invoke (service_of ack.service) };
 
-    fn push_text(&self, out: &mut Vec<u8>) -> Result<(), OutOfMemory> {
-        let start = add_room::<32>(out)?;
+    fn write_text(&self, out: &mut Vec<u8>, at: usize) -> Result<usize, OutOfMemory> {
+        make_room(out, at, ROOM)?;
         let room = out.as_mut_slice();
-        let end = put_field(room, start, b"ack id=", &self.invoke());
+        let end = put_field(room, at, b"ack id=", &self.invoke());
         let end = put_word(room, end, b" ");
-        out.truncate(end);
-        self.service().push_text(out)
+        self.service().write_text(out, end)
     }
 }
 
@@ -43,13 +42,12 @@ impl HasText for ErrorPdu {
 
     ghost text = { λ answer. error_text answer.invoke (service_of answer.service) };
 
-    fn push_text(&self, out: &mut Vec<u8>) -> Result<(), OutOfMemory> {
-        let start = add_room::<32>(out)?;
+    fn write_text(&self, out: &mut Vec<u8>, at: usize) -> Result<usize, OutOfMemory> {
+        make_room(out, at, ROOM)?;
         let room = out.as_mut_slice();
-        let end = put_field(room, start, b"error id=", &self.invoke());
+        let end = put_field(room, at, b"error id=", &self.invoke());
         let end = put_word(room, end, b" ");
-        out.truncate(end);
-        self.service().push_text(out)
+        self.service().write_text(out, end)
     }
 }
 

@@ -4,9 +4,9 @@ ghost use Rattle.std.specs.Prelude.{◌≡◌, ◌<◌, ◌≤◌, ◌+◌, ◌+
 ghost use Rattle.bac_text.specs.RequestText.{request_head_text};
 ghost use Rattle.bac_text.specs.Words.{field, number, truth};
 
-use crate::texts::{HasText, push_field, put_field, put_word};
+use crate::texts::{HasText, ROOM, put_field, write_field};
 use bac_apdu::{ConfirmedRequest, RequestHead, UnconfirmedRequest};
-use bac_record::add_room;
+use bac_record::{make_room, put_word};
 use bac_tag::OutOfMemory;
 
 /// Writes ` sa=A segs=S resp=` at once, and M. Returns where they end.
@@ -46,13 +46,12 @@ impl HasText for ConfirmedRequest {
 
     ghost text = { λ request. confirmed_request_text request.head (service_of request.service) };
 
-    fn push_text(&self, out: &mut Vec<u8>) -> Result<(), OutOfMemory> {
-        let start = add_room::<64>(out)?;
+    fn write_text(&self, out: &mut Vec<u8>, at: usize) -> Result<usize, OutOfMemory> {
+        make_room(out, at, ROOM)?;
         let room = out.as_mut_slice();
-        let end = put_request_head(room, start, b"conf id=", &self.head());
+        let end = put_request_head(room, at, b"conf id=", &self.head());
         let end = put_word(room, end, b" ");
-        out.truncate(end);
-        self.service().push_text(out)
+        self.service().write_text(out, end)
     }
 }
 
@@ -63,7 +62,7 @@ impl HasText for UnconfirmedRequest {
 
     ghost text = { λ request. unconfirmed_request_text (service_of request) };
 
-    fn push_text(&self, out: &mut Vec<u8>) -> Result<(), OutOfMemory> {
-        push_field(out, b"unconf ", self.service())
+    fn write_text(&self, out: &mut Vec<u8>, at: usize) -> Result<usize, OutOfMemory> {
+        write_field(out, at, b"unconf ", self.service())
     }
 }

@@ -1,10 +1,10 @@
 //! The text of segments, and of what is told of them.
 
 use crate::pdus::requests::put_request_head;
-use crate::scalars::push_octets;
-use crate::texts::{HasShortText, HasText, put_field};
+use crate::scalars::write_octets;
+use crate::texts::{HasShortText, HasText, ROOM, put_field};
 use bac_apdu::{SegHead, Segment, SegmentAck};
-use bac_record::add_room;
+use bac_record::make_room;
 use bac_tag::OutOfMemory;
 
 /// `conf-seg id=I sa=A segs=S resp=M` or `ack-seg id=I`.
@@ -29,16 +29,15 @@ impl HasText for Segment {
 
     ghost text = { λ segment. segment_text segment.head segment.seq segment.window segment.more segment.choice segment.piece.items };
 
-    fn push_text(&self, out: &mut Vec<u8>) -> Result<(), OutOfMemory> {
-        let start = add_room::<128>(out)?;
+    fn write_text(&self, out: &mut Vec<u8>, at: usize) -> Result<usize, OutOfMemory> {
+        make_room(out, at, ROOM)?;
         let room = out.as_mut_slice();
-        let end = self.head.put_text(room, start);
+        let end = self.head.put_text(room, at);
         let end = put_field(room, end, b" seq=", &self.seq);
         let end = put_field(room, end, b" win=", &self.window.number());
         let end = put_field(room, end, b" more=", &self.more);
         let end = put_field(room, end, b" choice=", &self.choice);
-        out.truncate(end);
-        push_octets(out, b" octets=", &self.piece)
+        write_octets(out, end, b" octets=", &self.piece)
     }
 }
 

@@ -1,20 +1,25 @@
 //! The text of services without a production.
 
-ghost use Rattle.std.specs.Prelude.{◌≡◌};
+ghost use Rattle.std.specs.Prelude.{◌≡◌, ◌≤◌, ◌++◌, IfOk, OnErr, length, take};
+ghost use Rattle.bac_tag.specs.Octets.{Extends};
 ghost use Rattle.bac_text.specs.OpaqueText.{choice_name};
 
-use crate::scalars::push_octets;
-use crate::texts::{HasText, push_short};
+use crate::scalars::write_octets;
+use crate::texts::{HasText, write_short, write_word};
 use bac_service::{Kind, Opaque};
 use bac_tag::OutOfMemory;
 
-/// What stands in front of the service choice.
-fn choice_name(kind: Kind) -> &'static [u8]
-    ensures { result.now ≡ choice_name kind }
+/// Writes what stands in front of the service choice.
+#[inline(always)]
+fn write_choice_name(out: &mut Vec<u8>, at: usize, kind: Kind) -> Result<usize, OutOfMemory>
+    requires { at ≤ length out.old.items }
+    ensures text { IfOk result (λ end. take end out.new.items ≡ take at out.old.items ++ choice_name kind) }
+    ensures end { IfOk result (λ end. end ≤ length out.new.items) }
+    ensures err { OnErr result (Extends (take at out.old.items) out.new.items) }
 {
     match kind {
-        Kind::Error => b"choice=",
-        _ => b"opaque choice=",
+        Kind::Error => write_word(out, at, b"choice="),
+        _ => write_word(out, at, b"opaque choice="),
     }
 }
 
@@ -24,9 +29,9 @@ impl HasText for Opaque {
 
     ghost text = { λ service. opaque_text service.kind service.choice service.octets };
 
-    fn push_text(&self, out: &mut Vec<u8>) -> Result<(), OutOfMemory> {
-        out.extend_from_slice(choice_name(self.kind()))?;
-        push_short::<_, 20>(out, &self.choice())?;
-        push_octets(out, b" octets=", self.octets())
+    fn write_text(&self, out: &mut Vec<u8>, at: usize) -> Result<usize, OutOfMemory> {
+        let end = write_choice_name(out, at, self.kind())?;
+        let end = write_short(out, end, &self.choice())?;
+        write_octets(out, end, b" octets=", self.octets())
     }
 }

@@ -1,14 +1,14 @@
 //! The text of properties, their values, and why they have none.
 
-ghost use Rattle.std.specs.Prelude.{◌≡◌, ◌≤◌, ◌+◌, ◌++◌, OnOk, OnErr, length, take};
+ghost use Rattle.std.specs.Prelude.{◌≡◌, ◌≤◌, ◌+◌, ◌++◌, IfOk, OnErr, length, take};
 ghost use Rattle.bac_tag.specs.Octets.{Extends};
 ghost use Rattle.bac_text.specs.Words.{object_text};
 ghost use Rattle.bac_text.specs.PropertyText.{property_text, cause_text};
 
 use crate::texts::{
-    HasShortText, HasText, push_field, push_short, put_field, put_optional, put_word,
+    HasShortText, HasText, ROOM, put_field, put_optional, write_field, write_short, write_word,
 };
-use bac_record::add_room;
+use bac_record::{make_room, put_word};
 use bac_service::{
     ErrorCause, PropertyReference, PropertyResult, PropertyValue, ReadResult, Unsigned32,
 };
@@ -49,25 +49,26 @@ pub(crate) fn put_cause<const N: usize>(
     put_field(room, end, b" code=", &code)
 }
 
-/// Appends a name, an object, and what stands behind it.
+/// Writes a name, an object, and what stands behind it.
 #[inline(always)]
-pub(crate) fn push_object<const N: usize, const M: usize>(
+pub(crate) fn write_object<const N: usize, const M: usize>(
     out: &mut Vec<u8>,
+    at: usize,
     name: &[u8; N],
     object: ObjectId,
     behind: &[u8; M],
-) -> Result<(), OutOfMemory>
+) -> Result<usize, OutOfMemory>
+    requires place { at ≤ length out.old.items }
     requires name { N ≤ 16 }
     requires behind { M ≤ 16 }
-    ensures ok { OnOk result (out.new.items ≡ out.old.items ++ (name.now ++ object_text object) ++ behind.now) }
-    ensures err { OnErr result (Extends out.old.items out.new.items) }
+    ensures text { IfOk result (λ end. take end out.new.items ≡ take at out.old.items ++ (name.now ++ object_text object) ++ behind.now) }
+    ensures end { IfOk result (λ end. end ≤ length out.new.items) }
+    ensures err { OnErr result (Extends (take at out.old.items) out.new.items) }
 {
-    let start = add_room::<64>(out)?;
+    make_room(out, at, ROOM)?;
     let room = out.as_mut_slice();
-    let end = put_field(room, start, name, &object);
-    let end = put_word(room, end, behind);
-    out.truncate(end);
-    Ok(())
+    let end = put_field(room, at, name, &object);
+    Ok(put_word(room, end, behind))
 }
 
 /// `(property=N [index=N])`.
@@ -76,13 +77,11 @@ impl HasText for PropertyReference {
 
     ghost text = { reference_text };
 
-    fn push_text(&self, out: &mut Vec<u8>) -> Result<(), OutOfMemory> {
-        let start = add_room::<48>(out)?;
+    fn write_text(&self, out: &mut Vec<u8>, at: usize) -> Result<usize, OutOfMemory> {
+        make_room(out, at, ROOM)?;
         let room = out.as_mut_slice();
-        let end = put_property(room, start, b"(property=", self.property, &self.index);
-        let end = put_word(room, end, b")");
-        out.truncate(end);
-        Ok(())
+        let end = put_property(room, at, b"(property=", self.property, &self.index);
+        Ok(put_word(room, end, b")"))
     }
 }
 
@@ -109,10 +108,10 @@ impl HasText for ReadResult {
     ghost text = { read_result_text };
 
     #[inline(always)]
-    fn push_text(&self, out: &mut Vec<u8>) -> Result<(), OutOfMemory> {
+    fn write_text(&self, out: &mut Vec<u8>, at: usize) -> Result<usize, OutOfMemory> {
         match self {
-            ReadResult::Value(value) => push_field(out, b"value=", value),
-            ReadResult::Error(cause) => push_short::<_, 64>(out, cause),
+            ReadResult::Value(value) => write_field(out, at, b"value=", value),
+            ReadResult::Error(cause) => write_short(out, at, cause),
         }
     }
 }
@@ -123,15 +122,13 @@ impl HasText for PropertyResult {
 
     ghost text = { property_result_text };
 
-    fn push_text(&self, out: &mut Vec<u8>) -> Result<(), OutOfMemory> {
-        let start = add_room::<48>(out)?;
+    fn write_text(&self, out: &mut Vec<u8>, at: usize) -> Result<usize, OutOfMemory> {
+        make_room(out, at, ROOM)?;
         let room = out.as_mut_slice();
-        let end = put_property(room, start, b"(property=", self.property, &self.index);
+        let end = put_property(room, at, b"(property=", self.property, &self.index);
         let end = put_word(room, end, b" ");
-        out.truncate(end);
-        self.result.push_text(out)?;
-        out.push(b')')?;
-        Ok(())
+        let end = self.result.write_text(out, end)?;
+        write_word(out, end, b")")
     }
 }
 
@@ -141,18 +138,15 @@ impl HasText for PropertyValue {
 
     ghost text = { property_value_text };
 
-    fn push_text(&self, out: &mut Vec<u8>) -> Result<(), OutOfMemory> {
-        let start = add_room::<48>(out)?;
+    fn write_text(&self, out: &mut Vec<u8>, at: usize) -> Result<usize, OutOfMemory> {
+        make_room(out, at, ROOM)?;
         let room = out.as_mut_slice();
-        let end = put_property(room, start, b"(property=", self.property, &self.index);
+        let end = put_property(room, at, b"(property=", self.property, &self.index);
         let end = put_word(room, end, b" value=");
-        out.truncate(end);
-        self.value.push_text(out)?;
-        let start = add_room::<32>(out)?;
+        let end = self.value.write_text(out, end)?;
+        make_room(out, end, ROOM)?;
         let room = out.as_mut_slice();
-        let end = put_optional(room, start, b" priority=", &self.priority);
-        let end = put_word(room, end, b")");
-        out.truncate(end);
-        Ok(())
+        let end = put_optional(room, end, b" priority=", &self.priority);
+        Ok(put_word(room, end, b")"))
     }
 }

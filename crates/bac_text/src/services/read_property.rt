@@ -1,8 +1,8 @@
 //! The text of ReadProperty and of its answer.
 
 use crate::services::properties::put_property;
-use crate::texts::{HasShortText, HasText, put_field, put_word};
-use bac_record::add_room;
+use crate::texts::{HasShortText, HasText, ROOM, put_field};
+use bac_record::{make_room, put_word};
 use bac_service::{ReadProperty, ReadPropertyAck};
 use bac_tag::OutOfMemory;
 
@@ -27,13 +27,12 @@ impl HasText for ReadPropertyAck {
 
     ghost text = { read_property_ack_text };
 
-    fn push_text(&self, out: &mut Vec<u8>) -> Result<(), OutOfMemory> {
-        let start = add_room::<96>(out)?;
+    fn write_text(&self, out: &mut Vec<u8>, at: usize) -> Result<usize, OutOfMemory> {
+        make_room(out, at, ROOM)?;
         let room = out.as_mut_slice();
-        let end = put_field(room, start, b"ReadProperty object=", &self.object);
+        let end = put_field(room, at, b"ReadProperty object=", &self.object);
         let end = put_property(room, end, b" property=", self.property, &self.index);
         let end = put_word(room, end, b" value=");
-        out.truncate(end);
-        self.value.push_text(out)
+        self.value.write_text(out, end)
     }
 }

@@ -1,7 +1,7 @@
 //! The text of ReadPropertyMultiple and of its answer.
 
-use crate::services::properties::push_object;
-use crate::texts::{HasText, push_field, push_optional};
+use crate::services::properties::write_object;
+use crate::texts::{HasText, write_field, write_optional, write_word};
 use bac_service::{
     ReadAccessResult, ReadAccessSpecification, ReadPropertyMultiple, ReadPropertyMultipleAck,
 };
@@ -14,11 +14,10 @@ impl HasText for ReadAccessSpecification {
 
     ghost text = { λ specification. specification_text (specification_of specification) };
 
-    fn push_text(&self, out: &mut Vec<u8>) -> Result<(), OutOfMemory> {
-        push_object(out, b"(object=", self.object, b" properties=")?;
-        self.properties.push_text(out)?;
-        out.push(b')')?;
-        Ok(())
+    fn write_text(&self, out: &mut Vec<u8>, at: usize) -> Result<usize, OutOfMemory> {
+        let end = write_object(out, at, b"(object=", self.object, b" properties=")?;
+        let end = self.properties.write_text(out, end)?;
+        write_word(out, end, b")")
     }
 }
 
@@ -30,8 +29,8 @@ impl HasText for ReadPropertyMultiple {
 
     ghost text = { λ request. read_multiple_text (map specification_of request.specs.items) };
 
-    fn push_text(&self, out: &mut Vec<u8>) -> Result<(), OutOfMemory> {
-        push_field(out, b"ReadPropertyMultiple specs=", &self.specs)
+    fn write_text(&self, out: &mut Vec<u8>, at: usize) -> Result<usize, OutOfMemory> {
+        write_field(out, at, b"ReadPropertyMultiple specs=", &self.specs)
     }
 }
 
@@ -42,11 +41,10 @@ impl HasText for ReadAccessResult {
 
     ghost text = { λ result. access_result_text (access_result_of result) };
 
-    fn push_text(&self, out: &mut Vec<u8>) -> Result<(), OutOfMemory> {
-        push_object(out, b"(object=", self.object, b"")?;
-        push_optional(out, b" results=", &self.results)?;
-        out.push(b')')?;
-        Ok(())
+    fn write_text(&self, out: &mut Vec<u8>, at: usize) -> Result<usize, OutOfMemory> {
+        let end = write_object(out, at, b"(object=", self.object, b"")?;
+        let end = write_optional(out, end, b" results=", &self.results)?;
+        write_word(out, end, b")")
     }
 }
 
@@ -58,7 +56,7 @@ impl HasText for ReadPropertyMultipleAck {
 
     ghost text = { λ ack. read_multiple_ack_text (map access_result_of ack.results.items) };
 
-    fn push_text(&self, out: &mut Vec<u8>) -> Result<(), OutOfMemory> {
-        push_field(out, b"ReadPropertyMultiple results=", &self.results)
+    fn write_text(&self, out: &mut Vec<u8>, at: usize) -> Result<usize, OutOfMemory> {
+        write_field(out, at, b"ReadPropertyMultiple results=", &self.results)
     }
 }

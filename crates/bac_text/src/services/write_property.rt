@@ -1,8 +1,8 @@
 //! The text of WriteProperty.
 
 use crate::services::properties::put_property;
-use crate::texts::{HasText, put_field, put_optional, put_word};
-use bac_record::add_room;
+use crate::texts::{HasText, ROOM, put_field, put_optional};
+use bac_record::{make_room, put_word};
 use bac_service::WriteProperty;
 use bac_tag::OutOfMemory;
 
@@ -12,17 +12,14 @@ impl HasText for WriteProperty {
 
     ghost text = { write_property_text };
 
-    fn push_text(&self, out: &mut Vec<u8>) -> Result<(), OutOfMemory> {
-        let start = add_room::<96>(out)?;
+    fn write_text(&self, out: &mut Vec<u8>, at: usize) -> Result<usize, OutOfMemory> {
+        make_room(out, at, ROOM)?;
         let room = out.as_mut_slice();
-        let end = put_field(room, start, b"WriteProperty object=", &self.object);
+        let end = put_field(room, at, b"WriteProperty object=", &self.object);
         let end = put_property(room, end, b" property=", self.property, &self.index);
         let end = put_word(room, end, b" value=");
-        out.truncate(end);
-        self.value.push_text(out)?;
-        let start = add_room::<32>(out)?;
-        let end = put_optional(out.as_mut_slice(), start, b" priority=", &self.priority);
-        out.truncate(end);
-        Ok(())
+        let end = self.value.write_text(out, end)?;
+        make_room(out, end, ROOM)?;
+        Ok(put_optional(out.as_mut_slice(), end, b" priority=", &self.priority))
     }
 }

@@ -1,7 +1,7 @@
 //! The text of WritePropertyMultiple and of its error.
 
-use crate::services::properties::{push_object, put_cause, put_property};
-use crate::texts::{HasShortText, HasText, push_field, put_field};
+use crate::services::properties::{put_cause, put_property, write_object};
+use crate::texts::{HasShortText, HasText, put_field, write_field, write_word};
 use bac_service::{WriteAccessSpecification, WritePropertyMultiple, WritePropertyMultipleError};
 use bac_tag::OutOfMemory;
 
@@ -12,11 +12,10 @@ impl HasText for WriteAccessSpecification {
 
     ghost text = { λ specification. write_specification_text (write_specification_of specification) };
 
-    fn push_text(&self, out: &mut Vec<u8>) -> Result<(), OutOfMemory> {
-        push_object(out, b"(object=", self.object, b" values=")?;
-        self.values.push_text(out)?;
-        out.push(b')')?;
-        Ok(())
+    fn write_text(&self, out: &mut Vec<u8>, at: usize) -> Result<usize, OutOfMemory> {
+        let end = write_object(out, at, b"(object=", self.object, b" values=")?;
+        let end = self.values.write_text(out, end)?;
+        write_word(out, end, b")")
     }
 }
 
@@ -28,8 +27,8 @@ impl HasText for WritePropertyMultiple {
 
     ghost text = { λ request. write_multiple_text (map write_specification_of request.specs.items) };
 
-    fn push_text(&self, out: &mut Vec<u8>) -> Result<(), OutOfMemory> {
-        push_field(out, b"WritePropertyMultiple specs=", &self.specs)
+    fn write_text(&self, out: &mut Vec<u8>, at: usize) -> Result<usize, OutOfMemory> {
+        write_field(out, at, b"WritePropertyMultiple specs=", &self.specs)
     }
 }
 

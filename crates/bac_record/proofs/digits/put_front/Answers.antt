@@ -1,4 +1,4 @@
-use Rattle.std.proofs.Common.{arith, ℕ, ◌≡◌, ◌+◌, List, [], ◌∷◌, ◌++◌, ◌%◌, take, ap, refl, ◌∙◌, append_assoc}
+use Rattle.std.proofs.Common.{arith, ℕ, ◌≡◌, ◌+◌, List, [], ◌∷◌, ◌++◌, ◌-◌, ◌*◌, ◌/◌, ◌%◌, take, ap, refl, ◌∙◌, append_assoc}
 use Rattle.std.proofs.lemmas.List.{take_more_set}
 use Rattle.bac_record.specs.Digits.{two}
 use Rattle.bac_record.proofs.DigitLemmas.{one_digit, two_digits, three_digits, four_digits}
@@ -16,12 +16,15 @@ returns-then-number-lt100-clause-digits c =
 
 pub returns-then-number-lt1000-clause-digits : goal.returns-then-number-lt1000-clause-digits
 returns-then-number-lt1000-clause-digits c =
+    let rest : ℕ = c.args.number - 100 * (c.args.number / 100) in
+    let rest_is : rest ≡ c.args.number % 100 = omega arith in
     let same : c.args.at + 3 ≡ c.args.at + 1 + 2 = omega arith in
     ap (λ (k : ℕ). take k c.put_two-then-number-lt1000.new.room) same
     ∙ c.put_two-then-number-lt1000.ensures
-    ∙ ap (λ (l : List ℕ). l ++ two (c.args.number % 100)) (take_more_set c.args.room.now c.args.at c.digit-then-number-lt1000.result (omega arith))
-    ∙ append_assoc (take c.args.at c.args.room.now) (c.digit-then-number-lt1000.result ∷ []) (two (c.args.number % 100))
-    ∙ ap (λ (l : List ℕ). take c.args.at c.args.room.now ++ l) (three_digits c.args.number c.digit-then-number-lt1000.result (omega arith) (omega arith) c.digit-then-number-lt1000.ensures)
+    ∙ ap (λ (l : List ℕ). l ++ two rest) (take_more_set c.args.room.now c.args.at c.digit-then-number-lt1000.result (omega arith))
+    ∙ append_assoc (take c.args.at c.args.room.now) (c.digit-then-number-lt1000.result ∷ []) (two rest)
+    ∙ ap (λ (l : List ℕ). take c.args.at c.args.room.now ++ l)
+    (ap (λ (k : ℕ). c.digit-then-number-lt1000.result ∷ two k) rest_is ∙ three_digits c.args.number c.digit-then-number-lt1000.result (omega arith) (omega arith) c.digit-then-number-lt1000.ensures)
 
 pub returns-else-number-lt1000-clause-digits : goal.returns-else-number-lt1000-clause-digits
 returns-else-number-lt1000-clause-digits c =

@@ -1,5 +1,0 @@
-use Rattle.std.proofs.Common.{◌≡◌, ◌+◌, ◌++◌, take}
-use Rattle.bac_text.proofs.texts.put_word.Given as goal
-
-abbrev pub invariant-loop-index : goal.invariant-loop-index
-invariant-loop-index g l = take (l.at + l.index) l.room ≡ take l.at l.fn.room ++ take l.index l.word
