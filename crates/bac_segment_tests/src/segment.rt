@@ -7,14 +7,13 @@ mod orders;
 mod sizes;
 mod texts;
 
-use crate::expectations::assert_same;
+use crate::expectations::{assert_holds, assert_same, assert_same_of};
 use bac_apdu::{Apdu, SegHead, Segment, decode_apdu};
 use bac_segment::{CutFault, CutPlan, Desk, Key, Reassembly, TakeFault, Taken, cut};
 use bac_tables::octets_of;
 use bac_tag::{OutOfMemory, Why};
 use std::alloc::Global;
 use std::process::Abort;
-use std::test::Fail;
 
 /// The service octets of F4 of docs/EXAMPLES.md.
 const SERVICE: &str = "0C 00 00 00 05 19 55 3E 44 42 90 99 9A 3F";
@@ -46,31 +45,38 @@ fn segments_of(alloc: Global, plan: &CutPlan, octets: &[u8]) -> Result<Vec<Segme
 }
 
 /// The segment with these octets.
-fn segment_of(alloc: Global, text: &str) -> Result<Segment, Fail> {
-    let octets = octets_of(text)?;
+fn segment_of(rt: &impl Abort, alloc: Global, text: &str) -> Segment {
+    let octets = octets_of(text).expect(rt, "octets");
     let apdu = match decode_apdu(alloc, &octets) {
-        Err(refusal) if refusal.why == Why::OutOfMemory => decode_apdu(alloc, &octets)?,
-        found => found?,
+        Err(refusal) if refusal.why == Why::OutOfMemory => decode_apdu(alloc, &octets),
+        found => found,
     };
-    match apdu {
-        Apdu::Segment(segment) => Ok(segment),
-        _ => Err("no segment")?,
+    match apdu.expect(rt, "an APDU") {
+        Apdu::Segment(segment) => segment,
+        _ => panic!(rt; "no segment"),
     }
 }
 
+/// The segment with these octets, and with others behind them.
+fn longer_segment(rt: &impl Abort, alloc: Global, text: &str, behind: &[u8]) -> Segment {
+    let mut segment = segment_of(rt, alloc, text);
+    segment.piece.extend_from_slice(behind).expect(rt, "memory");
+    segment
+}
+
 /// A reassembly of the key of example 24.
-fn opened(alloc: Global) -> Result<Reassembly, OutOfMemory> {
+fn opened(rt: &impl Abort, alloc: Global) -> Reassembly {
     match Reassembly::new(alloc, KEY) {
-        Ok(reassembly) => Ok(reassembly),
-        Err(OutOfMemory) => Reassembly::new(alloc, KEY),
+        Ok(reassembly) => reassembly,
+        Err(OutOfMemory) => Reassembly::new(alloc, KEY).expect(rt, "memory"),
     }
 }
 
 /// A desk.
-fn desk(alloc: Global) -> Result<Desk, OutOfMemory> {
+fn desk(rt: &impl Abort, alloc: Global) -> Desk {
     match Desk::new(alloc) {
-        Ok(desk) => Ok(desk),
-        Err(OutOfMemory) => Desk::new(alloc),
+        Ok(desk) => desk,
+        Err(OutOfMemory) => Desk::new(alloc).expect(rt, "memory"),
     }
 }
 
@@ -85,6 +91,11 @@ fn take(rt: &impl Abort, reassembly: &mut Reassembly, segment: &Segment) -> &'st
         }
         found => name_of(found),
     }
+}
+
+/// A segment is answered so.
+fn answers(rt: &impl Abort, reassembly: &mut Reassembly, segment: &Segment, wanted: &str) {
+    assert_same_of(rt, take(rt, reassembly, segment), wanted, segment.seq);
 }
 
 /// The same, of a desk.
@@ -116,4 +127,15 @@ fn are(octets: Option<&[u8]>, wanted: &[u8]) -> bool {
         Some(found) => found == wanted,
         None => false,
     }
+}
+
+/// The octets are there, and are these. How many are wanted is told, since there may be 65,535 of them.
+fn is_joined(rt: &impl Abort, octets: Option<&[u8]>, wanted: &[u8]) {
+    assert_holds(rt, are(octets, wanted), wanted.len());
+}
+
+/// The same of the octets of a text.
+fn is_joined_to(rt: &impl Abort, octets: Option<&[u8]>, text: &str) {
+    let wanted = octets_of(text).expect(rt, "octets");
+    assert_holds(rt, are(octets, &wanted), text);
 }
