@@ -1,145 +1,128 @@
 //! Services that are made and not read, and those that are read without their marks.
 
-use super::{canonical, encoded, object};
-use crate::expectations::{assert_same, unexpected};
+use super::{canonical, is_written, object};
+use crate::expectations::{assert_holds, assert_same};
 use bac_service::{
     CovNotification, Kind, PropertyReference, ReadAccessSpecification, ReadProperty,
     ReadPropertyMultiple, Service, Unsigned32, WhoIs, decode_service, laws,
 };
 use bac_tables::octets_of;
-use bac_tag::{Refusal, Why};
+use bac_tag::Why;
 use bac_value::{Enumerated, Instance};
-use std::alloc::{AllocError, Global};
+use std::alloc::Global;
 use std::process::Abort;
-use std::test::Fail;
 
-/// The service has this kind and this choice, and is written so.
-fn is_written(
-    rt: &impl Abort,
-    alloc: Global,
-    service: &Service,
-    kind: Kind,
-    choice: u8,
-    octets: &str,
-) -> Result<(), Fail> {
-    assert_same(rt, (service.kind(), service.choice()), (kind, choice));
-    assert_same(
-        rt,
-        encoded(alloc, service)?.as_slice(),
-        octets_of(octets)?.as_slice(),
-    );
-    Ok(())
-}
+/// Of the process 18, the device 8:4 and the object 0:10 no values.
+const NOTIFICATION: &str = "09 12 1C 02 00 00 04 2C 00 00 00 0A 39 00 4E 4F";
 
 /// A list of one, at the latest when memory is asked for again.
-fn list<T: Drop>(alloc: Global, only: T) -> Result<Vec<T>, AllocError> {
+fn list<T: Drop>(rt: &impl Abort, alloc: Global, only: T) -> Vec<T> {
     let mut items = match Vec::with_capacity(alloc, 1) {
         Ok(items) => items,
-        Err(_) => Vec::with_capacity(alloc, 1)?,
+        Err(_) => Vec::with_capacity(alloc, 1).expect(rt, "memory"),
     };
-    items.push(only)?;
-    Ok(items)
+    items.push(only).expect(rt, "memory");
+    items
 }
 
 // Of examples 1 and 53 of docs/EXAMPLES.md.
 #[test]
-fn small_services_are_written(rt: HostRuntime) -> Result<(), Fail> {
-    let (object, property) = (object(0, 5)?, Enumerated(85));
-    let index = None;
+fn small_services_are_written(rt: HostRuntime) {
+    let alloc = rt.alloc();
     let read = Service::ReadProperty(ReadProperty {
-        object,
-        property,
-        index,
+        object: object(&rt, 0, 5),
+        property: Enumerated(85),
+        index: None,
     });
     let octets = "0C 00 00 00 05 19 55";
-    is_written(&rt, rt.alloc(), &read, Kind::Confirmed, 12, octets)?;
-    let limits = None;
-    let who = Service::WhoIs(WhoIs { limits });
-    is_written(&rt, rt.alloc(), &who, Kind::Unconfirmed, 8, "none")
+    is_written(&rt, alloc, &read, (Kind::Confirmed, 12), octets);
+    let who = Service::WhoIs(WhoIs { limits: None });
+    is_written(&rt, alloc, &who, (Kind::Unconfirmed, 8), "none");
 }
 
 // Of example 18 of docs/EXAMPLES.md.
 #[test]
-fn lists_of_references_are_written(rt: HostRuntime) -> Result<(), Fail> {
-    let (object, property) = (object(0, 33)?, Enumerated(85));
+fn lists_of_references_are_written(rt: HostRuntime) {
+    let alloc = rt.alloc();
+    let (object, property) = (object(&rt, 0, 33), Enumerated(85));
     let index = None;
-    let properties = list(rt.alloc(), PropertyReference { property, index })?;
-    let specs = list(rt.alloc(), ReadAccessSpecification { object, properties })?;
+    let properties = list(&rt, alloc, PropertyReference { property, index });
+    let specs = list(&rt, alloc, ReadAccessSpecification { object, properties });
     let service = Service::ReadPropertyMultiple(ReadPropertyMultiple { specs });
     let octets = "0C 00 00 00 21 1E 09 55 1F";
-    is_written(&rt, rt.alloc(), &service, Kind::Confirmed, 14, octets)
+    is_written(&rt, alloc, &service, (Kind::Confirmed, 14), octets);
+}
+
+/// A notification of no values, confirmed or not, is written as one of this kind and this choice.
+fn notification_is_written(rt: &impl Abort, alloc: Global, confirmed: bool, service: (Kind, u8)) {
+    let notification = Service::CovNotification(CovNotification {
+        confirmed,
+        process_identifier: Unsigned32(18),
+        device: object(rt, 8, 4),
+        object: object(rt, 0, 10),
+        time_remaining: Unsigned32(0),
+        values: Vec::new(alloc),
+    });
+    is_written(rt, alloc, &notification, service, NOTIFICATION);
 }
 
 // Of examples 20 and 53 of docs/EXAMPLES.md, without values.
 #[test]
-fn notifications_of_both_kinds_are_written_alike(rt: HostRuntime) -> Result<(), Fail> {
-    let octets = "09 12 1C 02 00 00 04 2C 00 00 00 0A 39 00 4E 4F";
-    for (confirmed, kind, choice) in [(true, Kind::Confirmed, 1), (false, Kind::Unconfirmed, 2)] {
-        let service = Service::CovNotification(CovNotification {
-            confirmed,
-            process_identifier: Unsigned32(18),
-            device: object(8, 4)?,
-            object: object(0, 10)?,
-            time_remaining: Unsigned32(0),
-            values: Vec::new(rt.alloc()),
-        });
-        is_written(&rt, rt.alloc(), &service, kind, choice, octets)?;
-    }
-    Ok(())
+fn notifications_of_both_kinds_are_written_alike(rt: HostRuntime) {
+    let alloc = rt.alloc();
+    notification_is_written(&rt, alloc, true, (Kind::Confirmed, 1));
+    notification_is_written(&rt, alloc, false, (Kind::Unconfirmed, 2));
 }
 
 // Of examples 5 and 49 of docs/EXAMPLES.md.
 #[test]
-fn a_service_is_read_without_its_mark(rt: HostRuntime) -> Result<(), Fail> {
-    let octets = octets_of("0A 00 64 19 C8")?;
-    match decode_service(rt.alloc(), Kind::Unconfirmed, 8, &octets)? {
-        Service::WhoIs(request) => {
-            let limits = Instance::new(100).zip(Instance::new(200));
-            assert_same(&rt, request, WhoIs { limits });
-        }
-        found => unexpected(&rt, &found),
-    }
-    let refusal = decode_service(rt.alloc(), Kind::Unconfirmed, 8, &[9, 0]).err();
-    let (place, why) = (2, Why::Short);
-    assert_same(&rt, refusal, Some(Refusal { place, why }));
-    Ok(())
+fn a_service_is_read_without_its_mark(rt: HostRuntime) {
+    let alloc = rt.alloc();
+    let octets = octets_of("0A 00 64 19 C8").expect(&rt, "octets");
+    let found = decode_service(alloc, Kind::Unconfirmed, 8, &octets).expect(&rt, "a service");
+    let limits = Instance::new(100).zip(Instance::new(200));
+    assert_same(&rt, found, Service::WhoIs(WhoIs { limits }));
+    let refusal = decode_service(alloc, Kind::Unconfirmed, 8, &[9, 0]).err();
+    assert_same(&rt, refusal, Some(Why::Short.at(2)));
+}
+
+/// Of this kind and this choice the octets are those of two services.
+fn differ(rt: &impl Abort, alloc: Global, service: (Kind, u8), one: &str, other: &str) {
+    let left = canonical(rt, alloc, service, one);
+    let right = canonical(rt, alloc, service, other);
+    let same = left == right || laws::equal_services_are_the_same(&left, &right);
+    assert_holds(rt, !same, (one, other));
+}
+
+/// The octets are those of two services, one of each kind and choice.
+fn differ_in_kind(
+    rt: &impl Abort,
+    alloc: Global,
+    one: (Kind, u8),
+    other: (Kind, u8),
+    octets: &str,
+) {
+    let left = canonical(rt, alloc, one, octets);
+    let right = canonical(rt, alloc, other, octets);
+    assert_holds(rt, left != right, octets);
 }
 
 // One octet of each pair differs, or the kind does.
 #[test]
-fn services_that_differ_are_not_equal(rt: HostRuntime) -> Result<(), Fail> {
-    for (kind, choice, one, other) in [
-        (
-            Kind::Confirmed,
-            12,
-            "0C 00 00 00 05 19 55",
-            "0C 00 00 00 05 19 56",
-        ),
-        (
-            Kind::Confirmed,
-            15,
-            "0C 00 00 00 05 19 55 3E 21 05 3F",
-            "0C 00 00 00 05 19 55 3E 91 05 3F",
-        ),
-        (
-            Kind::Confirmed,
-            14,
-            "0C 00 00 00 21 1E 09 55 1F",
-            "0C 00 00 00 21 1E 1F",
-        ),
-        (Kind::Unconfirmed, 8, "none", "09 64 19 C8"),
-        (Kind::Unconfirmed, 9, "00", "01"),
-        (Kind::Error, 12, "91 02 91 20", "91 02 91 21"),
-    ] {
-        let one = canonical(&rt, rt.alloc(), (kind, choice), one)?;
-        let other = canonical(&rt, rt.alloc(), (kind, choice), other)?;
-        assert!(rt; one != other && !laws::equal_services_are_the_same(&one, &other));
-    }
-    let octets = "09 12 1C 02 00 00 04 2C 00 00 00 0A 39 00 4E 4F";
-    let confirmed = canonical(&rt, rt.alloc(), (Kind::Confirmed, 1), octets)?;
-    let unconfirmed = canonical(&rt, rt.alloc(), (Kind::Unconfirmed, 2), octets)?;
-    assert!(rt; confirmed != unconfirmed);
-    Ok(())
+fn services_that_differ_are_not_equal(rt: HostRuntime) {
+    let alloc = rt.alloc();
+    let (one, other) = ("0C 00 00 00 05 19 55", "0C 00 00 00 05 19 56");
+    differ(&rt, alloc, (Kind::Confirmed, 12), one, other);
+    let one = "0C 00 00 00 05 19 55 3E 21 05 3F";
+    let other = "0C 00 00 00 05 19 55 3E 91 05 3F";
+    differ(&rt, alloc, (Kind::Confirmed, 15), one, other);
+    let (one, other) = ("0C 00 00 00 21 1E 09 55 1F", "0C 00 00 00 21 1E 1F");
+    differ(&rt, alloc, (Kind::Confirmed, 14), one, other);
+    differ(&rt, alloc, (Kind::Unconfirmed, 8), "none", "09 64 19 C8");
+    differ(&rt, alloc, (Kind::Unconfirmed, 9), "00", "01");
+    differ(&rt, alloc, (Kind::Error, 12), "91 02 91 20", "91 02 91 21");
+    let (confirmed, unconfirmed) = ((Kind::Confirmed, 1), (Kind::Unconfirmed, 2));
+    differ_in_kind(&rt, alloc, confirmed, unconfirmed, NOTIFICATION);
 }
 
 // The laws are functions that do nothing: their contracts are what they say.

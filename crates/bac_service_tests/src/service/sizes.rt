@@ -1,17 +1,21 @@
 //! Services of many octets and of long lists are decoded and encoded whole: no clause says that memory is there.
 
-use super::object;
+use super::variants::{
+    cov_notification, read_property_ack, read_property_multiple, read_property_multiple_ack,
+    write_property, write_property_multiple,
+};
+use super::{is_object, is_property, only};
 use crate::expectations::{assert_holds, assert_same, unexpected};
 use bac_data::{Any, Event};
 use bac_service::{
-    ErrorCause, Kind, Opaque, PropertyValue, ReadAccessResult, ReadResult, Service, decode_service,
+    ErrorCause, Kind, Opaque, PropertyResult, PropertyValue, ReadAccessResult,
+    ReadAccessSpecification, ReadResult, Service, WriteAccessSpecification, decode_service,
     decode_service_marked, encode_service,
 };
 use bac_tables::{ITEMS, enclosed, mixed, numbered};
-use bac_value::{Enumerated, ObjectId, PrimRef, Priority, Unsigned};
+use bac_value::{Enumerated, PrimRef, Priority, Unsigned};
 use std::alloc::Global;
 use std::process::Abort;
-use std::test::Fail;
 
 /// Numbers of octets of contents, and the octets of a head that tell them (clause 20.2.1.3.1).
 const SIZES: [(usize, &[u8]); 3] = [
@@ -37,59 +41,32 @@ const WRITTEN: [u8; 10] = [0x0C, 0, 0x40, 0, 1, 0x1E, 9, 0x55, 0x2E, 0x65];
 /// The numbers of the items of a long list.
 const NUMBERS: std::ops::Range<u16> = 1_000..11_000;
 
+/// The service is encoded as these octets. It tells how many there are, since there may be a mebibyte of them.
+fn is_encoded(rt: &impl Abort, alloc: Global, service: &Service, octets: &[u8]) {
+    let written = encode_service(alloc, service).expect(rt, "memory");
+    assert_holds(rt, written.as_slice() == octets, octets.len());
+}
+
 /// The service of canonical octets. Each way of decoding gives one that is encoded as they are.
-fn kept(
-    rt: &impl Abort,
-    alloc: Global,
-    service: (Kind, u8),
-    octets: &[u8],
-) -> Result<Service, Fail> {
+fn kept(rt: &impl Abort, alloc: Global, service: (Kind, u8), octets: &[u8]) -> Service {
     let (kind, choice) = service;
-    let (marked, mark) = decode_service_marked(alloc, kind, choice, octets)?;
+    let marked = decode_service_marked(alloc, kind, choice, octets);
+    let (marked, mark) = marked.expect(rt, "a service");
     assert_same(rt, mark, None);
-    assert!(rt; encode_service(alloc, &marked)?.as_slice() == octets);
-    let found = decode_service(alloc, kind, choice, octets)?;
+    is_encoded(rt, alloc, &marked, octets);
+    let found = decode_service(alloc, kind, choice, octets).expect(rt, "a service");
     assert_same(rt, (found.kind(), found.choice()), service);
-    assert!(rt; encode_service(alloc, &found)?.as_slice() == octets);
-    Ok(found)
+    is_encoded(rt, alloc, &found, octets);
+    found
 }
 
 /// The value is one octet string.
 fn is_string(rt: &impl Abort, value: &Any, octets: &[u8]) {
     assert_same(rt, value.count(), 1);
     for event in value.events() {
-        assert!(rt; event == Event::App(PrimRef::Octets(octets)));
+        let wanted = Event::App(PrimRef::Octets(octets));
+        assert_holds(rt, event == wanted, octets.len());
     }
-}
-
-/// The one value of the list is that of the property 85: these octets.
-fn is_alone(rt: &impl Abort, values: &[PropertyValue], octets: &[u8]) {
-    let [value] = values else {
-        panic!(rt; "no list of one")
-    };
-    assert_same(rt, (value.property, value.index), (Enumerated(85), None));
-    assert_same(rt, value.priority, None);
-    is_string(rt, &value.value, octets);
-}
-
-/// The one result of the one object, which is 0:5, is the value of the property 85: these octets.
-fn tells_value(rt: &impl Abort, results: &[ReadAccessResult], octets: &[u8]) -> Result<(), Fail> {
-    let [told] = results else {
-        panic!(rt; "no list of one")
-    };
-    assert_same(rt, told.object, object(0, 5)?);
-    let Some(results) = &told.results else {
-        panic!(rt; "no results")
-    };
-    let [result] = results.as_slice() else {
-        panic!(rt; "no list of one")
-    };
-    assert_same(rt, (result.property, result.index), (Enumerated(85), None));
-    match &result.result {
-        ReadResult::Value(value) => is_string(rt, value, octets),
-        ReadResult::Error(cause) => unexpected(rt, &cause),
-    }
-    Ok(())
 }
 
 /// The value is a number.
@@ -101,171 +78,184 @@ fn is_number(rt: &impl Abort, value: &Any, number: u16) {
     }
 }
 
+/// The value of the property 85, without a priority.
+fn value_of<'a>(rt: &impl Abort, found: &'a PropertyValue) -> &'a Any {
+    is_property(rt, (found.property, found.index), 85, None);
+    assert_same(rt, found.priority, None);
+    &found.value
+}
+
+/// The results of an object.
+fn results_of<'a>(rt: &impl Abort, found: &'a ReadAccessResult) -> &'a [PropertyResult] {
+    match &found.results {
+        Some(results) => results.as_slice(),
+        None => panic!(rt; "no results"),
+    }
+}
+
+/// The value of the property 85, which was read.
+fn value_read<'a>(rt: &impl Abort, found: &'a PropertyResult) -> &'a Any {
+    is_property(rt, (found.property, found.index), 85, None);
+    match &found.result {
+        ReadResult::Value(value) => value,
+        ReadResult::Error(cause) => unexpected(rt, &cause),
+    }
+}
+
+/// The opaque service has these octets.
+fn is_opaque(rt: &impl Abort, found: &Opaque, octets: &[u8]) {
+    assert_same(rt, (found.kind(), found.choice()), (Kind::Confirmed, 17));
+    assert_holds(rt, found.octets() == octets, octets.len());
+}
+
+/// Octets are kept in an opaque service.
+fn are_opaque(rt: &impl Abort, alloc: Global, octets: &[u8]) {
+    let made = Opaque::new(alloc, Kind::Confirmed, 17, octets).expect(rt, "an opaque service");
+    is_opaque(rt, &made, octets);
+    is_encoded(rt, alloc, &Service::Opaque(made), octets);
+    match kept(rt, alloc, (Kind::Confirmed, 17), octets) {
+        Service::Opaque(found) => is_opaque(rt, &found, octets),
+        _ => panic!(rt; "{} octets are not opaque", octets.len()),
+    }
+}
+
 // Of examples 32 and 49 of docs/EXAMPLES.md.
 #[test]
-fn opaque_octets_of_every_size_are_kept(rt: HostRuntime) -> Result<(), Fail> {
+fn opaque_octets_of_every_size_are_kept(rt: HostRuntime) {
     let alloc = rt.alloc();
-    let service = (Kind::Confirmed, 17);
     for (size, _) in SIZES {
-        let octets = mixed(alloc, size)?;
-        let made = Opaque::new(alloc, Kind::Confirmed, 17, &octets)?;
-        assert_same(&rt, (made.kind(), made.choice()), service);
-        assert_holds(&rt, made.octets() == octets.as_slice(), size);
-        assert_holds(
-            &rt,
-            encode_service(alloc, &Service::Opaque(made))? == octets,
-            size,
-        );
-        match kept(&rt, alloc, service, &octets)? {
-            Service::Opaque(found) => {
-                assert_same(&rt, (found.kind(), found.choice()), service);
-                assert_holds(&rt, found.octets() == octets.as_slice(), size);
-            }
-            _ => panic!(rt; "{size} octets are not opaque"),
-        }
+        let octets = mixed(alloc, size).expect(&rt, "memory");
+        are_opaque(&rt, alloc, &octets);
     }
-    Ok(())
 }
 
-// The value of example 4 of docs/EXAMPLES.md is an octet string.
-#[test]
-fn values_of_every_size_are_kept_in_an_answer(rt: HostRuntime) -> Result<(), Fail> {
-    let alloc = rt.alloc();
-    for (size, length) in SIZES {
-        let contents = mixed(alloc, size)?;
-        let octets = enclosed(alloc, &PROPERTY, length, &contents, &[0x3F])?;
-        match kept(&rt, alloc, (Kind::ComplexAck, 12), &octets)? {
-            Service::ReadPropertyAck(ack) => {
-                assert_same(
-                    &rt,
-                    (ack.object, ack.property),
-                    (object(0, 5)?, Enumerated(85)),
-                );
-                assert_same(&rt, ack.index, None);
-                is_string(&rt, &ack.value, &contents);
-            }
-            _ => panic!(rt; "no answer of {size} octets"),
-        }
-    }
-    Ok(())
+/// The value of example 4 of docs/EXAMPLES.md is an octet string.
+fn is_kept_in_an_answer(rt: &impl Abort, alloc: Global, length: &[u8], contents: &[u8]) {
+    let octets = enclosed(alloc, &PROPERTY, length, contents, &[0x3F]).expect(rt, "memory");
+    let ack = read_property_ack(rt, kept(rt, alloc, (Kind::ComplexAck, 12), &octets));
+    is_object(rt, ack.object, 0, 5);
+    is_property(rt, (ack.property, ack.index), 85, None);
+    is_string(rt, &ack.value, contents);
 }
 
 #[test]
-fn values_of_every_size_are_kept_in_a_request(rt: HostRuntime) -> Result<(), Fail> {
+fn values_of_every_size_are_kept_in_an_answer(rt: HostRuntime) {
     let alloc = rt.alloc();
     for (size, length) in SIZES {
-        let contents = mixed(alloc, size)?;
-        let octets = enclosed(alloc, &PROPERTY, length, &contents, &[0x3F, 0x49, 8])?;
-        match kept(&rt, alloc, (Kind::Confirmed, 15), &octets)? {
-            Service::WriteProperty(request) => {
-                assert_same(
-                    &rt,
-                    (request.object, request.property),
-                    (object(0, 5)?, Enumerated(85)),
-                );
-                assert_same(
-                    &rt,
-                    (request.index, request.priority),
-                    (None, Priority::new(8)),
-                );
-                is_string(&rt, &request.value, &contents);
-            }
-            _ => panic!(rt; "no request of {size} octets"),
-        }
+        let contents = mixed(alloc, size).expect(&rt, "memory");
+        is_kept_in_an_answer(&rt, alloc, length, &contents);
     }
-    Ok(())
 }
 
-// The values of examples 18, 20 and 74 of docs/EXAMPLES.md are an octet string, alone in their lists.
+/// An octet string is written with priority 8.
+fn is_kept_in_a_request(rt: &impl Abort, alloc: Global, length: &[u8], contents: &[u8]) {
+    let behind = [0x3F, 0x49, 8];
+    let octets = enclosed(alloc, &PROPERTY, length, contents, &behind).expect(rt, "memory");
+    let request = write_property(rt, kept(rt, alloc, (Kind::Confirmed, 15), &octets));
+    is_object(rt, request.object, 0, 5);
+    is_property(rt, (request.property, request.index), 85, None);
+    assert_same(rt, request.priority, Priority::new(8));
+    is_string(rt, &request.value, contents);
+}
+
 #[test]
-fn values_of_every_size_are_kept_in_lists(rt: HostRuntime) -> Result<(), Fail> {
+fn values_of_every_size_are_kept_in_a_request(rt: HostRuntime) {
     let alloc = rt.alloc();
     for (size, length) in SIZES {
-        let contents = mixed(alloc, size)?;
-        let octets = enclosed(alloc, &RESULT, length, &contents, &[0x4F, 0x1F])?;
-        match kept(&rt, alloc, (Kind::ComplexAck, 14), &octets)? {
-            Service::ReadPropertyMultipleAck(ack) => {
-                tells_value(&rt, ack.results.as_slice(), &contents)?;
-            }
-            _ => panic!(rt; "no answer of {size} octets"),
-        }
-        let octets = enclosed(alloc, &CHANGED, length, &contents, &[0x2F, 0x4F])?;
-        match kept(&rt, alloc, (Kind::Unconfirmed, 2), &octets)? {
-            Service::CovNotification(told) => is_alone(&rt, told.values.as_slice(), &contents),
-            _ => panic!(rt; "no notification of {size} octets"),
-        }
-        let octets = enclosed(alloc, &WRITTEN, length, &contents, &[0x2F, 0x1F])?;
-        match kept(&rt, alloc, (Kind::Confirmed, 16), &octets)? {
-            Service::WritePropertyMultiple(request) => {
-                let [spec] = request.specs.as_slice() else {
-                    panic!(rt; "no list of one")
-                };
-                is_alone(&rt, spec.values.as_slice(), &contents);
-            }
-            _ => panic!(rt; "no request of {size} octets"),
-        }
+        let contents = mixed(alloc, size).expect(&rt, "memory");
+        is_kept_in_a_request(&rt, alloc, length, &contents);
     }
-    Ok(())
+}
+
+/// The value of example 18 of docs/EXAMPLES.md is an octet string, alone in its list.
+fn is_kept_in_a_result(rt: &impl Abort, alloc: Global, length: &[u8], contents: &[u8]) {
+    let octets = enclosed(alloc, &RESULT, length, contents, &[0x4F, 0x1F]).expect(rt, "memory");
+    let found = kept(rt, alloc, (Kind::ComplexAck, 14), &octets);
+    let list = read_property_multiple_ack(rt, found);
+    let told = only(rt, &list);
+    is_object(rt, told.object, 0, 5);
+    let result = only(rt, results_of(rt, told));
+    is_string(rt, value_read(rt, result), contents);
+}
+
+/// The same of example 20.
+fn is_kept_in_a_notification(rt: &impl Abort, alloc: Global, length: &[u8], contents: &[u8]) {
+    let octets = enclosed(alloc, &CHANGED, length, contents, &[0x2F, 0x4F]).expect(rt, "memory");
+    let found = kept(rt, alloc, (Kind::Unconfirmed, 2), &octets);
+    let notification = cov_notification(rt, found);
+    let value = only(rt, &notification.values);
+    is_string(rt, value_of(rt, value), contents);
+}
+
+/// The same of example 74.
+fn is_kept_in_a_specification(rt: &impl Abort, alloc: Global, length: &[u8], contents: &[u8]) {
+    let octets = enclosed(alloc, &WRITTEN, length, contents, &[0x2F, 0x1F]).expect(rt, "memory");
+    let found = kept(rt, alloc, (Kind::Confirmed, 16), &octets);
+    let list = write_property_multiple(rt, found);
+    let spec = only(rt, &list);
+    let value = only(rt, &spec.values);
+    is_string(rt, value_of(rt, value), contents);
+}
+
+#[test]
+fn values_of_every_size_are_kept_in_lists(rt: HostRuntime) {
+    let alloc = rt.alloc();
+    for (size, length) in SIZES {
+        let contents = mixed(alloc, size).expect(&rt, "memory");
+        is_kept_in_a_result(&rt, alloc, length, &contents);
+        is_kept_in_a_notification(&rt, alloc, length, &contents);
+        is_kept_in_a_specification(&rt, alloc, length, &contents);
+    }
+}
+
+/// The property 85 of the object 0:N is asked for.
+fn asks_for(rt: &impl Abort, spec: &ReadAccessSpecification, number: u16) {
+    is_object(rt, spec.object, 0, u32::from(number));
+    let reference = only(rt, &spec.properties);
+    is_property(rt, (reference.property, reference.index), 85, None);
 }
 
 /// The object 0:N and its property 85, for each number N.
 #[test]
-fn ten_thousand_objects_are_asked_for(rt: HostRuntime) -> Result<(), Fail> {
+fn ten_thousand_objects_are_asked_for(rt: HostRuntime) {
     let alloc = rt.alloc();
-    let octets = numbered(alloc, &[0x0C, 0, 0], &[0x1E, 9, 0x55, 0x1F])?;
-    match kept(&rt, alloc, (Kind::Confirmed, 14), &octets)? {
-        Service::ReadPropertyMultiple(request) => {
-            assert_same(&rt, request.specs.len(), ITEMS);
-            for (spec, number) in request.specs.iter().zip(NUMBERS) {
-                assert_same(&rt, spec.object, object(0, u32::from(number))?);
-                let [reference] = spec.properties.as_slice() else {
-                    unexpected(&rt, &spec)
-                };
-                assert_same(
-                    &rt,
-                    (reference.property, reference.index),
-                    (Enumerated(85), None),
-                );
-            }
-        }
-        _ => panic!(rt; "no request"),
+    let octets = numbered(alloc, &[0x0C, 0, 0], &[0x1E, 9, 0x55, 0x1F]).expect(&rt, "memory");
+    let found = kept(&rt, alloc, (Kind::Confirmed, 14), &octets);
+    let specs = read_property_multiple(&rt, found);
+    assert_same(&rt, specs.len(), ITEMS);
+    for (spec, number) in specs.iter().zip(NUMBERS) {
+        asks_for(&rt, spec, number);
     }
-    Ok(())
+}
+
+/// The octets of one object, and of a list in its group.
+fn of_one_object(rt: &impl Abort, alloc: Global, list: &[u8]) -> Vec<u8> {
+    let front = [0x0C, 0, 0, 0, 5, 0x1E];
+    enclosed(alloc, &front, list, &[0x1F], &[]).expect(rt, "memory")
 }
 
 /// The property N of one object, for each number N.
 #[test]
-fn ten_thousand_properties_are_asked_for(rt: HostRuntime) -> Result<(), Fail> {
+fn ten_thousand_properties_are_asked_for(rt: HostRuntime) {
     let alloc = rt.alloc();
-    let references = numbered(alloc, &[0x0A], &[])?;
-    let octets = enclosed(alloc, &[0x0C, 0, 0, 0, 5, 0x1E], &references, &[0x1F], &[])?;
-    match kept(&rt, alloc, (Kind::Confirmed, 14), &octets)? {
-        Service::ReadPropertyMultiple(request) => {
-            let [spec] = request.specs.as_slice() else {
-                panic!(rt; "no list of one")
-            };
-            assert_same(&rt, spec.object, object(0, 5)?);
-            assert_same(&rt, spec.properties.len(), ITEMS);
-            for (reference, number) in spec.properties.iter().zip(NUMBERS) {
-                let wanted = (Enumerated(u32::from(number)), None);
-                assert_same(&rt, (reference.property, reference.index), wanted);
-            }
-        }
-        _ => panic!(rt; "no request"),
+    let references = numbered(alloc, &[0x0A], &[]).expect(&rt, "memory");
+    let octets = of_one_object(&rt, alloc, &references);
+    let found = kept(&rt, alloc, (Kind::Confirmed, 14), &octets);
+    let specs = read_property_multiple(&rt, found);
+    let spec = only(&rt, &specs);
+    is_object(&rt, spec.object, 0, 5);
+    assert_same(&rt, spec.properties.len(), ITEMS);
+    for (reference, number) in spec.properties.iter().zip(NUMBERS) {
+        let property = (reference.property, reference.index);
+        is_property(&rt, property, u32::from(number), None);
     }
-    Ok(())
 }
 
-/// The object has one result: of its property 85 this error.
-fn tells_error(rt: &impl Abort, told: &ReadAccessResult, wanted: ObjectId) {
-    assert_same(rt, told.object, wanted);
-    let Some(results) = &told.results else {
-        unexpected(rt, &told)
-    };
-    let [result] = results.as_slice() else {
-        unexpected(rt, &told)
-    };
-    assert_same(rt, (result.property, result.index), (Enumerated(85), None));
+/// The object 0:N has one result: of its property 85 this error.
+fn tells_error(rt: &impl Abort, told: &ReadAccessResult, number: u16) {
+    is_object(rt, told.object, 0, u32::from(number));
+    let result = only(rt, results_of(rt, told));
+    is_property(rt, (result.property, result.index), 85, None);
     let (class, code) = (Enumerated(2), Enumerated(32));
     match &result.result {
         ReadResult::Error(cause) => assert_same(rt, *cause, ErrorCause { class, code }),
@@ -275,122 +265,98 @@ fn tells_error(rt: &impl Abort, told: &ReadAccessResult, wanted: ObjectId) {
 
 /// The object 0:N and the error of its property 85, for each number N.
 #[test]
-fn ten_thousand_objects_are_answered(rt: HostRuntime) -> Result<(), Fail> {
+fn ten_thousand_objects_are_answered(rt: HostRuntime) {
     let alloc = rt.alloc();
     let behind = [0x1E, 0x29, 0x55, 0x5E, 0x91, 2, 0x91, 0x20, 0x5F, 0x1F];
-    let octets = numbered(alloc, &[0x0C, 0, 0], &behind)?;
-    match kept(&rt, alloc, (Kind::ComplexAck, 14), &octets)? {
-        Service::ReadPropertyMultipleAck(ack) => {
-            assert_same(&rt, ack.results.len(), ITEMS);
-            for (told, number) in ack.results.iter().zip(NUMBERS) {
-                tells_error(&rt, told, object(0, u32::from(number))?);
-            }
-        }
-        _ => panic!(rt; "no answer"),
+    let octets = numbered(alloc, &[0x0C, 0, 0], &behind).expect(&rt, "memory");
+    let found = kept(&rt, alloc, (Kind::ComplexAck, 14), &octets);
+    let list = read_property_multiple_ack(&rt, found);
+    assert_same(&rt, list.len(), ITEMS);
+    for (told, number) in list.iter().zip(NUMBERS) {
+        tells_error(&rt, told, number);
     }
-    Ok(())
+}
+
+/// The results are the numbers, as values of the property 85.
+fn are_read(rt: &impl Abort, results: &[PropertyResult]) {
+    assert_same(rt, results.len(), ITEMS);
+    for (result, number) in results.iter().zip(NUMBERS) {
+        is_number(rt, value_read(rt, result), number);
+    }
 }
 
 /// The value N of the property 85 of one object, for each number N.
 #[test]
-fn ten_thousand_results_are_told(rt: HostRuntime) -> Result<(), Fail> {
+fn ten_thousand_results_are_told(rt: HostRuntime) {
     let alloc = rt.alloc();
-    let results = numbered(alloc, &[0x29, 0x55, 0x4E, 0x22], &[0x4F])?;
-    let octets = enclosed(alloc, &[0x0C, 0, 0, 0, 5, 0x1E], &results, &[0x1F], &[])?;
-    match kept(&rt, alloc, (Kind::ComplexAck, 14), &octets)? {
-        Service::ReadPropertyMultipleAck(ack) => {
-            let [told] = ack.results.as_slice() else {
-                panic!(rt; "no list of one")
-            };
-            assert_same(&rt, told.object, object(0, 5)?);
-            let Some(results) = &told.results else {
-                panic!(rt; "no results")
-            };
-            assert_same(&rt, results.len(), ITEMS);
-            for (result, number) in results.iter().zip(NUMBERS) {
-                assert_same(&rt, (result.property, result.index), (Enumerated(85), None));
-                match &result.result {
-                    ReadResult::Value(value) => is_number(&rt, value, number),
-                    ReadResult::Error(cause) => unexpected(&rt, &cause),
-                }
-            }
-        }
-        _ => panic!(rt; "no answer"),
-    }
-    Ok(())
+    let results = numbered(alloc, &[0x29, 0x55, 0x4E, 0x22], &[0x4F]).expect(&rt, "memory");
+    let octets = of_one_object(&rt, alloc, &results);
+    let found = kept(&rt, alloc, (Kind::ComplexAck, 14), &octets);
+    let list = read_property_multiple_ack(&rt, found);
+    let told = only(&rt, &list);
+    is_object(&rt, told.object, 0, 5);
+    are_read(&rt, results_of(&rt, told));
 }
 
 /// The values are those of the property 85, one for each number, without priorities.
 fn are_numbered(rt: &impl Abort, values: &[PropertyValue]) {
     assert_same(rt, values.len(), ITEMS);
     for (value, number) in values.iter().zip(NUMBERS) {
-        assert_same(rt, (value.property, value.index), (Enumerated(85), None));
-        assert_same(rt, value.priority, None);
-        is_number(rt, &value.value, number);
+        is_number(rt, value_of(rt, value), number);
     }
+}
+
+/// The notification has the values.
+fn numbers_are_told(rt: &impl Abort, alloc: Global, service: (Kind, u8), octets: &[u8]) {
+    let notification = cov_notification(rt, kept(rt, alloc, service, octets));
+    is_object(rt, notification.object, 0, 10);
+    are_numbered(rt, &notification.values);
 }
 
 // Of example 20 of docs/EXAMPLES.md, with more values.
 #[test]
-fn ten_thousand_values_are_told(rt: HostRuntime) -> Result<(), Fail> {
+fn ten_thousand_values_are_told(rt: HostRuntime) {
     let alloc = rt.alloc();
     let front = [
         9, 0x12, 0x1C, 2, 0, 0, 4, 0x2C, 0, 0, 0, 0x0A, 0x39, 0, 0x4E,
     ];
-    let values = numbered(alloc, &[9, 0x55, 0x2E, 0x22], &[0x2F])?;
-    let octets = enclosed(alloc, &front, &values, &[0x4F], &[])?;
-    for service in [(Kind::Confirmed, 1), (Kind::Unconfirmed, 2)] {
-        match kept(&rt, alloc, service, &octets)? {
-            Service::CovNotification(notification) => {
-                assert_same(&rt, notification.object, object(0, 10)?);
-                are_numbered(&rt, notification.values.as_slice());
-            }
-            _ => panic!(rt; "no notification"),
-        }
-    }
-    Ok(())
+    let values = numbered(alloc, &[9, 0x55, 0x2E, 0x22], &[0x2F]).expect(&rt, "memory");
+    let octets = enclosed(alloc, &front, &values, &[0x4F], &[]).expect(&rt, "memory");
+    numbers_are_told(&rt, alloc, (Kind::Confirmed, 1), &octets);
+    numbers_are_told(&rt, alloc, (Kind::Unconfirmed, 2), &octets);
 }
 
 // Of example 74 of docs/EXAMPLES.md, with more values.
 #[test]
-fn ten_thousand_values_are_written(rt: HostRuntime) -> Result<(), Fail> {
+fn ten_thousand_values_are_written(rt: HostRuntime) {
     let alloc = rt.alloc();
-    let service = (Kind::Confirmed, 16);
-    let values = numbered(alloc, &[9, 0x55, 0x2E, 0x22], &[0x2F])?;
-    let octets = enclosed(alloc, &[0x0C, 0, 0x40, 0, 1, 0x1E], &values, &[0x1F], &[])?;
-    match kept(&rt, alloc, service, &octets)? {
-        Service::WritePropertyMultiple(request) => {
-            let [spec] = request.specs.as_slice() else {
-                panic!(rt; "no list of one")
-            };
-            assert_same(&rt, spec.object, object(1, 1)?);
-            are_numbered(&rt, spec.values.as_slice());
-        }
-        _ => panic!(rt; "no request"),
-    }
-    Ok(())
+    let front = [0x0C, 0, 0x40, 0, 1, 0x1E];
+    let values = numbered(alloc, &[9, 0x55, 0x2E, 0x22], &[0x2F]).expect(&rt, "memory");
+    let octets = enclosed(alloc, &front, &values, &[0x1F], &[]).expect(&rt, "memory");
+    let found = kept(&rt, alloc, (Kind::Confirmed, 16), &octets);
+    let list = write_property_multiple(&rt, found);
+    let spec = only(&rt, &list);
+    is_object(&rt, spec.object, 1, 1);
+    are_numbered(&rt, &spec.values);
+}
+
+/// The value 7 of the property 85 of the object 0:N is written.
+fn writes_seven(rt: &impl Abort, spec: &WriteAccessSpecification, number: u16) {
+    is_object(rt, spec.object, 0, u32::from(number));
+    let value = only(rt, &spec.values);
+    is_number(rt, value_of(rt, value), 7);
 }
 
 /// The value 7 of the property 85 of the object 0:N, for each number N.
 #[test]
-fn values_of_ten_thousand_objects_are_written(rt: HostRuntime) -> Result<(), Fail> {
+fn values_of_ten_thousand_objects_are_written(rt: HostRuntime) {
     let alloc = rt.alloc();
     let behind = [0x1E, 9, 0x55, 0x2E, 0x21, 7, 0x2F, 0x1F];
-    let octets = numbered(alloc, &[0x0C, 0, 0], &behind)?;
-    match kept(&rt, alloc, (Kind::Confirmed, 16), &octets)? {
-        Service::WritePropertyMultiple(request) => {
-            assert_same(&rt, request.specs.len(), ITEMS);
-            for (spec, number) in request.specs.iter().zip(NUMBERS) {
-                assert_same(&rt, spec.object, object(0, u32::from(number))?);
-                let [value] = spec.values.as_slice() else {
-                    unexpected(&rt, &spec)
-                };
-                assert_same(&rt, (value.property, value.index), (Enumerated(85), None));
-                assert_same(&rt, value.priority, None);
-                is_number(&rt, &value.value, 7);
-            }
-        }
-        _ => panic!(rt; "no request"),
+    let octets = numbered(alloc, &[0x0C, 0, 0], &behind).expect(&rt, "memory");
+    let found = kept(&rt, alloc, (Kind::Confirmed, 16), &octets);
+    let list = write_property_multiple(&rt, found);
+    assert_same(&rt, list.len(), ITEMS);
+    for (spec, number) in list.iter().zip(NUMBERS) {
+        writes_seven(&rt, spec, number);
     }
-    Ok(())
 }

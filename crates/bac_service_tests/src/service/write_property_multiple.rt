@@ -1,11 +1,15 @@
 //! WritePropertyMultiple.
 
-use super::{canonical, fronts, gives, judge, longer_heads, object};
-use crate::expectations::{assert_same, unexpected};
+use super::variants::write_property_multiple;
+use super::{canonical, fronts, is_object, judge, longer_heads, object, only, reads, tells};
+use crate::expectations::assert_same;
 use bac_data::Event;
-use bac_service::{Kind, Service, Unsigned32};
+use bac_service::{
+    Kind, Service, Unsigned32, WriteAccessSpecification, WritePropertyMultipleError,
+};
 use bac_value::{Enumerated, PrimRef, Priority, RealBits};
-use std::test::Fail;
+use std::alloc::Global;
+use std::process::Abort;
 
 /// Its kind and its choice.
 const SERVICE: (Kind, u8) = (Kind::Confirmed, 16);
@@ -25,33 +29,29 @@ const FAILED: &str = "0E 91 02 91 20 0F 1E 0C 00 40 00 01";
 /// The object 1:1, its property 85 and the Real 100.0.
 const VALUE: &str = "0C 00 40 00 01 1E 09 55 2E 44 42 C8 00 00 2F";
 
+/// The list of canonical octets.
+fn specs_of(rt: &impl Abort, alloc: Global, octets: &str) -> Vec<WriteAccessSpecification> {
+    write_property_multiple(rt, canonical(rt, alloc, SERVICE, octets))
+}
+
 // Of example 74 of docs/EXAMPLES.md.
 #[test]
-fn a_value_is_written_with_a_priority(rt: HostRuntime) -> Result<(), Fail> {
+fn a_value_is_written_with_a_priority(rt: HostRuntime) {
+    let alloc = rt.alloc();
     let octets = "0C 00 40 00 01 1E 09 55 2E 44 42 C8 00 00 2F 39 08 1F";
-    match canonical(&rt, rt.alloc(), SERVICE, octets)? {
-        Service::WritePropertyMultiple(request) => {
-            let [spec] = request.specs.as_slice() else {
-                unexpected(&rt, &request)
-            };
-            assert_same(&rt, spec.object, object(1, 1)?);
-            let [value] = spec.values.as_slice() else {
-                unexpected(&rt, &request)
-            };
-            assert_same(&rt, (value.property, value.index), (Enumerated(85), None));
-            assert_same(&rt, value.priority, Priority::new(8));
-            let real = PrimRef::RealBits(RealBits(0x42C8_0000));
-            gives(&rt, &value.value, &[Event::App(real)]);
-        }
-        found => unexpected(&rt, &found),
-    }
-    longer_heads(&rt, rt.alloc(), SERVICE, octets, "0 5 6 8 9 14 15 17")?;
-    fronts(&rt, rt.alloc(), SERVICE, octets, "0")
+    let specs = specs_of(&rt, alloc, octets);
+    let spec = only(&rt, &specs);
+    is_object(&rt, spec.object, 1, 1);
+    let value = only(&rt, &spec.values);
+    let real = PrimRef::RealBits(RealBits(0x42C8_0000));
+    tells(&rt, value, 85, None, Priority::new(8), &[Event::App(real)]);
+    longer_heads(&rt, alloc, SERVICE, octets, "0 5 6 8 9 14 15 17");
+    fronts(&rt, alloc, SERVICE, octets, "0");
 }
 
 // Of example 75 of docs/EXAMPLES.md.
 #[test]
-fn values_come_in_order_and_end(rt: HostRuntime) -> Result<(), Fail> {
+fn values_come_in_order_and_end(rt: HostRuntime) {
     let rows = "
         3A 00 08 1F             -> 39 08 1F, differs at 15
         1F                      -> itself
@@ -61,12 +61,13 @@ fn values_come_in_order_and_end(rt: HostRuntime) -> Result<(), Fail> {
         49 08 1F                -> Tag at 15
         1F 1F                   -> Trailing at 16
     ";
-    judge(&rt, rt.alloc(), SERVICE, VALUE, rows)
+    judge(&rt, rt.alloc(), SERVICE, VALUE, rows);
 }
 
 // Of example 77 of docs/EXAMPLES.md: no octets are a list too, behind which others trail.
 #[test]
-fn fields_of_a_specification_come_once_and_in_order(rt: HostRuntime) -> Result<(), Fail> {
+fn fields_of_a_specification_come_once_and_in_order(rt: HostRuntime) {
+    let alloc = rt.alloc();
     let rows = "
         AA             -> Trailing at 0
         0C             -> Short at 1
@@ -74,7 +75,7 @@ fn fields_of_a_specification_come_once_and_in_order(rt: HostRuntime) -> Result<(
         0B 00 40 00    -> Trailing at 0
         0C 00 40 00 01 -> Short at 5
     ";
-    judge(&rt, rt.alloc(), SERVICE, "none", rows)?;
+    judge(&rt, alloc, SERVICE, "none", rows);
     let rows = "
         0C 00 40 00 01                -> Tag at 5
         09 55                         -> Tag at 5
@@ -89,7 +90,7 @@ fn fields_of_a_specification_come_once_and_in_order(rt: HostRuntime) -> Result<(
         1E 0D 05 01 00 00 00 00       -> Content at 8
         1E 09 55 1D 05 01 00 00 00 00 -> Content at 10
     ";
-    judge(&rt, rt.alloc(), SERVICE, OBJECT, rows)?;
+    judge(&rt, alloc, SERVICE, OBJECT, rows);
     let rows = "
         1F          -> itself
         19 03 1F    -> Tag at 15
@@ -97,46 +98,36 @@ fn fields_of_a_specification_come_once_and_in_order(rt: HostRuntime) -> Result<(
         39 08 39 08 -> Tag at 17
         39 00       -> Content at 16
     ";
-    judge(&rt, rt.alloc(), SERVICE, VALUE, rows)
+    judge(&rt, alloc, SERVICE, VALUE, rows);
 }
 
 #[test]
-fn objects_may_be_none(rt: HostRuntime) -> Result<(), Fail> {
-    match canonical(&rt, rt.alloc(), SERVICE, "none")? {
-        Service::WritePropertyMultiple(request) => assert!(rt; request.specs.is_empty()),
-        found => unexpected(&rt, &found),
-    }
-    Ok(())
+fn objects_may_be_none(rt: HostRuntime) {
+    assert_same(&rt, specs_of(&rt, rt.alloc(), "none").len(), 0);
 }
 
 #[test]
-fn an_error_tells_the_first_write_that_failed(rt: HostRuntime) -> Result<(), Fail> {
+fn an_error_tells_the_first_write_that_failed(rt: HostRuntime) {
+    let alloc = rt.alloc();
     let octets = "0E 91 02 91 20 0F 1E 0C 00 40 00 01 19 55 29 03 1F";
-    match canonical(&rt, rt.alloc(), ERROR, octets)? {
-        Service::WritePropertyMultipleError(error) => {
-            assert_same(
-                &rt,
-                (error.class, error.code),
-                (Enumerated(2), Enumerated(32)),
-            );
-            assert_same(&rt, error.object, object(1, 1)?);
-            assert_same(
-                &rt,
-                (error.property, error.index),
-                (Enumerated(85), Some(Unsigned32(3))),
-            );
-        }
-        found => unexpected(&rt, &found),
-    }
+    let wanted = Service::WritePropertyMultipleError(WritePropertyMultipleError {
+        class: Enumerated(2),
+        code: Enumerated(32),
+        object: object(&rt, 1, 1),
+        property: Enumerated(85),
+        index: Some(Unsigned32(3)),
+    });
+    reads(&rt, alloc, ERROR, octets, &wanted);
     let heads = "0 1 3 5 6 7 12 14 16";
-    longer_heads(&rt, rt.alloc(), ERROR, octets, heads)?;
-    fronts(&rt, rt.alloc(), ERROR, octets, "none")?;
-    judge(&rt, rt.alloc(), ERROR, "none", "91 02 -> Tag at 0")
+    longer_heads(&rt, alloc, ERROR, octets, heads);
+    fronts(&rt, alloc, ERROR, octets, "none");
+    judge(&rt, alloc, ERROR, "none", "91 02 -> Tag at 0");
 }
 
 // Of example 76 of docs/EXAMPLES.md.
 #[test]
-fn fields_of_an_error_come_once_and_in_order(rt: HostRuntime) -> Result<(), Fail> {
+fn fields_of_an_error_come_once_and_in_order(rt: HostRuntime) {
+    let alloc = rt.alloc();
     let rows = "
         1E 0C 00 40 00 01       -> Tag at 0
         0E 0F                   -> Tag at 1
@@ -146,7 +137,7 @@ fn fields_of_an_error_come_once_and_in_order(rt: HostRuntime) -> Result<(), Fail
         0E 95 05 01 00 00 00 00 -> Content at 3
         0E 91 02 91 20 0F       -> Short at 6
     ";
-    judge(&rt, rt.alloc(), ERROR, "none", rows)?;
+    judge(&rt, alloc, ERROR, "none", rows);
     let rows = "
         0E 91 02 91 20 0F -> Tag at 6
         0C 00 40 00 01    -> Tag at 6
@@ -154,7 +145,7 @@ fn fields_of_an_error_come_once_and_in_order(rt: HostRuntime) -> Result<(), Fail
         1E 1F             -> Tag at 7
         1E 19 55          -> Tag at 7
     ";
-    judge(&rt, rt.alloc(), ERROR, CAUSE, rows)?;
+    judge(&rt, alloc, ERROR, CAUSE, rows);
     let rows = "
         19 55 1F                   -> itself
         1F                         -> Tag at 12
@@ -166,5 +157,5 @@ fn fields_of_an_error_come_once_and_in_order(rt: HostRuntime) -> Result<(), Fail
         19 55 29 03 29 03          -> Tag at 16
         19 55 1F 00                -> Trailing at 15
     ";
-    judge(&rt, rt.alloc(), ERROR, FAILED, rows)
+    judge(&rt, alloc, ERROR, FAILED, rows);
 }
