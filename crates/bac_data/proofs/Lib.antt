@@ -16,6 +16,7 @@ mod ReasonLemmas
 mod DepthLemmas
 pub mod ValueLemmas
 mod PartLemmas
+mod QuickHeadLemmas
 mod HeldLemmas
 mod WalkLemmas
 mod ReadingSteps

@@ -14,6 +14,7 @@ ghost use Rattle.bac_data.specs.Under.{Under, HasContents};
 ghost use Rattle.bac_data.specs.Events.{SpellsEvent};
 ghost use Rattle.bac_data.specs.Reading.{SpellsStanding, next_heads, item_event, item_contents, item_head, IsItem, HasLeastContents, LiesInFront};
 
+use crate::quick_heads::quick_head;
 use bac_tag::layers::{
     Expected, is_short_closing, joined_marks, mark_read_head, read_one_of, short_len,
 };
@@ -181,6 +182,11 @@ fn read_next_head(octets: &[u8], room: bool, closing: u8) -> Result<(TagHead, us
     ensures depth { IfErr result (λ refusal. (refusal.why ≡ Why.Depth) ↔ ((room ≡ false) × (refusal.place ≡ 0) × BeginsGroup 0 octets.now)) }
     ensures reasons { IfErr result (λ refusal. IsItemReason refusal.why) }
 {
+    if let Some((head, start)) = quick_head(octets) {
+        if may_stand(head, room, closing) {
+            return Ok((head, start));
+        }
+    }
     match read_head(octets) {
         Ok((head, start)) if may_stand(head, room, closing) => Ok((head, start)),
         _ => read_listed_head(octets, room, closing),

@@ -10,6 +10,7 @@ mod building;
 mod items;
 pub mod laws;
 mod open_value;
+mod quick_heads;
 mod reading;
 mod walking;
 mod writing;

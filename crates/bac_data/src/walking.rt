@@ -1,6 +1,6 @@
 //! The events of a walk over an open value, one after another.
 
-ghost use Rattle.std.specs.Prelude.{◌≡◌, ◌≤◌, ◌∷◌, List, ℕ, drop, length, IfSome};
+ghost use Rattle.std.specs.Prelude.{◌≡◌, ◌≤◌, ◌∷◌, List, ℕ, drop, length};
 ghost use Rattle.std.specs.Iterator.{item_count};
 ghost use Rattle.bac_tag.specs.Heads.{Heads};
 ghost use Rattle.bac_tag.specs.Spelling.{IsLeast, Takes};
@@ -8,7 +8,7 @@ ghost use Rattle.bac_data.specs.Events.{Event as EventOf, SpellsEvents};
 ghost use Rattle.bac_data.specs.Held.{Holds, Holds-prop};
 ghost use Rattle.bac_data.specs.Walks.{event_of, IsPackedStep, GivesStep};
 
-use bac_tag::layers::short_len;
+use crate::quick_heads::quick_head;
 use bac_tag::{TagHead, read_head};
 use bac_value::{Boolean, PrimRef};
 use std::marker::Model;
@@ -64,19 +64,6 @@ impl<'a> Events<'a> {
     }
 }
 
-/// The head at the front of the octets, where it is that of an application primitive and has one octet, as most have.
-#[inline(always)]
-fn short_head(octets: &[u8]) -> Option<TagHead>
-    ensures { IfSome result (λ head. Takes Heads octets.now (head, 1)) }
-{
-    let number = *octets.first()? >> 4;
-    if number > 12 || number == 1 {
-        return None;
-    }
-    let len = short_len(octets, false, number)? as u32;
-    Some(TagHead::App { number, len })
-}
-
 /// The first of the events of which these are the canonical octets, where its head was read, which takes so many of
 /// them; and how many octets it takes.
 #[inline(always)]
@@ -113,8 +100,8 @@ fn first_event(octets: &[u8]) -> (Event<'_>, usize)
     ensures others { (e : EventOf) (es : List EventOf) → IsLeast (SpellsEvents (e ∷ es)) octets.now → IsLeast (SpellsEvents es) (drop result.1 octets.now) }
     ensures packed { IsPackedStep result.0 }
 {
-    if let Some(head) = short_head(octets) {
-        return event_under(head, 1, octets);
+    if let Some((head, start)) = quick_head(octets) {
+        return event_under(head, start, octets);
     }
     let Ok((head, start)) = read_head(octets) else {
         unreachable!()

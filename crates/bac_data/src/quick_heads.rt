@@ -1,0 +1,72 @@
+//! Heads that are found at once.
+
+ghost use Rattle.std.specs.Prelude.{◌≡◌, ◌<◌, ◌≤◌, IfSome, length, take, drop};
+ghost use Rattle.bac_tag.specs.Spelling.{Takes};
+ghost use Rattle.bac_tag.specs.Heads.{Heads, Opening, LengthIn, class_bit};
+
+use bac_tag::TagHead;
+
+/// What stands in front of the length of a head (clause 20.2.1.2): whether the class is context, the number, the LVT, and
+/// how many octets these take.
+#[inline(always)]
+fn find_opening(octets: &[u8]) -> Option<(bool, u8, u8, usize)>
+    ensures within { IfSome result (λ found. found.3 ≤ length octets.now) }
+    ensures opening { IfSome result (λ found. Opening (class_bit found.0) found.1 found.2 (take found.3 octets.now)) }
+    ensures number { IfSome result (λ found. found.1 < 255) }
+{
+    let initial = *octets.first()?;
+    let context = initial / 8 % 2 == 1;
+    let lvt = initial % 8;
+    let nibble = initial / 16;
+    if nibble < 15 {
+        return Some((context, nibble, lvt, 1));
+    }
+    let number = *octets.get(1)?;
+    if number == 255 {
+        return None;
+    }
+    Some((context, number, lvt, 2))
+}
+
+/// A length with this LVT, which stands in one octet at the place if it does not stand in the LVT (clause 20.2.1.3.1); and
+/// where it ends.
+#[inline(always)]
+fn find_length(octets: &[u8], start: usize, lvt: u8) -> Option<(u32, usize)>
+    requires { start ≤ length octets.now }
+    ensures within { IfSome result (λ found. (start ≤ found.1) × (found.1 ≤ length octets.now)) }
+    ensures length { IfSome result (λ found. LengthIn found.0 lvt (drop start (take found.1 octets.now))) }
+{
+    if lvt < 5 {
+        return Some((u32::from(lvt), start));
+    }
+    let len = *octets.get(start)?;
+    if lvt > 5 || len >= 254 {
+        return None;
+    }
+    Some((u32::from(len), start + 1))
+}
+
+/// The head at the front of the octets, in any tolerated spelling, and how many octets it takes. None tells nothing of
+/// the octets: heads with longer lengths, and those of Booleans, are left to `bac_tag::read_head`.
+///
+/// Nothing is kept for a refusal, so this is the fast way where the octets begin with a head.
+#[inline(always)]
+pub(crate) fn quick_head(octets: &[u8]) -> Option<(TagHead, usize)>
+    ensures { IfSome result (Takes Heads octets.now) }
+{
+    let (context, number, lvt, start) = find_opening(octets)?;
+    if context && lvt == 6 {
+        return Some((TagHead::Open(number), start));
+    }
+    if context && lvt == 7 {
+        return Some((TagHead::Close(number), start));
+    }
+    let (len, end) = find_length(octets, start, lvt)?;
+    if context {
+        return Some((TagHead::Ctx { number, len }, end));
+    }
+    if number > 12 || number == 1 {
+        return None;
+    }
+    Some((TagHead::App { number, len }, end))
+}
