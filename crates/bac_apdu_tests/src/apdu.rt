@@ -12,9 +12,8 @@ use crate::expectations::{assert_holds, assert_same, assert_same_of};
 use bac_apdu::{Apdu, append_apdu, decode_apdu_marked, encode_apdu};
 use bac_tables::{Outcome, octets_of, places_of, rows_of};
 use bac_tag::{OutOfMemory, Refusal, Why};
-use std::alloc::{AllocError, Global};
+use std::alloc::Global;
 use std::process::Abort;
-use std::test::Fail;
 
 /// What `decode_apdu_marked` gives. Where memory is refused it is told at 0, and the octets are read again.
 fn decoded(
@@ -31,19 +30,25 @@ fn decoded(
     }
 }
 
+/// The APDU of octets.
+fn apdu_of(rt: &impl Abort, alloc: Global, octets: &[u8]) -> Apdu {
+    let (apdu, _) = decoded(rt, alloc, octets).expect(rt, "an APDU");
+    apdu
+}
+
 /// The octets of an APDU, at the latest when memory is asked for again.
-fn encoded(alloc: Global, apdu: &Apdu) -> Result<Vec<u8>, OutOfMemory> {
+fn encoded(rt: &impl Abort, alloc: Global, apdu: &Apdu) -> Vec<u8> {
     match encode_apdu(alloc, apdu) {
-        Ok(octets) => Ok(octets),
-        Err(OutOfMemory) => encode_apdu(alloc, apdu),
+        Ok(octets) => octets,
+        Err(OutOfMemory) => encode_apdu(alloc, apdu).expect(rt, "memory"),
     }
 }
 
 /// A copy, at the latest when memory is asked for again.
-fn copied(apdu: &Apdu) -> Result<Apdu, AllocError> {
+fn copied(rt: &impl Abort, apdu: &Apdu) -> Apdu {
     match apdu.clone() {
-        Ok(copy) => Ok(copy),
-        Err(_) => apdu.clone(),
+        Ok(copy) => copy,
+        Err(_) => apdu.clone().expect(rt, "memory"),
     }
 }
 
@@ -53,16 +58,11 @@ fn are_equal(one: &Apdu, other: &Apdu) -> bool {
 }
 
 /// The APDU is equal to that of its canonical octets, and to its copy.
-fn is_equal_to_its_like(
-    rt: &impl Abort,
-    alloc: Global,
-    apdu: &Apdu,
-    canonical: &[u8],
-) -> Result<(), Fail> {
-    let (again, _) = decoded(rt, alloc, canonical)?;
+fn is_equal_to_its_like(rt: &impl Abort, alloc: Global, apdu: &Apdu, canonical: &[u8]) {
+    let again = apdu_of(rt, alloc, canonical);
     assert_holds(rt, are_equal(apdu, &again), canonical);
-    assert_holds(rt, are_equal(&copied(apdu)?, apdu), canonical);
-    Ok(())
+    let copy = copied(rt, apdu);
+    assert_holds(rt, are_equal(&copy, apdu), canonical);
 }
 
 /// The octets come to that. What is read is equal to what its canonical octets are, and to its copy.
@@ -71,65 +71,75 @@ fn comes_to(
     alloc: Global,
     octets: &[u8],
     wanted: Result<(&[u8], Option<usize>), (&str, usize)>,
-) -> Result<(), Fail> {
+) {
     match decoded(rt, alloc, octets) {
         Ok((found, mark)) => {
-            let written = encoded(alloc, &found)?;
+            let written = encoded(rt, alloc, &found);
             assert_same_of(rt, Ok((written.as_slice(), mark)), wanted, octets);
-            is_equal_to_its_like(rt, alloc, &found, &written)?;
+            is_equal_to_its_like(rt, alloc, &found, &written);
         }
         Err(refusal) => {
             let told = (refusal.why.name(), refusal.place);
             assert_same_of(rt, Err(told), wanted, octets);
         }
     }
-    Ok(())
+}
+
+/// The octets are canonical.
+fn is_canonical(rt: &impl Abort, alloc: Global, octets: &[u8]) {
+    comes_to(rt, alloc, octets, Ok((octets, None)));
+}
+
+/// The octets are refused there, for the reason with this name.
+fn refuses(rt: &impl Abort, alloc: Global, octets: &[u8], reason: &str, place: usize) {
+    comes_to(rt, alloc, octets, Err((reason, place)));
 }
 
 /// Each row of the table is as it says.
-fn judge(rt: &impl Abort, alloc: Global, table: &str) -> Result<(), Fail> {
-    for row in rows_of(table)?.iter() {
-        let octets = octets_of(row.octets)?;
-        match row.outcome()? {
-            Outcome::Itself => comes_to(rt, alloc, &octets, Ok((&octets, None)))?,
-            Outcome::Written(written, mark) => {
-                let written = octets_of(written)?;
-                comes_to(rt, alloc, &octets, Ok((&written, Some(mark))))?;
-            }
-            Outcome::Refused(reason, place) => {
-                comes_to(rt, alloc, &octets, Err((reason, place)))?;
-            }
-        }
+fn judge(rt: &impl Abort, alloc: Global, table: &str) {
+    for row in rows_of(table).expect(rt, "rows").iter() {
+        let octets = octets_of(row.octets).expect(rt, "octets");
+        judge_row(rt, alloc, &octets, row.outcome().expect(rt, "an outcome"));
     }
-    Ok(())
+}
+
+/// The octets come to this.
+fn judge_row(rt: &impl Abort, alloc: Global, octets: &[u8], outcome: Outcome) {
+    match outcome {
+        Outcome::Itself => is_canonical(rt, alloc, octets),
+        Outcome::Written(written, mark) => {
+            let written = octets_of(written).expect(rt, "octets");
+            comes_to(rt, alloc, octets, Ok((&written, Some(mark))));
+        }
+        Outcome::Refused(reason, place) => refuses(rt, alloc, octets, reason, place),
+    }
 }
 
 /// Of canonical octets each front is one of these lengths and canonical, or it is Short.
-fn fronts(rt: &impl Abort, alloc: Global, octets: &str, wholes: &str) -> Result<(), Fail> {
-    let octets = octets_of(octets)?;
-    let wholes = places_of(wholes)?;
-    comes_to(rt, alloc, &octets, Ok((&octets, None)))?;
+fn fronts(rt: &impl Abort, alloc: Global, octets: &str, wholes: &str) {
+    let octets = octets_of(octets).expect(rt, "octets");
+    let wholes = places_of(wholes).expect(rt, "places");
+    is_canonical(rt, alloc, &octets);
     for length in 0..octets.len() {
         let front = &octets[..length];
         if wholes.contains(&length) {
-            comes_to(rt, alloc, front, Ok((front, None)))?;
+            is_canonical(rt, alloc, front);
         } else {
-            comes_to(rt, alloc, front, Err(("Short", length)))?;
+            refuses(rt, alloc, front, "Short", length);
         }
     }
-    Ok(())
 }
 
 /// Behind these octets the canonical ones of an APDU are appended, at the latest when memory is asked for again; where
 /// it was refused they stand alone.
-fn appended(rt: &impl Abort, alloc: Global, front: &[u8], apdu: &Apdu) -> Result<Vec<u8>, Fail> {
+fn appended(rt: &impl Abort, alloc: Global, front: &[u8], apdu: &Apdu) -> Vec<u8> {
     let mut out = match Vec::from_slice(alloc, front) {
         Ok(out) => out,
-        Err(_) => Vec::from_slice(alloc, front)?,
+        Err(_) => Vec::from_slice(alloc, front).expect(rt, "memory"),
     };
     if append_apdu(apdu, &mut out).is_err() {
         assert_same(rt, out.as_slice(), front);
-        append_apdu(apdu, &mut out)?;
+        append_apdu(apdu, &mut out).expect(rt, "memory");
     }
-    Ok(out)
+    out
 }

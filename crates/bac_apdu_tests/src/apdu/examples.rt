@@ -1,12 +1,14 @@
 //! The APDUs of the worked examples.
 
 use super::{appended, decoded, judge};
+use crate::expectations::assert_same;
 use bac_tables::octets_of;
-use std::test::Fail;
+use std::alloc::Global;
+use std::process::Abort;
 
 // Of examples 1 to 8 of docs/EXAMPLES.md: a frame without the two octets of its NPDU.
 #[test]
-fn requests_and_answers_are_read(rt: HostRuntime) -> Result<(), Fail> {
+fn requests_and_answers_are_read(rt: HostRuntime) {
     let rows = "
         00 05 01 0C 0C 00 00 00 05 19 55                   -> itself
         01 85 01 0C 0C 00 00 00 05 1A 00 55                -> 00 05 01 0C 0C 00 00 00 05 19 55, differs at 0
@@ -27,12 +29,12 @@ fn requests_and_answers_are_read(rt: HostRuntime) -> Result<(), Fail> {
         80                                                 -> PduType at 0
         3C 01 00 00 0C                                     -> Window at 3
     ";
-    judge(&rt, rt.alloc(), rows)
+    judge(&rt, rt.alloc(), rows);
 }
 
 // Of examples 17 to 21, 24, 51, 52, 64 and 74 to 81 of docs/EXAMPLES.md.
 #[test]
-fn other_services_are_read(rt: HostRuntime) -> Result<(), Fail> {
+fn other_services_are_read(rt: HostRuntime) {
     let rows = "
         00 05 03 0F 0C 00 40 00 01 19 55 3E 44 42 C8 00 00 3F 49 08                        -> itself
         00 05 03 0F 0C 00 40 00 01 19 55 3E 44 42 C8 00 00 3F 49 11                        -> Content at 19
@@ -60,29 +62,31 @@ fn other_services_are_read(rt: HostRuntime) -> Result<(), Fail> {
         00 05 01 0C 0C 00 00 00 05 1D 05 01 00 00 00 00                                    -> Content at 11
         10 00 C4 02 00 00 01 22 01 E0 91 03 23 01 00 00                                    -> Content at 13
     ";
-    judge(&rt, rt.alloc(), rows)
+    judge(&rt, rt.alloc(), rows);
 }
 
-// Of examples 18 and 24 of docs/EXAMPLES.md. With each allocation refused in turn the octets are read and written when
-// memory is asked for again, and what stood in front of them stays.
+/// With each allocation refused in turn the octets are read and written when memory is asked for again, and what stood
+/// in front of them stays.
+fn is_appended(rt: &impl Abort, alloc: Global, text: &str) {
+    let octets = octets_of(text).expect(rt, "octets");
+    let (apdu, mark) = decoded(rt, alloc, &octets).expect(rt, "an APDU");
+    assert_same(rt, mark, None);
+    let out = appended(rt, alloc, &[0x01, 0x04], &apdu);
+    let (front, rest) = out.split_at_checked(2).expect(rt, "two octets");
+    assert_same(rt, front, [0x01, 0x04].as_slice());
+    assert_same(rt, rest, octets.as_slice());
+}
+
+// Of examples 18 and 24 of docs/EXAMPLES.md.
 #[test]
-fn octets_are_appended_behind_others(rt: HostRuntime) -> Result<(), Fail> {
-    let texts = [
-        "00 02 F1 0E 0C 00 00 00 21 1E 09 55 1F",
-        "30 F1 0E 0C 00 00 00 21 1E 29 55 4E 44 42 90 99 9A 4F 29 67 5E 91 02 91 20 5F 1F",
-        "3C 01 00 04 0C 0C 00 00 00 05 19",
-        "3C 01 01 04 0C 55 3E 44 42 90 99",
-        "38 01 02 04 0C 9A 3F",
-        "0E 05 01 03 04 0C AA BB",
-    ];
-    for text in texts {
-        let octets = octets_of(text)?;
-        let (apdu, mark) = decoded(&rt, rt.alloc(), &octets)?;
-        assert_eq!(rt; mark, None);
-        let out = appended(&rt, rt.alloc(), &[0x01, 0x04], &apdu)?;
-        let (front, rest) = out.split_at_checked(2).ok_or("two octets")?;
-        assert_eq!(rt; front, [0x01, 0x04].as_slice());
-        assert_eq!(rt; rest, octets.as_slice());
-    }
-    Ok(())
+fn octets_are_appended_behind_others(rt: HostRuntime) {
+    let alloc = rt.alloc();
+    is_appended(&rt, alloc, "00 02 F1 0E 0C 00 00 00 21 1E 09 55 1F");
+    let results =
+        "30 F1 0E 0C 00 00 00 21 1E 29 55 4E 44 42 90 99 9A 4F 29 67 5E 91 02 91 20 5F 1F";
+    is_appended(&rt, alloc, results);
+    is_appended(&rt, alloc, "3C 01 00 04 0C 0C 00 00 00 05 19");
+    is_appended(&rt, alloc, "3C 01 01 04 0C 55 3E 44 42 90 99");
+    is_appended(&rt, alloc, "38 01 02 04 0C 9A 3F");
+    is_appended(&rt, alloc, "0E 05 01 03 04 0C AA BB");
 }

@@ -1,10 +1,9 @@
 //! Bits that are ignored, and 0 in canonical form (clause 20.1).
 
 use super::judge;
-use std::test::Fail;
 
 #[test]
-fn those_of_requests_are_ignored(rt: HostRuntime) -> Result<(), Fail> {
+fn those_of_requests_are_ignored(rt: HostRuntime) {
     let rows = "
         01 05 01 06       -> 00 05 01 06, differs at 0
         04 05 01 06       -> 00 05 01 06, differs at 0
@@ -21,11 +20,11 @@ fn those_of_requests_are_ignored(rt: HostRuntime) -> Result<(), Fail> {
         0F F5 01 00 04 06 -> 0E 75 01 00 04 06, differs at 0
         09 85 01 00 04 06 -> 08 05 01 00 04 06, differs at 0
     ";
-    judge(&rt, rt.alloc(), rows)
+    judge(&rt, rt.alloc(), rows);
 }
 
 #[test]
-fn those_of_answers_are_ignored(rt: HostRuntime) -> Result<(), Fail> {
+fn those_of_answers_are_ignored(rt: HostRuntime) {
     let rows = "
         21 01 06       -> 20 01 06, differs at 0
         22 01 06       -> 20 01 06, differs at 0
@@ -58,5 +57,5 @@ fn those_of_answers_are_ignored(rt: HostRuntime) -> Result<(), Fail> {
         78 03 04       -> 70 03 04, differs at 0
         7F 03 04       -> 71 03 04, differs at 0
     ";
-    judge(&rt, rt.alloc(), rows)
+    judge(&rt, rt.alloc(), rows);
 }
