@@ -1,10 +1,9 @@
 //! The texts of APDUs.
 
 use super::judge;
-use std::test::Fail;
 
 #[test]
-fn apdus_have_their_texts(rt: HostRuntime) -> Result<(), Fail> {
+fn apdus_have_their_texts(rt: HostRuntime) {
     let rows = "
         01 00 02 75 09 06 -> prio=0 reply=0 conf id=9 sa=1 segs=7 resp=5 opaque choice=6 octets=
         01 00 0E 75 09 03 7F 0C AB -> prio=0 reply=0 conf-seg id=9 sa=1 segs=7 resp=5 seq=3 win=127 more=1 choice=12 octets=AB
@@ -17,5 +16,5 @@ fn apdus_have_their_texts(rt: HostRuntime) -> Result<(), Fail> {
         01 00 71 03 04 -> prio=0 reply=0 abort id=3 srv=1 reason=4
         01 00 70 03 FF -> prio=0 reply=0 abort id=3 srv=0 reason=255
     ";
-    judge(&rt, rt.alloc(), rows)
+    judge(&rt, rt.alloc(), rows);
 }

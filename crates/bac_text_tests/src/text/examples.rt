@@ -1,11 +1,10 @@
 //! The texts of the worked examples.
 
 use super::judge;
-use std::test::Fail;
 
 // Of examples 1 to 6, 17 to 22, 24, 34, 54, 60, 74 and 76 of docs/EXAMPLES.md.
 #[test]
-fn examples_have_their_texts(rt: HostRuntime) -> Result<(), Fail> {
+fn examples_have_their_texts(rt: HostRuntime) {
     let rows = "
         01 04 00 05 01 0C 0C 00 00 00 05 19 55 -> prio=0 reply=1 conf id=1 sa=0 segs=0 resp=5 ReadProperty object=0:5 property=85
         01 54 01 85 01 0C 0C 00 00 00 05 1A 00 55 -> prio=0 reply=1 conf id=1 sa=0 segs=0 resp=5 ReadProperty object=0:5 property=85
@@ -29,5 +28,5 @@ fn examples_have_their_texts(rt: HostRuntime) -> Result<(), Fail> {
         01 04 00 05 02 10 0C 00 40 00 01 1E 09 55 2E 44 42 C8 00 00 2F 39 08 1F -> prio=0 reply=1 conf id=2 sa=0 segs=0 resp=5 WritePropertyMultiple specs=((object=1:1 values=((property=85 value={r:42C80000} priority=8))))
         01 00 50 02 10 0E 91 02 91 20 0F 1E 0C 00 40 00 01 19 55 1F -> prio=0 reply=0 error id=2 choice=16 class=2 code=32 object=1:1 property=85
     ";
-    judge(&rt, rt.alloc(), rows)
+    judge(&rt, rt.alloc(), rows);
 }

@@ -1,10 +1,9 @@
 //! The texts of network messages, and of addresses.
 
 use super::judge;
-use std::test::Fail;
 
 #[test]
-fn messages_have_their_texts(rt: HostRuntime) -> Result<(), Fail> {
+fn messages_have_their_texts(rt: HostRuntime) {
     let rows = "
         01 80 00 -> prio=0 reply=0 net type=00
         01 80 00 00 05 -> prio=0 reply=0 net type=00 network=5
@@ -30,5 +29,5 @@ fn messages_have_their_texts(rt: HostRuntime) -> Result<(), Fail> {
         01 21 00 05 00 00 10 08 -> prio=1 reply=0 dest=5/* hops=0 unconf Who-Is
         01 20 00 05 08 01 02 03 04 05 06 07 08 FE 10 08 -> prio=0 reply=0 dest=5/0102030405060708 hops=254 unconf Who-Is
     ";
-    judge(&rt, rt.alloc(), rows)
+    judge(&rt, rt.alloc(), rows);
 }

@@ -1,11 +1,10 @@
 //! The texts of open values, as the value of a ReadProperty-ACK.
 
 use super::judge;
-use std::test::Fail;
 
 // Of example 16 of docs/EXAMPLES.md, and of every type.
 #[test]
-fn open_values_have_their_texts(rt: HostRuntime) -> Result<(), Fail> {
+fn open_values_have_their_texts(rt: HostRuntime) {
     let rows = "
         01 00 30 01 0C 0C 00 00 00 05 19 55 3E 3F -> prio=0 reply=0 ack id=1 ReadProperty object=0:5 property=85 value={}
         01 00 30 01 0C 0C 00 00 00 05 19 55 3E 75 06 00 48 65 6C 6C 6F 3F -> prio=0 reply=0 ack id=1 ReadProperty object=0:5 property=85 value={s:\"Hello\"}
@@ -39,5 +38,5 @@ fn open_values_have_their_texts(rt: HostRuntime) -> Result<(), Fail> {
         01 00 30 01 0C 0C 00 00 00 05 19 55 3E 0E 0F 1E 1F 3F -> prio=0 reply=0 ack id=1 ReadProperty object=0:5 property=85 value={[0]{} [1]{}}
         01 00 30 01 0C 0C 00 00 00 05 19 55 3E F8 FE 3F -> prio=0 reply=0 ack id=1 ReadProperty object=0:5 property=85 value={[254]}
     ";
-    judge(&rt, rt.alloc(), rows)
+    judge(&rt, rt.alloc(), rows);
 }

@@ -1,11 +1,10 @@
 //! The texts of services.
 
 use super::judge;
-use std::test::Fail;
 
 // Fields that may be absent, lists that may be empty, and services without a production.
 #[test]
-fn services_have_their_texts(rt: HostRuntime) -> Result<(), Fail> {
+fn services_have_their_texts(rt: HostRuntime) {
     let rows = "
         01 00 30 01 0E -> prio=0 reply=0 ack id=1 ReadPropertyMultiple results=()
         01 00 30 01 0E 0C 00 00 00 05 -> prio=0 reply=0 ack id=1 ReadPropertyMultiple results=((object=0:5))
@@ -27,5 +26,5 @@ fn services_have_their_texts(rt: HostRuntime) -> Result<(), Fail> {
         01 00 30 07 10 01 -> prio=0 reply=0 ack id=7 opaque choice=16 octets=01
         01 00 50 01 06 91 02 -> prio=0 reply=0 error id=1 choice=6 octets=9102
     ";
-    judge(&rt, rt.alloc(), rows)
+    judge(&rt, rt.alloc(), rows);
 }
