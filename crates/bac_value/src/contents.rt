@@ -34,6 +34,7 @@ pub fn written_len_of(number: u8, contents: &[u8]) -> usize
 
 /// The first place at which contents differ from those that are written of their value, of the type with that
 /// application number, at most 12, and none where they are those.
+#[inline(always)]
 pub fn mark_contents(number: u8, contents: &[u8]) -> Option<usize>
     requires number { number ≤ 12 }
     requires contents { (prim : PrimitiveValue) × ContentsOf number prim contents.now }

@@ -55,6 +55,7 @@ pub enum PrimRef<'a> {
 impl<'a> PrimRef<'a> {
     /// The value of the type with that application number of which these contents are written, borrowed from
     /// them.
+    #[inline(always)]
     pub fn of_contents(number: u8, octets: &'a [u8]) -> PrimRef<'a>
         requires number { number ≤ 12 }
         requires written { IsWrittenOf number octets.now }

@@ -1,12 +1,12 @@
 //! Numbers within a range as contents: 1 to 8 octets, the most significant octet first (clauses 20.2.4 and
 //! 20.2.11).
 
-ghost use Rattle.std.specs.Prelude.{◌≡◌, ◌<◌, ◌≤◌, ◌+◌, ◌++◌, ℕ, length, slice_index, IfOk, IfErr, OnOk, OnErr, IfSome, IfNone, IsTrue, ◌^◌};
+ghost use Rattle.std.specs.Prelude.{◌≡◌, ◌<◌, ◌≤◌, ◌+◌, ◌++◌, ℕ, length, slice_index, IfOk, IfErr, OnOk, OnErr, IfSome, IfNone, ◌^◌};
 ghost use Rattle.bac_tag.specs.Octets.{FirstDifference};
 ghost use Rattle.bac_tag.specs.Number.{number, BeginsNumber, MissesAt};
 ghost use Rattle.bac_value.specs.Numbers.{NumberContents, HasNumberLength, least_number, IsNumberReason};
 
-use bac_tag::layers::{first_difference, first_hopeless, number_of, number_within};
+use bac_tag::layers::{first_difference, first_hopeless, number_within};
 use bac_tag::{OutOfMemory, Refusal, Why};
 
 /// The number between `low` and `high` whose contents are these octets.
@@ -98,29 +98,20 @@ pub fn written_number_len(number: u64) -> usize
     significant(&number.to_be_bytes()).len()
 }
 
-/// Whether the octets are those that are written of a number: they spell it, and no zero stands in front of others.
+/// The first place at which the octets of a number, 1 to 8 of them, differ from the fewest that spell it, and none where
+/// they are those.
 #[inline]
-fn are_written(octets: &[u8], number: u64) -> bool
-    ensures { IsTrue result → octets.now ≡ least_number number }
+pub fn mark_number(octets: &[u8]) -> Option<usize>
+    requires { HasNumberLength (length octets.now) }
+    ensures none { IfNone result (octets.now ≡ least_number (number octets.now)) }
+    ensures some { IfSome result (FirstDifference octets.now (least_number (number octets.now))) }
 {
+    // Only zeros in front of others are too many.
     match octets {
-        [_] => number_of(octets) == number,
-        [first, ..] if *first != 0 && octets.len() <= 8 => number_of(octets) == number,
-        _ => false,
+        [_] => None,
+        [first, ..] if *first != 0 => None,
+        _ => first_difference(octets, significant(octets)),
     }
-}
-
-/// The first place at which octets differ from those that are written of a number, and none where they are
-/// those.
-#[inline]
-pub fn mark_number(number: u64, octets: &[u8]) -> Option<usize>
-    ensures none { IfNone result (octets.now ≡ least_number number) }
-    ensures some { IfSome result (FirstDifference octets.now (least_number number)) }
-{
-    if are_written(octets, number) {
-        return None;
-    }
-    first_difference(octets, significant(&number.to_be_bytes()))
 }
 
 /// Appends the fewest octets that spell a number of more than one octet. Where memory is refused `out` stays as it was.

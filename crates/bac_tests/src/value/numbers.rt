@@ -235,9 +235,9 @@ fn the_first_octet_that_leaves_the_range_is_told(rt: HostRuntime) {
 #[test]
 fn a_number_has_its_fewest_octets(rt: HostRuntime) {
     assert_same(&rt, written_number_len(85), 1);
-    assert_same(&rt, mark_number(85, &[0, 0x55]), Some(0));
-    assert_same(&rt, mark_number(0, &[0, 0]), Some(1));
-    assert_same(&rt, mark_number(85, &[0x55]), None);
+    assert_same(&rt, mark_number(&[0, 0x55]), Some(0));
+    assert_same(&rt, mark_number(&[0, 0]), Some(1));
+    assert_same(&rt, mark_number(&[0x55]), None);
     assert_same(&rt, hopeless_number(&[0, 1], 4, 0, 0xFFFF), Some(1));
     assert_same(&rt, hopeless_number(&[0, 0], 4, 0, 0xFFFF), None);
     let mut out = Vec::new(rt.alloc());

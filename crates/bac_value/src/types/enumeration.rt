@@ -63,7 +63,7 @@ impl Primitive for Enumerated {
     }
 
     fn mark(&self, octets: &[u8]) -> Option<usize> {
-        mark_number(u64::from(self.0), octets)
+        mark_number(octets)
     }
 
     fn write(&self, out: &mut Vec<u8>) -> Result<(), OutOfMemory> {

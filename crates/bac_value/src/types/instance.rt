@@ -111,7 +111,7 @@ impl Primitive for Instance {
     }
 
     fn mark(&self, octets: &[u8]) -> Option<usize> {
-        mark_number(u64::from(self.number()), octets)
+        mark_number(octets)
     }
 
     fn write(&self, out: &mut Vec<u8>) -> Result<(), OutOfMemory> {

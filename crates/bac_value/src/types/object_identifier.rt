@@ -124,6 +124,7 @@ impl Primitive for ObjectId {
         None
     }
 
+    #[inline(always)]
     fn write(&self, out: &mut Vec<u8>) -> Result<(), OutOfMemory> {
         out.extend_from_slice(&self.octets())?;
         Ok(())

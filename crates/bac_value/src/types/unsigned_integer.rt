@@ -55,7 +55,7 @@ impl Primitive for Unsigned {
     }
 
     fn mark(&self, octets: &[u8]) -> Option<usize> {
-        mark_number(self.0, octets)
+        mark_number(octets)
     }
 
     fn write(&self, out: &mut Vec<u8>) -> Result<(), OutOfMemory> {
