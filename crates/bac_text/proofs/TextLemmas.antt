@@ -1,7 +1,7 @@
 -- Texts that are appended one behind the other.
-use Rattle.std.proofs.Common.{◌≡◌, ℕ, ◌+◌, ◌<◌, List, [], ◌∷◌, ◌++◌, length, take, get_or, map, refl, sym, ap, ◌∙◌, append_assoc, append-nil, arith}
+use Rattle.std.proofs.Common.{◌≡◌, ℕ, ◌+◌, ◌<◌, List, [], ◌∷◌, ◌++◌, length, take, map, refl, sym, ap, ◌∙◌, append_assoc, arith}
 use Rattle.std.proofs.Math.ListN.{set}
-use Rattle.std.proofs.lemmas.List.{take_more, take_more_set, take_at, map-append}
+use Rattle.std.proofs.lemmas.List.{take_more_set, take_at, map-append}
 use Rattle.std.proofs.lemmas.List.FromFn.{map-range_with_len_more}
 use Rattle.std.specs.Prelude.{Bool, true, false, codes, Result, Ok, Err, IfOk, OnErr}
 use Rattle.std.specs.Int.{from_bool}
@@ -57,11 +57,7 @@ pub extends_last : {T E : Type 0} (r : Result T E) (old mid new : List ℕ) → 
 extends_last (Ok x) old mid new p q = tt
 extends_last (Err x) old mid new p q = extends_more old mid new p q
 
--- ---- octets, bits and lists
-
-flat_map-append : {X : Type 0} (f : X → List ℕ) (xs ys : List X) → flat_map f (xs ++ ys) ≡ flat_map f xs ++ flat_map f ys
-flat_map-append f [] ys = refl
-flat_map-append f (x ∷ xs) ys = ap (λ l. f x ++ l) (flat_map-append f xs ys) ∙ sym (append_assoc (f x) (flat_map f xs) (flat_map f ys))
+-- ---- bits
 
 -- one bit more
 pub bits_step : (old room packed : List ℕ) (at n d : ℕ) → at + n < length room → d ≡ bit_digit (bit_in packed n) → take (at + n) room ≡ old ++ map bit_digit (bits_in packed n)
@@ -71,15 +67,6 @@ bits_step old room packed at n d inside e p =
     ap (λ k. take k (set room (at + n) d)) behind ∙ take_more_set room (at + n) d inside ∙ ap (λ k. take (at + n) room ++ k ∷ []) e ∙ ap (λ l. l ++ bit_digit (bit_in packed n) ∷ []) p
     ∙ append_assoc old (map bit_digit (bits_in packed n)) (bit_digit (bit_in packed n) ∷ [])
     ∙ ap (λ l. old ++ l) (sym (ap (map bit_digit) (map-range_with_len_more (bit_in packed) 0 n n (omega arith)) ∙ map-append bit_digit (bits_in packed n) (bit_in packed n ∷ [])))
-
--- one item more behind a list
-pub others_step : {X : Type 0} (text : X → List ℕ) (old out mid new : List ℕ) (items : List X) (i : ℕ) (item : X) → i < length items → item ≡ get_or items i item → out ≡ old ++ flat_map (λ x. codes " " ++ text x) (take i items)
-    → mid ≡ out ++ codes " " → new ≡ mid ++ text item → new ≡ old ++ flat_map (λ x. codes " " ++ text x) (take (i + 1) items)
-others_step {X} text old out mid new items i item below is p q r =
-    let f : X → List ℕ = λ (x : X). codes " " ++ text x in
-    let taken : take (i + 1) items ≡ take i items ++ item ∷ [] = take_more items i item below ∙ ap (λ x. take i items ++ x ∷ []) (sym is) in
-    r ∙ ap (λ l. l ++ text item) q ∙ append_assoc out (codes " ") (text item) ∙ ap (λ l. l ++ f item) p ∙ append_assoc old (flat_map f (take i items)) (f item)
-    ∙ ap (λ l. old ++ l) (ap (λ l. flat_map f (take i items) ++ l) (sym (append-nil (f item))) ∙ sym (flat_map-append f (take i items) (item ∷ [])) ∙ ap (flat_map f) (sym taken))
 
 -- ---- lists of values that stand for others
 
