@@ -44,7 +44,7 @@ fn put_pair(room: &mut [u8], at: usize, first: u8, second: u8)
     room[at + 1] = second;
 }
 
-/// Writes a word at a place, and returns where it ends.
+/// Writes a word at a place behind which there is room for it, and returns where it ends.
 #[inline(always)]
 pub fn put_word<const N: usize>(room: &mut [u8], at: usize, word: &[u8; N]) -> usize
     requires { at + N ≤ length room.old }
@@ -57,7 +57,7 @@ pub fn put_word<const N: usize>(room: &mut [u8], at: usize, word: &[u8; N]) -> u
     at + N
 }
 
-/// Writes octets at a place, and returns where they end.
+/// Writes octets at a place behind which there is room for them, and returns where they end.
 #[inline(always)]
 pub fn put_octets(room: &mut [u8], at: usize, octets: &[u8]) -> usize
     requires { at + length octets.now ≤ length room.old }
@@ -213,7 +213,8 @@ fn digits_of(octet: u8) -> [u8; 2]
     ]
 }
 
-/// Writes two hexadecimal digits for each octet at a place, in upper case. Returns where they end.
+/// Writes two hexadecimal digits for each octet, in upper case, at a place behind which there is room for them. Returns
+/// where they end.
 #[inline(always)]
 pub fn put_hexadecimal(room: &mut [u8], at: usize, octets: &[u8]) -> usize
     requires room { at + 2 * length octets.now ≤ length room.old }
@@ -258,8 +259,8 @@ fn lengthen(out: &mut Vec<u8>, at: usize, room: usize) -> Result<(), OutOfMemory
     Ok(())
 }
 
-/// Makes the vector longer where it has less room than this behind the place. What is written there begins at the place:
-/// so a text of many parts asks for room part by part, and the vector is made longer only now and then. What stands
+/// Makes the vector longer where it has less room than this, in octets, behind the place, which must be at most its
+/// length. A text of many parts asks for room part by part, and the vector is made longer only now and then. What stands
 /// behind the place is of no meaning; `truncate` cuts it off where the text ends.
 ///
 /// # Errors

@@ -86,7 +86,8 @@ impl HasText for Body {
 }
 
 /// Writes the text of the frame with this head and this body, which [`append_text`] describes, at a place of the vector,
-/// and returns where it ends. The vector is made longer where it has too little room; behind the end anything may stand.
+/// which must be at most its length, and returns where it ends. The vector is made longer where it has too little room;
+/// behind the end anything may stand.
 ///
 /// # Errors
 /// `OutOfMemory` where memory is refused. Some of the text may then be there.
