@@ -1,13 +1,13 @@
 //! Contents of any primitive type (clauses 20.2.2 to 20.2.14), without a value of their own: they are written,
 //! counted and marked where they lie.
 
-ghost use Rattle.std.specs.Prelude.{◌≡◌, ◌≤◌, ◌++◌, length, OnOk, OnErr, IfNone, IfSome};
+ghost use Rattle.std.specs.Prelude.{◌≡◌, ◌↔◌, ◌≤◌, ◌++◌, length, IsTrue, OnOk, OnErr, IfNone, IfSome};
 ghost use Rattle.bac_tag.specs.Octets.{FirstDifference};
 ghost use Rattle.bac_value.specs.declared.prim.PrimitiveValue.{PrimitiveValue};
-ghost use Rattle.bac_value.specs.PrimContents.{prim_written, ContentsOf};
+ghost use Rattle.bac_value.specs.PrimContents.{prim_written, ContentsOf, IsWrittenOf};
 
 use crate::thirteen::at_number;
-use crate::variants::{append_variant, mark_variant, written_len_variant};
+use crate::variants::{append_variant, is_written_variant, mark_variant, written_len_variant};
 use bac_tag::OutOfMemory;
 
 /// Appends what is written of the value whose contents these are, of the type with that application number
@@ -42,4 +42,13 @@ pub fn mark_contents(number: u8, contents: &[u8]) -> Option<usize>
     ensures some { IfSome result (λ place. (prim : PrimitiveValue) → ContentsOf number prim contents.now → FirstDifference contents.now (prim_written prim) place) }
 {
     at_number!(number, mark_variant(contents))
+}
+
+/// Whether octets are those that are written of a value of the type with that application number, at most 12.
+#[inline(always)]
+pub fn are_written(number: u8, octets: &[u8]) -> bool
+    requires number { number ≤ 12 }
+    ensures { IsTrue result ↔ IsWrittenOf number octets.now }
+{
+    at_number!(number, is_written_variant(octets))
 }

@@ -98,9 +98,24 @@ pub fn written_number_len(number: u64) -> usize
     significant(&number.to_be_bytes()).len()
 }
 
+/// What [`mark_number`] returns of octets in which a zero stands in front of others.
+#[inline(never)]
+fn mark_zeros(octets: &[u8]) -> Option<usize>
+    requires sized { HasNumberLength (length octets.now) }
+    requires zero { slice_index octets.now 0 ≡ 0 }
+    ensures none { IfNone result (octets.now ≡ least_number (number octets.now)) }
+    ensures some { IfSome result (FirstDifference octets.now (least_number (number octets.now))) }
+{
+    // The fewest octets begin with another one, unless the number is zero.
+    match first_other_than_zero(octets) {
+        Some(_) => Some(0),
+        None => first_difference(octets, significant(octets)),
+    }
+}
+
 /// The first place at which the octets of a number, 1 to 8 of them, differ from the fewest that spell it, and none where
 /// they are those.
-#[inline]
+#[inline(always)]
 pub fn mark_number(octets: &[u8]) -> Option<usize>
     requires { HasNumberLength (length octets.now) }
     ensures none { IfNone result (octets.now ≡ least_number (number octets.now)) }
@@ -110,7 +125,7 @@ pub fn mark_number(octets: &[u8]) -> Option<usize>
     match octets {
         [_] => None,
         [first, ..] if *first != 0 => None,
-        _ => first_difference(octets, significant(octets)),
+        _ => mark_zeros(octets),
     }
 }
 

@@ -1,6 +1,6 @@
 //! Each primitive type as one of the thirteen.
 
-ghost use Rattle.std.specs.Prelude.{◌≡◌, ◌≢◌, IsTrue, ◌≤◌, ◌++◌, [], IfSome, IfNone, length, IfOk, IfErr, OnOk, OnErr};
+ghost use Rattle.std.specs.Prelude.{◌≡◌, ◌≢◌, ◌↔◌, IsTrue, ◌≤◌, ◌++◌, [], IfSome, IfNone, length, IfOk, IfErr, OnOk, OnErr};
 ghost use Rattle.std.proofs.Common.{refl};
 ghost use Rattle.bac_tag.specs.Octets.{FirstDifference};
 ghost use Rattle.bac_value.specs.declared.prim.PrimitiveValue.{PrimitiveValue};
@@ -13,7 +13,7 @@ ghost use Rattle.bac_value.specs.Laws.VariantsOfPrim.{null_variant, boolean_vari
 use crate::prim::PrimitiveValue;
 use crate::prim_ref::PrimRef;
 use crate::primitives::Primitive;
-use crate::ranged_numbers::{significant, significant_of_four};
+use crate::ranged_numbers::{mark_number, significant, significant_of_four};
 use crate::types::bit_string::{Bits, append_cleared, mark_unused};
 use crate::types::boolean_value::Boolean;
 use crate::types::character_string::Text;
@@ -150,6 +150,18 @@ pub(crate) fn hopeless_variant<T: Variant>(front: &[u8], size: usize) -> Option<
     T::hopeless(front, size)
 }
 
+/// Whether octets are those that are written of a value of this type.
+#[inline(always)]
+pub(crate) fn is_written_variant<T: Variant>(octets: &[u8]) -> bool
+    ensures { IsTrue result ↔ IsWrittenOf T.APP octets.now }
+{
+    let size = octets.len();
+    if size < T::SHORTEST || T::LONGEST < size || T::hopeless(octets, size).is_some() {
+        return false;
+    }
+    T::mark_contents(octets).is_none()
+}
+
 impl Variant for Null {
     ghost wrapped = { PrimitiveValue.Null };
 
@@ -229,7 +241,7 @@ impl Variant for Unsigned {
     }
 
     fn mark_contents(octets: &[u8]) -> Option<usize> {
-        first_difference(octets, significant(octets))
+        mark_number(octets)
     }
 
     ghost is_variant = { unsigned_variant };
@@ -441,7 +453,7 @@ impl Variant for Enumerated {
     }
 
     fn mark_contents(octets: &[u8]) -> Option<usize> {
-        first_difference(octets, significant_of_four(octets))
+        mark_number(octets)
     }
 
     ghost is_variant = { enumerated_variant };

@@ -4,7 +4,7 @@ ghost use Rattle.std.specs.Prelude.{◌≤◌, ◌<◌};
 
 use crate::expectations::{assert_holds, assert_joined, assert_same};
 use bac_tables::{enclosed, mixed, octets_of};
-use bac_value::layers::{append_written, mark_contents, write_number, written_len_of};
+use bac_value::layers::{append_written, are_written, mark_contents, write_number, written_len_of};
 use bac_value::{Bits, Octets, Prim, PrimRef, Primitive, Text};
 use std::alloc::Global;
 use std::process::Abort;
@@ -41,6 +41,7 @@ fn kept_under(rt: &impl Abort, alloc: Global, number: u8, contents: &[u8]) -> Pr
     assert_joined(rt, &out, contents, contents);
     assert_same(rt, written_len_of(number, contents), contents.len());
     assert_same(rt, mark_contents(number, contents), None);
+    assert_holds(rt, are_written(number, contents), contents.len());
     let mut out = copied(rt, alloc, contents);
     append_written(number, contents, &mut out).expect(rt, "memory");
     assert_joined(rt, &out, contents, contents);

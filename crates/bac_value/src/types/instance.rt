@@ -96,6 +96,7 @@ impl Primitive for Instance {
 
     ghost wants_memory = { false };
 
+    #[inline(always)]
     fn read(_alloc: Global, octets: &[u8]) -> Result<Instance, Refusal> {
         Ok(Instance {
             number: read_number(octets, 0, LAST as u64)? as u32,
@@ -110,6 +111,7 @@ impl Primitive for Instance {
         written_number_len(u64::from(self.number()))
     }
 
+    #[inline(always)]
     fn mark(&self, octets: &[u8]) -> Option<usize> {
         mark_number(octets)
     }
