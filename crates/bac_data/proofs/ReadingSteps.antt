@@ -1,5 +1,5 @@
 -- What a reader keeps, step by step.
-use Rattle.std.proofs.Common.{◌≡◌, ℕ, ◌+◌, ◌-◌, ◌<◌, ◌≤◌, Bool, true, false, Option, None, Some, List, [], ◌∷◌, ◌++◌, take, drop, length, reverse, refl, sym, ◌∙◌, ap, subst, arith, take-add}
+use Rattle.std.proofs.Common.{◌≡◌, ℕ, ◌+◌, ◌-◌, ◌<◌, ◌≤◌, Bool, true, false, Option, None, Some, List, [], ◌∷◌, ◌++◌, take, drop, length, reverse, refl, sym, ◌∙◌, ap, subst, arith, take-add, length-append, length-take}
 use Rattle.std.proofs.lemmas.List.{append_cancel_left, length-reverse}
 use Rattle.std.specs.Prelude.{is_some, IsTrue, ◌↔◌}
 use Rattle.bac_tag.specs.Octets.{IsMark, joined_mark}
@@ -7,14 +7,17 @@ use Rattle.bac_tag.specs.Spelling.{IsLeast, AppendsLeast}
 use Rattle.bac_tag.specs.Heads.{Heads}
 use Rattle.bac_tag.specs.Laws.Heads.{heads_end}
 use Rattle.bac_tag.specs.declared.heads.TagHead.TheVariants.{Open}
+use Rattle.bac_tag.proofs.MarksLemmas.{spelled_some}
 use Rattle.bac_data.specs.declared.items.Item.{Item}
-use Rattle.bac_data.specs.Events.{Event, opening, SpellsEvent, SpellsEvents}
+use Rattle.bac_data.specs.declared.items.Item.TheVariants as item
+use Rattle.bac_data.specs.Events.{Event, opening, Opens, SpellsEvent, SpellsEvents}
 use Rattle.bac_data.specs.Building.{AreOpen, Keeps, IsPlace, closing_number}
 use Rattle.bac_data.specs.Marks.{HasMark}
-use Rattle.bac_data.specs.Reading.{item_event, item_contents, IsItem, LiesInFront}
-use Rattle.bac_data.proofs.AnyLemmas.{HasRead}
+use Rattle.bac_data.specs.Reading.{item_event, item_contents, item_head, IsItem, IsApplication, LiesInFront, BeginsLeast}
+use Rattle.bac_data.proofs.AnyLemmas.{HasRead, has_read_more}
+use Rattle.bac_data.proofs.BuildingLemmas.{open_kept}
 use Rattle.bac_data.proofs.LeastLemmas.{least_more, least_none}
-use Rattle.bac_data.proofs.MarkLemmas.{marked_more, marked_already}
+use Rattle.bac_data.proofs.MarkLemmas.{ItemMark, least_lies, least_item, marked_more, marked_already}
 use Rattle.bac_data.proofs.WalkLemmas.{in_two}
 
 -- ---- what is kept
@@ -82,3 +85,47 @@ pub behind_marked : (number : ℕ) (input : List ℕ) (place start taken : ℕ) 
 behind_marked number input place start taken i es None own r within is lies f e k = marked_more input place start taken i own within is lies (f refl) number es (es ++ item_event i ∷ []) None r k e refl
 behind_marked number input place start taken i es (Some p) own r within is lies f e k =
     subst (HasMark number input (place + taken) (es ++ item_event i ∷ [])) (sym e) (marked_already input place taken i number es (es ++ item_event i ∷ []) (Some p) is refl k refl)
+
+-- ---- primitives that stand in their canonical octets
+
+unmarked : (m : Option ℕ) (place : ℕ) → m ≡ joined_mark m place None
+unmarked None place = refl
+unmarked (Some p) place = refl
+
+stays : (i : Item) → IsApplication i → (s : List ℕ) → Opens 32 s (item_event i ∷ []) s
+stays (item.Application number contents) a s = refl
+stays (item.Boolean bit) a s = absurd a
+stays (item.Context number octets) a s = absurd a
+stays (item.Open number) a s = absurd a
+stays (item.Close number) a s = absurd a
+
+-- what is kept of one more item, of which these are the canonical octets
+pub kept_octets : (mark : Option ℕ) (es : List Event) (e : Event) (old octets new : List ℕ) → (is_some mark ≡ false → new ≡ old) → (is_some mark ≡ true → new ≡ old ++ octets) → IsLeast (SpellsEvent e) octets → Keeps mark es old
+    → Keeps mark (es ++ e ∷ []) new
+kept_octets None es e old octets new none some least k = none refl ∙ k
+kept_octets (Some place) es e old octets new none some least k = subst (IsLeast (SpellsEvents (es ++ e ∷ []))) (sym (some refl)) (least_more es e old octets k least)
+
+module _ (i : Item) (taken : ℕ) (octets : List ℕ) (b : BeginsLeast i taken octets) where
+  pub begun_mark : ItemMark (take 1 octets) i None
+  begun_mark = least_lies i b.is_item (take 1 octets) b.lies.headed (let some = spelled_some (item_head i) (take 1 octets) b.lies.headed in omega (arith, some, length-take 1 octets)) b.least
+
+  pub begun_least : IsLeast (SpellsEvent (item_event i)) (take taken octets)
+  begun_least = let l = least_item i b.is_item in subst (IsLeast (SpellsEvent (item_event i))) (sym (b.lies.octets_are ∙ begun_mark l.0 l.1)) l.1
+
+-- one more item that begins with its canonical octets
+pub read_least : (number : ℕ) (input : List ℕ) (start place count taken next more : ℕ) (groups kept new : List ℕ) (mark : Option ℕ) (i : Item) → BeginsLeast i taken (drop place input) → taken ≤ length (drop place input)
+    → ((es : List Event) (e : Event) → IsLeast (SpellsEvent e) (take taken (drop place input)) → Keeps mark es kept → Keeps mark (es ++ e ∷ []) new)
+    → next ≡ place + taken → more ≡ count + 1 → Reading number input start place count groups kept mark → Reading number input start next more groups new mark
+read_least number input start place count taken next more groups kept new mark i b within keeps n m r =
+    let e = item_event i in
+    let least = begun_least i taken (drop place input) b in
+    rw (n, m) (record {
+      es = r.es ++ e ∷ [];
+      read = has_read_more number input place taken r.es (r.es ++ e ∷ []) e r.read within least.member refl;
+      marked = marked_more input place 1 taken i None r.read.within b.is_item b.lies (begun_mark i taken (drop place input) b) number r.es (r.es ++ e ∷ []) mark mark r.marked (unmarked mark place) refl;
+      are_open = open_kept r.es e groups r.are_open (stays i b.primitive);
+      counted = omega (arith, r.counted, length-append r.es (e ∷ []));
+      keeps = keeps r.es e least r.keeps;
+      begun = omega (arith, r.begun);
+      opened = r.opened;
+    })

@@ -92,3 +92,15 @@ pub record LiesInFront (item : Item) (start taken : ℕ) (octets : List ℕ) : T
   pub within : start ≤ taken
   pub headed : Heads (item_head item) (take start octets)
   pub octets_are : take taken octets ≡ take start octets ++ item_contents item
+
+-- it is an application primitive, and no Boolean
+abbrev pub IsApplication : Item → Type 0
+IsApplication (item.Application number contents) = Unit {0}
+IsApplication _ = ⊥
+
+-- an application primitive with a head of one octet lies there, and so many octets at the front are its canonical ones
+pub record BeginsLeast (item : Item) (taken : ℕ) (octets : List ℕ) : Type 0 where
+  pub is_item : IsItem item
+  pub primitive : IsApplication item
+  pub lies : LiesInFront item 1 taken octets
+  pub least : HasLeastContents item

@@ -10,16 +10,17 @@ ghost use Rattle.bac_value.specs.Primitives.{IsBegun, OfSize};
 ghost use Rattle.bac_value.specs.PrimContents.{ContentsOf};
 ghost use Rattle.bac_tag.specs.Refusals.{IsHeadReason};
 ghost use Rattle.bac_data.specs.Refusals.{IsContentsReason, IsItemReason, BeginsGroup};
+ghost use Rattle.bac_data.specs.declared.items.Item.{Item};
 ghost use Rattle.bac_data.specs.Under.{Under, HasContents};
 ghost use Rattle.bac_data.specs.Events.{SpellsEvent};
-ghost use Rattle.bac_data.specs.Reading.{SpellsStanding, next_heads, item_event, item_contents, item_head, IsItem, HasLeastContents, LiesInFront};
+ghost use Rattle.bac_data.specs.Reading.{SpellsStanding, next_heads, item_event, item_contents, item_head, IsItem, HasLeastContents, LiesInFront, BeginsLeast};
 
 use crate::quick_heads::quick_head;
 use bac_tag::layers::{
     Expected, is_short_closing, joined_marks, mark_read_head, read_one_of, short_len,
 };
 use bac_tag::{Refusal, TagHead, Why, read_head};
-use bac_value::layers::{mark_contents, written_len_of};
+use bac_value::layers::{are_written, mark_contents, written_len_of};
 use bac_value::{
     Bits, Date, DoubleBits, Enumerated, Null, ObjectId, Octets, Prim, Primitive, RealBits, Signed,
     Text, Time, Unsigned,
@@ -255,6 +256,26 @@ fn read_short_item(octets: &[u8], closing: u8) -> Option<(Item<'_>, usize)>
     match read_under(head, &octets[1..]) {
         Ok((item, taken)) => Some((item, 1 + taken)),
         Err(_) => None,
+    }
+}
+
+/// How many octets the application primitive at the front takes, where they are its canonical ones and its head has one
+/// octet. None tells nothing of the octets.
+#[inline(always)]
+pub(crate) fn least_primitive(octets: &[u8]) -> Option<usize>
+    ensures within { IfSome result (λ taken. taken ≤ length octets.now) }
+    ensures found { IfSome result (λ taken. (item : Item) × BeginsLeast item taken octets.now) }
+{
+    let number = *octets.first()? >> 4;
+    if number > 12 || number == 1 {
+        return None;
+    }
+    let size = short_len(octets, false, number)?;
+    let contents = octets[1..].get(..size)?;
+    if are_written(number, contents) {
+        Some(1 + size)
+    } else {
+        None
     }
 }
 

@@ -12,7 +12,7 @@ ghost use Rattle.bac_data.specs.Refusals.{IsOpenValueReason, IsTooDeep};
 ghost use Rattle.bac_data.specs.Building.{AreOpen, Keeps, MayFollow, closing_number};
 
 use crate::building::MAX_GROUPS;
-use crate::items::{Item, mark_item, read_item};
+use crate::items::{Item, least_primitive, mark_item, read_item};
 use crate::open_value::Any;
 use crate::writing::append_item;
 use arrayvec::ArrayVec;
@@ -99,6 +99,17 @@ fn keep(
         begin(front, kept)?;
     }
     append_item(item, kept)
+}
+
+/// Keeps the canonical octets of an item, where those of an item in front of it are not the canonical ones.
+#[inline(always)]
+fn keep_octets(octets: &[u8], mark: Option<usize>, kept: &mut Vec<u8>) -> Result<(), OutOfMemory>
+    ensures { OnOk result ((es : List Event) (event : Event) → IsLeast (SpellsEvent event) octets.now → Keeps mark es kept.old.items → Keeps mark (es ++ event ∷ []) kept.new.items) }
+{
+    if mark.is_some() {
+        kept.extend_from_slice(octets)?;
+    }
+    Ok(())
 }
 
 /// Room for what follows the first octet that is not canonical. Most values have less.
@@ -200,6 +211,14 @@ pub fn read_any_marked(
     let mut count = 0;
     let mut place = start;
     loop {
+        if let Some(taken) = least_primitive(&octets[place..]) {
+            if keep_octets(&octets[place..place + taken], mark, &mut kept).is_err() {
+                return Err(Refusal::out_of_memory());
+            }
+            count += 1;
+            place += taken;
+            continue;
+        }
         let (room, closing) = place_in(&groups, number);
         let (item, head, taken) = match read_item(&octets[place..], room, closing) {
             Ok(found) => found,
