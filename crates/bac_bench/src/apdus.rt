@@ -159,8 +159,7 @@ pub fn begin(rt: &impl Print, mode: Mode) -> io::Result<()> {
         "APDUs; the best of {repetitions} repetitions of {BATCH} messages each; x: times as long as the service alone"
     )?;
     println!(rt;
-        "{:<26} {:>8} {:>12} {:>12} {:>12} {:>8} {:>8} {:>8} {:>8}",
-        "APDU", "octets", "decode/s", "mark/s", "append/s", "x", "x", "x", "head ns"
+        "APDU                         octets     decode/s       mark/s     append/s        x        x        x  head ns"
     )
 }
 
@@ -170,7 +169,6 @@ pub fn add(
     mode: Mode,
     pdu: &Pdu<'_>,
 ) -> Result<(), BenchFault> {
-    let (name, size) = (pdu.name, pdu.octets.len());
     let whole = work(rt, mode, &Apdus, pdu.octets)?;
     let Some((_, service)) = pdu.octets.split_at_checked(pdu.head) else {
         return Err(BenchFault::Differs);
@@ -180,24 +178,29 @@ pub fn add(
         choice: pdu.choice,
     };
     let alone = work(rt, mode, &layer, service)?;
-    match mode {
-        Mode::Once => println!(rt; "APDU of {name}: {size} octets decoded, marked and appended")?,
-        Mode::Time => {
-            let (decode, mark, append) = (
-                speed(whole.decode),
-                speed(whole.mark),
-                speed(whole.append),
-            );
-            println!(rt;
-                "{name:<26} {size:>8} {decode:>12.0} {mark:>12.0} {append:>12.0} {:>8.2} {:>8.2} {:>8.2} {:>8.1}",
-                whole.decode.div_duration_f64(alone.decode),
-                whole.mark.div_duration_f64(alone.mark),
-                whole.append.div_duration_f64(alone.append),
-                (nanoseconds(whole.decode) - nanoseconds(alone.decode))
-            )?;
-        }
+    Ok(print(rt, mode, pdu.name, pdu.octets.len(), whole, alone)?)
+}
+
+/// Prints the line of an APDU.
+fn print(
+    rt: &impl Print,
+    mode: Mode,
+    name: &str,
+    size: usize,
+    whole: Times,
+    alone: Times,
+) -> io::Result<()> {
+    if mode == Mode::Once {
+        return println!(rt; "APDU of {name}: {size} octets decoded, marked and appended");
     }
-    Ok(())
+    let (decode, mark, append) = (speed(whole.decode), speed(whole.mark), speed(whole.append));
+    println!(rt;
+        "{name:<26} {size:>8} {decode:>12.0} {mark:>12.0} {append:>12.0} {:>8.2} {:>8.2} {:>8.2} {:>8.1}",
+        whole.decode.div_duration_f64(alone.decode),
+        whole.mark.div_duration_f64(alone.mark),
+        whole.append.div_duration_f64(alone.append),
+        (nanoseconds(whole.decode) - nanoseconds(alone.decode))
+    )
 }
 
 /// Nanoseconds of a message.

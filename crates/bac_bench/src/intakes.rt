@@ -57,22 +57,26 @@ pub fn run(rt: &(impl Print + AllocGlobal + Clock), mode: Mode) -> Result<(), Be
     let whole = time_of(rt, mode, &octets, octets.len())?;
     let packets = time_of(rt, mode, &octets, 1_460)?;
     let single = time_of(rt, mode, &octets, 1)?;
-    match mode {
-        Mode::Once => {
-            println!(rt; "stream: {RECORDS} records fed whole, in pieces and octet by octet")?;
-        }
-        Mode::Time => {
-            println!(rt;
-                "a stream of {RECORDS} records; the best of {} repetitions each",
-                mode.repetitions()
-            )?;
-            println!(rt; "{:<18} {:>10} {:>7}", "pieces", "us", "x whole")?;
-            add(rt, "whole", whole, whole)?;
-            add(rt, "of 1,460 octets", packets, whole)?;
-            add(rt, "of one octet", single, whole)?;
-        }
+    Ok(print(rt, mode, whole, packets, single)?)
+}
+
+/// Prints the table, or that the work is done.
+fn print(
+    rt: &impl Print,
+    mode: Mode,
+    whole: Duration,
+    packets: Duration,
+    single: Duration,
+) -> io::Result<()> {
+    if mode == Mode::Once {
+        return println!(rt; "stream: {RECORDS} records fed whole, in pieces and octet by octet");
     }
-    Ok(())
+    let repetitions = mode.repetitions();
+    println!(rt; "a stream of {RECORDS} records; the best of {repetitions} repetitions each")?;
+    println!(rt; "pieces                     us x whole")?;
+    add(rt, "whole", whole, whole)?;
+    add(rt, "of 1,460 octets", packets, whole)?;
+    add(rt, "of one octet", single, whole)
 }
 
 /// The line of a size of pieces.

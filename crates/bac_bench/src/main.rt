@@ -50,21 +50,42 @@ fn main(rt: HostRuntime) -> ExitCode {
 fn run(rt: &(impl Print + AllocGlobal + Env + Clock)) -> Result<(), BenchFault> {
     let words: Vec<String> = std::env::args(rt)?.collect(rt.alloc())?;
     let mode = Mode::named(&words).ok_or(BenchFault::Usage)?;
-    let largest = contents(rt.alloc(), LARGEST)?;
+    run_all(rt, mode)
+}
+
+/// Every case.
+fn run_all(rt: &(impl Print + AllocGlobal + Clock), mode: Mode) -> Result<(), BenchFault> {
     tables::begin(rt, mode)?;
-    tables::add::<Contents<Octets>>(rt, mode, "octet string", &largest)?;
-    tables::add::<Contents<Text>>(rt, mode, "character string", &largest)?;
-    tables::add::<Contents<Bits>>(rt, mode, "bit string", &largest)?;
-    let one = one_octet_string(rt.alloc(), &largest)?;
-    tables::add::<Any>(rt, mode, "open, one string", &one)?;
-    for repetitions in [4_096, 65_536] {
-        let short = short_primitives(rt.alloc(), repetitions)?;
-        tables::add::<Any>(rt, mode, "open, short values", &short)?;
-    }
+    run_strings(rt, mode, &contents(rt.alloc(), LARGEST)?)?;
+    run_short_values(rt, mode, 4_096)?;
+    run_short_values(rt, mode, 65_536)?;
     run_services(rt, mode)?;
     run_apdus(rt, mode)?;
     segments::run(rt, mode, &contents(rt.alloc(), MESSAGE)?)?;
     intakes::run(rt, mode)
+}
+
+/// A string of each type with these contents, and an open value of one.
+fn run_strings(
+    rt: &(impl Print + AllocGlobal + Clock),
+    mode: Mode,
+    contents: &[u8],
+) -> Result<(), BenchFault> {
+    tables::add::<Contents<Octets>>(rt, mode, "octet string", contents)?;
+    tables::add::<Contents<Text>>(rt, mode, "character string", contents)?;
+    tables::add::<Contents<Bits>>(rt, mode, "bit string", contents)?;
+    let one = one_octet_string(rt.alloc(), contents)?;
+    tables::add::<Any>(rt, mode, "open, one string", &one)
+}
+
+/// An open value of short primitives.
+fn run_short_values(
+    rt: &(impl Print + AllocGlobal + Clock),
+    mode: Mode,
+    repetitions: usize,
+) -> Result<(), BenchFault> {
+    let short = short_primitives(rt.alloc(), repetitions)?;
+    tables::add::<Any>(rt, mode, "open, short values", &short)
 }
 
 /// ReadProperty and ReadProperty-ACK, WriteProperty with a group in its value, and three services that hold numbers
@@ -120,27 +141,44 @@ fn run_services(rt: &(impl Print + AllocGlobal + Clock), mode: Mode) -> Result<(
     for message in &MESSAGES {
         services::add(rt, mode, message)?;
     }
+    run_results(rt, mode)?;
+    run_notification(rt, mode)
+}
+
+/// A ReadPropertyMultiple-ACK.
+fn run_results(rt: &(impl Print + AllocGlobal + Clock), mode: Mode) -> Result<(), BenchFault> {
     let results = twenty_results(rt.alloc())?;
-    let read_property_multiple_ack = Message {
+    let message = Message {
         name: "ReadPropertyMultiple-ACK",
         kind: Kind::ComplexAck,
         choice: 14,
         octets: &results,
     };
-    services::add(rt, mode, &read_property_multiple_ack)?;
+    services::add(rt, mode, &message)
+}
+
+/// A COVNotification.
+fn run_notification(rt: &(impl Print + AllocGlobal + Clock), mode: Mode) -> Result<(), BenchFault> {
     let values = four_values(rt.alloc())?;
-    let notification = Message {
+    let message = Message {
         name: "COVNotification",
         kind: Kind::Unconfirmed,
         choice: 2,
         octets: &values,
     };
-    services::add(rt, mode, &notification)
+    services::add(rt, mode, &message)
 }
 
 /// A request to read a property, an answer with twenty results, and a segment of a request.
 fn run_apdus(rt: &(impl Print + AllocGlobal + Clock), mode: Mode) -> Result<(), BenchFault> {
     apdus::begin(rt, mode)?;
+    run_request(rt, mode)?;
+    run_answer(rt, mode)?;
+    run_segment(rt, mode)
+}
+
+/// A request to read a property.
+fn run_request(rt: &(impl Print + AllocGlobal + Clock), mode: Mode) -> Result<(), BenchFault> {
     let request = Pdu {
         name: "ReadProperty",
         octets: &[0, 5, 1, 0x0C, 0x0C, 0, 0, 0, 5, 0x19, 0x55],
@@ -148,7 +186,11 @@ fn run_apdus(rt: &(impl Print + AllocGlobal + Clock), mode: Mode) -> Result<(), 
         choice: 12,
         head: 4,
     };
-    apdus::add(rt, mode, &request)?;
+    apdus::add(rt, mode, &request)
+}
+
+/// An answer with twenty results.
+fn run_answer(rt: &(impl Print + AllocGlobal + Clock), mode: Mode) -> Result<(), BenchFault> {
     let mut octets = Vec::from_slice(rt.alloc(), &[0x30, 1, 14])?;
     octets.extend_from_slice(&twenty_results(rt.alloc())?)?;
     let answer = Pdu {
@@ -158,7 +200,11 @@ fn run_apdus(rt: &(impl Print + AllocGlobal + Clock), mode: Mode) -> Result<(), 
         choice: 14,
         head: 3,
     };
-    apdus::add(rt, mode, &answer)?;
+    apdus::add(rt, mode, &answer)
+}
+
+/// A segment of a request.
+fn run_segment(rt: &(impl Print + AllocGlobal + Clock), mode: Mode) -> Result<(), BenchFault> {
     let mut octets = Vec::from_slice(rt.alloc(), &[0x0C, 5, 1, 0, 16, 200])?;
     octets.extend_from_slice(&contents(rt.alloc(), 480)?)?;
     let segment = Pdu {

@@ -68,28 +68,40 @@ pub fn run(
     expect_joined(&joined, octets)?;
     let (joined, joining_backwards) = timed(rt, repetitions, || backwards(alloc, &segments))?;
     expect_joined(&joined, octets)?;
-    let (size, count) = (octets.len(), segments.len());
-    match mode {
-        Mode::Once => {
-            println!(rt;
-                "message: {size} octets cut into {count} segments, joined in order and backwards"
-            )?;
-        }
-        Mode::Time => {
-            println!(rt;
-                "a message of {size} octets in {count} segments; the best of {repetitions} repetitions each"
-            )?;
-            println!(rt;
-                "{:<18} {:>10} {:>10} {:>7}",
-                "work", "us", "MB/s", "x copy"
-            )?;
-            add(rt, "copy", size, copy, copy)?;
-            add(rt, "cut", size, cutting, copy)?;
-            add(rt, "in order", size, joining, copy)?;
-            add(rt, "backwards", size, joining_backwards, copy)?;
-        }
+    let times = Times {
+        copy,
+        cut: cutting,
+        in_order: joining,
+        backwards: joining_backwards,
+    };
+    Ok(print(rt, mode, octets.len(), segments.len(), times)?)
+}
+
+/// The shortest time that each piece of work took.
+#[derive(Clone, Copy)]
+struct Times {
+    copy: Duration,
+    cut: Duration,
+    in_order: Duration,
+    backwards: Duration,
+}
+
+/// Prints the table, or that the work is done.
+fn print(rt: &impl Print, mode: Mode, size: usize, count: usize, times: Times) -> io::Result<()> {
+    if mode == Mode::Once {
+        return println!(rt;
+            "message: {size} octets cut into {count} segments, joined in order and backwards"
+        );
     }
-    Ok(())
+    let repetitions = mode.repetitions();
+    println!(rt;
+        "a message of {size} octets in {count} segments; the best of {repetitions} repetitions each"
+    )?;
+    println!(rt; "work                       us       MB/s  x copy")?;
+    add(rt, "copy", size, times.copy, times.copy)?;
+    add(rt, "cut", size, times.cut, times.copy)?;
+    add(rt, "in order", size, times.in_order, times.copy)?;
+    add(rt, "backwards", size, times.backwards, times.copy)
 }
 
 /// The line of a piece of work on so many octets.

@@ -77,10 +77,15 @@ pub fn begin(rt: &impl Print, mode: Mode) -> io::Result<()> {
     }
     let repetitions = mode.repetitions();
     println!(rt; "services; the best of {repetitions} repetitions of {BATCH} messages each")?;
-    println!(rt;
-        "{:<26} {:>8} {:>12} {:>12} {:>12}",
-        "service", "octets", "decode/s", "mark/s", "encode/s"
-    )
+    println!(rt; "service                      octets     decode/s       mark/s     encode/s")
+}
+
+/// How long a batch takes.
+#[derive(Clone, Copy)]
+struct Times {
+    decode: Duration,
+    mark: Duration,
+    encode: Duration,
 }
 
 /// Does the work of a message, and prints its line.
@@ -89,22 +94,37 @@ pub fn add(
     mode: Mode,
     message: &Message<'_>,
 ) -> Result<(), BenchFault> {
+    let times = work(rt, mode, message)?;
+    Ok(print(rt, mode, message.name, message.octets.len(), times)?)
+}
+
+/// Does the work of a message.
+fn work(
+    rt: &(impl AllocGlobal + Clock),
+    mode: Mode,
+    message: &Message<'_>,
+) -> Result<Times, BenchFault> {
     let (alloc, repetitions) = (rt.alloc(), mode.repetitions());
     let batch = batch_of(alloc, message.octets)?;
-    let (service, decoding) = timed(rt, repetitions, || decoded(alloc, message, &batch))?;
-    let ((_, found), marking) = timed(rt, repetitions, || marked(alloc, message, &batch))?;
+    let (service, decode) = timed(rt, repetitions, || decoded(alloc, message, &batch))?;
+    let ((_, found), mark) = timed(rt, repetitions, || marked(alloc, message, &batch))?;
     expect_canonical(found)?;
-    let (octets, encoding) = timed(rt, repetitions, || encoded(alloc, &service))?;
+    let (octets, encode) = timed(rt, repetitions, || encoded(alloc, &service))?;
     expect_same(octets, message.octets)?;
-    let (name, size) = (message.name, message.octets.len());
-    match mode {
-        Mode::Once => println!(rt; "{name}: {size} octets decoded, marked and encoded")?,
-        Mode::Time => {
-            let (decode, mark, encode) = (speed(decoding), speed(marking), speed(encoding));
-            println!(rt; "{name:<26} {size:>8} {decode:>12.0} {mark:>12.0} {encode:>12.0}")?;
-        }
+    Ok(Times {
+        decode,
+        mark,
+        encode,
+    })
+}
+
+/// Prints the line of a message.
+fn print(rt: &impl Print, mode: Mode, name: &str, size: usize, times: Times) -> io::Result<()> {
+    if mode == Mode::Once {
+        return println!(rt; "{name}: {size} octets decoded, marked and encoded");
     }
-    Ok(())
+    let (decode, mark, encode) = (speed(times.decode), speed(times.mark), speed(times.encode));
+    println!(rt; "{name:<26} {size:>8} {decode:>12.0} {mark:>12.0} {encode:>12.0}")
 }
 
 /// Messages a second.

@@ -19,16 +19,7 @@ pub fn begin(rt: &impl Print, mode: Mode) -> io::Result<()> {
         "values of the library; the best of {rounds} rounds of {repetitions} repetitions each"
     )?;
     println!(rt;
-        "{:<18} {:>8} {:>10} {:>10} {:>7} {:>10} {:>7} {:>11} {:>7}",
-        "value",
-        "octets",
-        "copy MB/s",
-        "read MB/s",
-        "x copy",
-        "mark MB/s",
-        "x copy",
-        "write MB/s",
-        "x copy"
+        "value                octets  copy MB/s  read MB/s  x copy  mark MB/s  x copy  write MB/s  x copy"
     )
 }
 
