@@ -12,6 +12,7 @@ use Rattle.bac_data.specs.declared.items.Item.{Item}
 use Rattle.bac_data.specs.declared.items.Item.TheVariants as item
 use Rattle.bac_data.specs.Events.{Event, opening, Opens, SpellsEvent, SpellsEvents}
 use Rattle.bac_data.specs.Building.{AreOpen, Keeps, IsPlace, closing_number}
+use Rattle.bac_data.specs.Laws.Alignment.{events_some}
 use Rattle.bac_data.specs.Marks.{HasMark}
 use Rattle.bac_data.specs.Reading.{item_event, item_contents, item_head, IsItem, IsApplication, LiesInFront, BeginsLeast}
 use Rattle.bac_data.proofs.AnyLemmas.{HasRead, has_read_more}
@@ -64,6 +65,12 @@ pub record Reading (number : ℕ) (input : List ℕ) (start place count : ℕ) (
   pub keeps : Keeps mark es kept
   pub begun : start ≤ place
   pub opened : Heads (Open number) (take start input)
+
+-- each event takes an octet, and the opening tag one in front of them
+pub fewer_events : (number : ℕ) (input : List ℕ) (place count : ℕ) (es : List Event) → HasRead number input place es → count ≡ length es → count < place
+fewer_events number input place count es read counted =
+    let most = events_some (opening number ∷ es) (take place input) read.spelled in
+    omega (arith, most, counted, length-take place input)
 
 -- while all octets are the canonical ones, those behind the opening tag are the canonical ones of the events
 pub front_least : (number : ℕ) (input : List ℕ) (start place : ℕ) (es : List Event) (m : Option ℕ) → start ≤ place → Heads (Open number) (take start input) → HasMark number input place es m → m ≡ None

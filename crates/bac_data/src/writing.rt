@@ -124,6 +124,9 @@ pub(crate) fn append_item(item: Item<'_>, out: &mut Vec<u8>) -> Result<(), OutOf
     }
 }
 
+/// The octets of an opening and a closing tag, at most.
+const TAGS: usize = 4;
+
 /// Appends an open value with its tags. Where memory is refused some octets may be there.
 #[inline]
 fn append_any(value: &Any, number: u8, out: &mut Vec<u8>) -> Result<(), OutOfMemory>
@@ -131,8 +134,11 @@ fn append_any(value: &Any, number: u8, out: &mut Vec<u8>) -> Result<(), OutOfMem
     ensures ok { OnOk result (AppendsLeast (SpellsOpen 32 number value.now) out.old.items out.new.items) }
     ensures err { OnErr result (Extends out.old.items out.new.items) }
 {
+    let octets = value.octets();
+    // So that a long value is moved to larger room once, and not behind its first octet and behind its last.
+    out.reserve(octets.len().saturating_add(TAGS))?;
     append_head(TagHead::Open(number), out)?;
-    out.extend_from_slice(value.octets())?;
+    out.extend_from_slice(octets)?;
     append_head(TagHead::Close(number), out)
 }
 

@@ -44,7 +44,8 @@ pub fn mark_contents(number: u8, contents: &[u8]) -> Option<usize>
     at_number!(number, mark_variant(contents))
 }
 
-/// Whether octets are those that are written of a value of the type with that application number, at most 12.
+/// Whether octets are those that are written of a value of the type with that application number (clause 20.2.1.4), at
+/// most 12.
 #[inline(always)]
 pub fn are_written(number: u8, octets: &[u8]) -> bool
     requires number { number ≤ 12 }

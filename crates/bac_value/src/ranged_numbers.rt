@@ -113,8 +113,8 @@ fn mark_zeros(octets: &[u8]) -> Option<usize>
     }
 }
 
-/// The first place at which the octets of a number, 1 to 8 of them, differ from the fewest that spell it, and none where
-/// they are those.
+/// The first place at which the octets of a number, 1 to 8 of them, differ from the fewest that spell it (clauses 20.2.4
+/// and 20.2.11), and none where they are those.
 #[inline(always)]
 pub fn mark_number(octets: &[u8]) -> Option<usize>
     requires { HasNumberLength (length octets.now) }

@@ -8,13 +8,12 @@ use Rattle.bac_data.specs.Events.{Event, opening, SpellsEvent}
 use Rattle.bac_data.specs.Building.{AreOpen}
 use Rattle.bac_data.specs.Reading.{item_event, item_contents}
 use Rattle.bac_data.specs.Marks.{HasMark}
-use Rattle.bac_data.specs.Laws.Alignment.{events_some}
 use Rattle.bac_data.proofs.MarkLemmas.{marked_opening, value_marked, ended_events}
 use Rattle.bac_data.proofs.AnyLemmas.{has_read_opening, opening_is, refused_opening, has_read_more, refused_behind_events, may_follow, value_read, where_ok}
 use Rattle.bac_data.proofs.BuildingLemmas.{none_open, groups_open, has_open_one}
 use Rattle.bac_data.proofs.DepthLemmas.{too_deep_behind}
 use Rattle.bac_data.proofs.ReasonLemmas.{item_memory}
-use Rattle.bac_data.proofs.ReadingSteps.{keeps_nothing, is_place, all_closed, front_least, behind_marked, read_least}
+use Rattle.bac_data.proofs.ReadingSteps.{keeps_nothing, is_place, all_closed, front_least, behind_marked, read_least, fewer_events}
 use Rattle.bac_data.proofs.reading.read_any_marked.Goals.{in-Ok-finish, in-Err-finish, else-is_empty-via-then-is_empty+else-ends, else-is_empty-via-else-is_empty}
 use Rattle.bac_data.proofs.reading.read_any_marked.Goals as goal
 
@@ -96,13 +95,13 @@ follow-requires-clause-follows c = (
 
 pub overflow_add-count : goal.overflow_add-count
 overflow_add-count c =
-    let most = events_some (opening c.args.number ∷ c.loop-taken.invariant.es) (take c.loop-taken.place c.args.octets.now) c.loop-taken.invariant.read.spelled in
-    omega (arith, most, c.loop-taken.invariant.counted, length-take c.loop-taken.place c.args.octets.now, c.loop-taken.auto.place-fits)
+    let fewer = fewer_events c.args.number c.args.octets.now c.loop-taken.place c.loop-taken.count c.loop-taken.invariant.es c.loop-taken.invariant.read c.loop-taken.invariant.counted in
+    omega (arith, fewer, c.loop-taken.auto.place-fits)
 
 pub overflow_add-count-in-loop-taken : goal.overflow_add-count-in-loop-taken
 overflow_add-count-in-loop-taken c =
-    let most = events_some (opening c.args.number ∷ c.loop-taken.invariant.es) (take c.loop-taken.place c.args.octets.now) c.loop-taken.invariant.read.spelled in
-    omega (arith, most, c.loop-taken.invariant.counted, length-take c.loop-taken.place c.args.octets.now, c.loop-taken.auto.place-fits)
+    let fewer = fewer_events c.args.number c.args.octets.now c.loop-taken.place c.loop-taken.count c.loop-taken.invariant.es c.loop-taken.invariant.read c.loop-taken.invariant.counted in
+    omega (arith, fewer, c.loop-taken.auto.place-fits)
 
 pub loop-taken-preserved-in-Some : goal.loop-taken-preserved-in-Some
 loop-taken-preserved-in-Some c =
