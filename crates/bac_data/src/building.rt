@@ -12,6 +12,7 @@ use arrayvec::ArrayVec;
 use bac_tag::layers::append_head;
 use bac_tag::{OutOfMemory, TagHead};
 use bac_value::{Octets, Prim, Primitive};
+use smallvec::SmallVec;
 use std::alloc::Global;
 use std::marker::Model;
 
@@ -187,6 +188,6 @@ impl AnyBuilder {
         if !self.groups.is_empty() {
             return Err((self, BuildFault::StillOpen));
         }
-        Ok(Any::of_octets(self.octets, self.count))
+        Ok(Any::of_octets(SmallVec::from_vec(self.octets), self.count))
     }
 }

@@ -10,8 +10,12 @@ ghost use Rattle.bac_data.specs.Held.{Holds, Holds-prop};
 ghost use Rattle.bac_data.specs.Same.{same_values, same_values_equiv};
 
 use crate::walking::{Event, Events};
+use smallvec::SmallVec;
 use std::alloc::AllocError;
 use std::marker::Model;
+
+/// So many octets a value holds in itself, where they want no memory: most values have no more.
+const SHORT: usize = 16;
 
 /// An open value: a list of elements, which may be empty. Each is an application primitive, a context primitive
 /// (its number and its contents) or a group (its number and its elements). Numbers are 0 to 254, contents have at
@@ -19,7 +23,7 @@ use std::marker::Model;
 #[derive(Debug)]
 pub struct Any {
     /// The canonical octets of its events.
-    octets: Vec<u8>,
+    octets: SmallVec<u8, SHORT>,
     /// How many events it has.
     count: usize,
     ghost told: { Holds octets.items } by { Holds-prop octets.items },
@@ -79,7 +83,7 @@ impl PartialEq for Any {
         ensures answer { result ≡ same_values self.now other.now }
         ensures same { IsTrue result ↔ (self.now ≡ other.now) }
     {
-        self.octets == other.octets
+        self.octets.as_slice() == other.octets.as_slice()
     }
 }
 
@@ -95,7 +99,7 @@ impl Clone for Any {
     /// `AllocError` where memory is refused.
     fn clone(&self) -> Result<Any, AllocError> {
         let alloc = *self.octets.allocator();
-        let octets = Vec::from_slice(alloc, &self.octets)?;
+        let octets = SmallVec::from_slice(alloc, self.octets.as_slice())?;
         Ok(Any {
             octets,
             count: self.count,
@@ -105,7 +109,8 @@ impl Clone for Any {
 
 impl Any {
     /// The value with so many events, of which these are the canonical octets.
-    pub(crate) fn of_octets(octets: Vec<u8>, count: usize) -> Any
+    #[inline(always)]
+    pub(crate) fn of_octets(octets: SmallVec<u8, SHORT>, count: usize) -> Any
         requires { (es : List EventOf) × IsLeast (SpellsEvents es) octets.items × Opens 32 [] es [] × (count ≡ length es) }
         ensures { (es : List EventOf) → IsLeast (SpellsEvents es) octets.items → events result ≡ es }
     {
@@ -118,7 +123,7 @@ impl Any {
         ensures least { IsLeast (SpellsEvents (events self.now)) result.now }
         ensures depth { depth self.now ≤ 32 }
     {
-        &self.octets
+        self.octets.as_slice()
     }
 
     /// Returns a walk over the events of the value, in their order. The tags around the value are none of them. The
@@ -141,7 +146,7 @@ impl Any {
         ensures events { result ≡ events self.now }
         ensures value { IsOpenValue 32 self.now }
     {
-        Events::over(&self.octets, self.count)
+        Events::over(self.octets.as_slice(), self.count)
     }
 
     /// Returns how many events a walk over the value has. They are no more than the octets between the tags of any

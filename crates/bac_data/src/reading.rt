@@ -18,6 +18,7 @@ use crate::writing::append_item;
 use arrayvec::ArrayVec;
 use bac_tag::layers::{Expected, joined_marks, mark_read_head, read_expected};
 use bac_tag::{OutOfMemory, Refusal, TagHead, Why};
+use smallvec::SmallVec;
 use std::alloc::Global;
 
 /// Whether another group may begin inside these open ones, and the number of the innermost: where none is open, that of
@@ -135,10 +136,11 @@ fn finish(
     requires { (es : List Event) × Keeps mark es kept.items × (mark ≡ None → IsLeast (SpellsEvents es) front.now) × AreOpen es [] × (count ≡ length es) }
     ensures { IfOk result (λ value. (es : List Event) → Keeps mark es kept.items → (mark ≡ None → IsLeast (SpellsEvents es) front.now) → events value ≡ es) }
 {
-    let mut octets = kept;
-    if mark.is_none() {
-        octets.extend_from_slice(front)?;
-    }
+    let octets = if mark.is_none() {
+        SmallVec::from_slice(*kept.allocator(), front)?
+    } else {
+        SmallVec::from_vec(kept)
+    };
     Ok(Any::of_octets(octets, count))
 }
 

@@ -6,11 +6,9 @@ use Rattle.bac_tag.specs.declared.refusals.Why.{Why}
 use Rattle.bac_tag.specs.declared.refusals.Why.TheVariants.{Short, Trailing, Version, Address, PduType, Window, Tag, Length, Content, Depth, NotCanonical, OutOfMemory}
 use Rattle.bac_tag.specs.Octets.{IsMark}
 use Rattle.bac_tag.specs.Laws.Octets.{NoGreater-length}
-use Rattle.bac_tag.specs.Spelling.{IsLeast, HasMark, IsWholeRefusal}
+use Rattle.bac_tag.specs.Spelling.{IsLeast, HasMark}
 use Rattle.bac_tag.specs.Laws.Spelling.{IsLeast-one}
-use Rattle.bac_npdu.specs.Decoded.{IsFrameReason}
 use Rattle.bac_npdu.specs.Frames.{FrameValue, SpellsFrame}
-use Rattle.bac_npdu.specs.Meanings.{IsFirstFlaw}
 use Rattle.bac_stream.specs.Judging.{IsCanonicalFor, IsCanonical, Accepts, IsJudged, IsRefused, IsHopeless, Refuses}
 use Rattle.bac_stream.specs.Lines.{IsChecked, said_of}
 use Rattle.bac_record.specs.Deals.{DealFails}
@@ -112,26 +110,7 @@ module _ (frames : (f g : FrameValue) (b : List ℕ) → SpellsFrame f b → Spe
     judged_refused (Err (Stop refusal)) j = marked_none mode frame octets mark refusal.place j.0 j.1 s m
     judged_refused (Err Memory) j = tt
 
-pub hopeless_frame : {T : Type 0} (mode : Mode) (octets : List ℕ) (result : Result T Refusal) → IfErr result (λ r. r.why ≢ OutOfMemory → IsWholeRefusal SpellsFrame octets r) → IfErr result (λ r. IsFrameReason r.why)
-    → IfErr result (λ r. r.why ≢ OutOfMemory → IsRefused mode octets)
-hopeless_frame mode octets (Ok x) refused reasons = tt
-hopeless_frame mode octets (Err r) refused reasons = λ memory. hopeless_none mode octets r (refused memory, reasons, memory)
-
 -- ---- reasons
-
-flaw_or_other : (why : Why) → (why ≡ NotCanonical) ⊎ (why ≢ NotCanonical)
-flaw_or_other Short = inr (λ e. cc)
-flaw_or_other Trailing = inr (λ e. cc)
-flaw_or_other Version = inr (λ e. cc)
-flaw_or_other Address = inr (λ e. cc)
-flaw_or_other PduType = inr (λ e. cc)
-flaw_or_other Window = inr (λ e. cc)
-flaw_or_other Tag = inr (λ e. cc)
-flaw_or_other Length = inr (λ e. cc)
-flaw_or_other Content = inr (λ e. cc)
-flaw_or_other Depth = inr (λ e. cc)
-flaw_or_other NotCanonical = inl refl
-flaw_or_other OutOfMemory = inr (λ e. cc)
 
 pub memory_or_other : (why : Why) → (why ≡ OutOfMemory) ⊎ (why ≢ OutOfMemory)
 memory_or_other Short = inr (λ e. cc)
@@ -146,28 +125,3 @@ memory_or_other Content = inr (λ e. cc)
 memory_or_other Depth = inr (λ e. cc)
 memory_or_other NotCanonical = inr (λ e. cc)
 memory_or_other OutOfMemory = inl refl
-
--- ---- what the strict decoder refuses
-
--- a flaw, or octets that spell no frame
-pub record IsStrictRefusal (octets : List ℕ) (refusal : Refusal) : Type 0 where
-  pub flaw : refusal.why ≡ NotCanonical → IsFirstFlaw octets refusal.place
-  pub refused : refusal.why ≢ OutOfMemory → refusal.why ≢ NotCanonical → IsWholeRefusal SpellsFrame octets refusal
-  pub reasons : refusal.why ≢ NotCanonical → IsFrameReason refusal.why
-
-pub strict_refused : {T : Type 0} (octets : List ℕ) (result : Result T Refusal) → IfErr result (λ r. r.why ≡ NotCanonical → IsFirstFlaw octets r.place)
-    → IfErr result (λ r. r.why ≢ OutOfMemory → r.why ≢ NotCanonical → IsWholeRefusal SpellsFrame octets r) → IfErr result (λ r. r.why ≢ NotCanonical → IsFrameReason r.why) → IfErr result (IsStrictRefusal octets)
-strict_refused octets (Ok x) flaw refused reasons = tt
-strict_refused octets (Err r) flaw refused reasons = record { flaw = flaw; refused = refused; reasons = reasons }
-
-pub strict_refuses : (octets : List ℕ) (refusal : Refusal) → IsStrictRefusal octets refusal → refusal.why ≢ OutOfMemory → Refuses Strict octets refusal
-strict_refuses octets refusal r memory = elim (flaw_or_other refusal.why) [
-  | inl flaw ↦ (let found = r.flaw flaw in inr (found.0, found.2.least, found.1, found.2.is_least, found.2.is_mark, flaw))
-  | inr other ↦ inl (r.refused memory other, r.reasons other, memory)
-]
-
-pub strict_none : ((f g : FrameValue) (b : List ℕ) → SpellsFrame f b → SpellsFrame g b → f ≡ g) → (octets : List ℕ) (refusal : Refusal) → IsStrictRefusal octets refusal → refusal.why ≢ OutOfMemory → IsRefused Strict octets
-strict_none frames octets refusal r memory = elim (flaw_or_other refusal.why) [
-  | inl flaw ↦ (let found = r.flaw flaw in marked_none frames Strict found.0 octets (Some refusal.place) refusal.place refl refl found.1 found.2)
-  | inr other ↦ hopeless_none Strict octets refusal (r.refused memory other, r.reasons other, memory)
-]

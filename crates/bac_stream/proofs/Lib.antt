@@ -4,6 +4,7 @@ pub mod KeptLemmas
 mod ShowingLemmas
 mod NormalisingLemmas
 pub mod IntakeLemmas
+mod ItemLemmas
 pub mod FilledLemmas
 pub mod FeedLemmas
 pub mod JoiningLemmas

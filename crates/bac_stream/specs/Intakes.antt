@@ -1,13 +1,15 @@
 -- Streams of records that come in pieces.
-use Rattle.std.specs.Prelude.{◌≡◌, ◌≢◌, ℕ, ◌+◌, ◌-◌, ◌<◌, List, [], ◌++◌, length, refl, Result, Ok, Err}
+use Rattle.std.specs.Prelude.{◌≡◌, ◌≢◌, ℕ, ◌+◌, ◌-◌, ◌<◌, Option, Some, None, List, [], ◌∷◌, ◌++◌, length, refl, Result, Ok, Err}
 use Rattle.std.specs.List.{AllZip}
 use Rattle.std.specs.Coded.{Coded, code_by, coded×, coded_ℕ, coded_list}
 use Rattle.bac_tag.specs.declared.refusals.Refusal.{Refusal}
+use Rattle.bac_tag.specs.declared.refusals.Why.TheVariants.{NotCanonical}
 use Rattle.bac_npdu.specs.declared.frame.Frame.{Frame}
-use Rattle.bac_npdu.specs.Frames.{value_of}
+use Rattle.bac_npdu.specs.Frames.{FrameValue, value_of}
 use Rattle.bac_record.specs.Records.{RecordsUpTo, BeginsRecord, MOST, TooMany, end_of}
 use Rattle.bac_stream.specs.Judging.{Accepts, IsRefused, Refuses}
 use Rattle.bac_stream.specs.declared.modes.Mode.{Mode}
+use Rattle.bac_stream.specs.declared.modes.Mode.TheVariants.{Strict}
 use Rattle.bac_stream.specs.contracts.modes.Mode.{the_row}
 use Rattle.bac_stream.specs.declared.feed_faults.FeedFault.{FeedFault}
 use Rattle.bac_stream.specs.declared.feed_faults.FeedFault.TheVariants.{Truncated, RecordTooLong, TooManyFrames, OutOfMemory}
@@ -36,6 +38,16 @@ Item = Result Frame Refusal
 abbrev pub IsItem : Mode → List ℕ → Item → Type 0
 IsItem mode octets (Ok frame) = Accepts mode (value_of frame) octets
 IsItem mode octets (Err refusal) = IsRefused mode octets × Refuses mode octets refusal
+
+-- The item is that of a frame with this mark: the frame where the mode accepts it, else that it is not canonical.
+abbrev pub IsItemOf : Mode → FrameValue → Option ℕ → Item → Type 0
+IsItemOf mode frame mark (Ok kept) = (value_of kept ≡ frame) × (mode ≡ Strict → mark ≡ None)
+IsItemOf mode frame mark (Err refusal) = (mode ≡ Strict) × (mark ≡ Some refusal.place) × (refusal.why ≡ NotCanonical)
+
+-- It was appended, or memory was refused.
+abbrev pub IsItemPushed : {E : Type 0} → Mode → FrameValue → Option ℕ → List Item → List Item → Result Unit E → Type 0
+IsItemPushed mode frame mark old new (Ok done) = (item : Item) × IsItemOf mode frame mark item × (new ≡ old ++ item ∷ [])
+IsItemPushed mode frame mark old new (Err refused) = new ≡ old
 
 -- Behind so many records the octets are these records and this rest.
 abbrev pub RecordsBehind : ℕ → List (List ℕ) → List ℕ → List ℕ → Type 0

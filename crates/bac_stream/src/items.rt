@@ -1,47 +1,48 @@
 //! Items: what an intake gives for each record.
 
-ghost use Rattle.std.specs.Prelude.{◌≡◌, ◌≢◌, ◌++◌, ◌<◌, ◌≤◌, ◌∷◌, IfErr, IfOk, List, MatchOption, OnErr, OnOk, [], ℕ};
+ghost use Rattle.std.specs.Prelude.{◌≡◌, ◌++◌, ◌<◌, ◌≤◌, ◌∷◌, IfErr, IfOk, List, MatchOption, OnErr, OnOk, [], ℕ};
 ghost use Rattle.bac_record.specs.Batches.{IsPartial};
 ghost use Rattle.bac_record.specs.Records.{IsRecord, record_of};
-ghost use Rattle.bac_npdu.specs.Frames.{value_of};
 ghost use Rattle.bac_stream.specs.Intakes.{FeedFails, IsItem, Item, TakesIn};
-ghost use Rattle.bac_stream.specs.Judging.{Accepts, IsRefused, Refuses};
 
 use crate::{FeedFault, Mode};
 use bac_npdu::laws::frames_have_one_value;
-use bac_npdu::{Frame, decode_frame, decode_strict};
+use bac_npdu::{Body, Frame, FrameHead, FrameVisitor, visit_frame};
 use bac_record::{MOST, front_record};
-use bac_tag::{Refusal, Why};
+use bac_tag::{OutOfMemory, Refusal, Why};
 use std::alloc::Global;
 
-/// Decodes the frame that the octets spell, in mode Strict canonically.
-///
-/// # Errors
-/// As [`decode_frame`], or in mode Strict [`decode_strict`].
-fn decode(alloc: Global, mode: Mode, octets: &[u8]) -> Result<Frame, Refusal>
-    ensures accepted { IfOk result (λ frame. Accepts mode (value_of frame) octets.now) }
-    ensures fault { IfErr result (λ refusal. refusal.why ≢ Why.OutOfMemory → Refuses mode octets.now refusal) }
-    ensures refused { IfErr result (λ refusal. refusal.why ≢ Why.OutOfMemory → IsRefused mode octets.now) }
-{
-    // By this law octets that differ from the canonical ones of their frame are canonical for no other.
-    frames_have_one_value();
-    match mode {
-        Mode::Tolerant => decode_frame(alloc, octets),
-        Mode::Strict => decode_strict(alloc, octets),
-    }
+/// Appends the item of a frame where it was decoded: a frame that is handed on is copied at each step.
+#[derive(Drop)]
+struct PushItem {
+    alloc: Global,
+    mode: Mode,
 }
 
-/// The item of a record.
-///
-/// # Errors
-/// `OutOfMemory`.
-fn item_of(alloc: Global, mode: Mode, octets: &[u8]) -> Result<Result<Frame, Refusal>, FeedFault>
-    ensures item { IfOk result (IsItem mode octets.now) }
-    ensures memory { IfErr result (λ fault. fault ≡ FeedFault.OutOfMemory) }
-{
-    match decode(alloc, mode, octets) {
-        Err(refusal) if refusal.why == Why::OutOfMemory => Err(FeedFault::OutOfMemory),
-        item => Ok(item),
+impl FrameVisitor for PushItem {
+    ghost use Rattle.bac_stream.specs.Intakes.{IsItemPushed};
+
+    type Place = Vec<Result<Frame, Refusal>>;
+
+    type Made = Result<(), OutOfMemory>;
+
+    ghost makes = { λ pushing frame mark old new made. IsItemPushed pushing.mode frame mark old.items new.items made };
+
+    #[inline(always)]
+    fn visit(
+        self,
+        head: &FrameHead<'_>,
+        body: Body,
+        mark: Option<usize>,
+        out: &mut Vec<Result<Frame, Refusal>>,
+    ) -> Result<(), OutOfMemory> {
+        if let (Mode::Strict, Some(place)) = (self.mode, mark) {
+            out.push(Err(Why::NotCanonical.at(place)))?;
+            return Ok(());
+        }
+        let frame = head.frame(self.alloc, body)?;
+        out.push(Ok(frame))?;
+        Ok(())
     }
 }
 
@@ -59,9 +60,17 @@ pub(crate) fn push_item(
     ensures memory { IfErr result (λ fault. fault ≡ FeedFault.OutOfMemory) }
     ensures err { OnErr result (out.new.items ≡ out.old.items) }
 {
-    let item = item_of(alloc, mode, octets)?;
-    out.push(item)?;
-    Ok(())
+    // By this law octets that differ from the canonical ones of their frame are canonical for no other.
+    frames_have_one_value();
+    match visit_frame(alloc, octets, PushItem { alloc, mode }, out) {
+        Ok(Ok(())) => Ok(()),
+        Ok(Err(_)) => Err(FeedFault::OutOfMemory),
+        Err(refusal) if refusal.why == Why::OutOfMemory => Err(FeedFault::OutOfMemory),
+        Err(refusal) => {
+            out.push(Err(refusal))?;
+            Ok(())
+        }
+    }
 }
 
 /// Appends the item of the record at the front, where so many records stand before it, and gives the octets behind it:

@@ -1,10 +1,10 @@
-use Rattle.std.proofs.Common.{◌≡◌, ◌+◌, ◌-◌, ◌++◌, ◌∷◌, [], List, ℕ, false, true, take, drop, length, refl, sym, ◌∙◌, subst, arith, length-append, length-take}
+use Rattle.std.proofs.Common.{◌≡◌, ◌+◌, ◌-◌, ◌++◌, ◌∷◌, [], List, ℕ, false, true, take, drop, length, refl, sym, ◌∙◌, subst, arith, length-append}
 use Rattle.std.proofs.lemmas.Bool.{eqb-true, eq-eqb}
 use Rattle.std.proofs.lemmas.List.{take_rest}
 use Rattle.std.proofs.lemmas.Result.{err_from_is_err_and}
 use Rattle.bac_tag.specs.Octets.{IsMark}
 use Rattle.bac_tag.specs.Spelling.{IsLeast}
-use Rattle.bac_data.specs.Events.{Event, opening, SpellsEvent}
+use Rattle.bac_data.specs.Events.{Event, SpellsEvent}
 use Rattle.bac_data.specs.Building.{AreOpen}
 use Rattle.bac_data.specs.Reading.{item_event, item_contents}
 use Rattle.bac_data.specs.Marks.{HasMark}

@@ -7,7 +7,7 @@ use Rattle.bac_data.proofs.open_value.Any.events.Goals as goal
 
 pub returns-clause-events : goal.returns-clause-events
 returns-clause-events c =
-    c.over.ensures (held_events c.self.inside.octets.items c.self.inside.told) (subst (IsLeast (SpellsEvents (held_events c.self.inside.octets.items c.self.inside.told))) (sym c.deref.ensures.value) c.self.invariant.0)
+    c.over.ensures (held_events c.self.inside.octets.items c.self.inside.told) (subst (IsLeast (SpellsEvents (held_events c.self.inside.octets.items c.self.inside.told))) (sym c.as_slice.ensures) c.self.invariant.0)
     ∙ events_are (held_events c.self.inside.octets.items c.self.inside.told) c.self.inside.octets.items c.args.self.now c.self.invariant.0 c.self.invariant.1 c.self.view_is
 
 pub returns-clause-value : goal.returns-clause-value
