@@ -20,12 +20,14 @@ const SHORT: usize = 16;
 /// An open value: a list of elements, which may be empty. Each is an application primitive, a context primitive
 /// (its number and its contents) or a group (its number and its elements). Numbers are 0 to 254, contents have at
 /// most 1,048,576 octets, and at most 32 groups nest.
+// The count stands in front of the octets: so a result has the tag of these where a refusal has its reason, an octet too,
+// and no word that would be moved in pieces.
 #[derive(Debug)]
 pub struct Any {
-    /// The canonical octets of its events.
-    octets: SmallVec<u8, SHORT>,
     /// How many events it has.
     count: usize,
+    /// The canonical octets of its events.
+    octets: SmallVec<u8, SHORT>,
     ghost told: { Holds octets.items } by { Holds-prop octets.items },
 }
 
