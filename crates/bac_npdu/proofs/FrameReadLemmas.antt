@@ -21,8 +21,9 @@ use Rattle.bac_npdu.specs.Addresses.{SourceValue, DestinationValue, destination_
 use Rattle.bac_npdu.specs.Control.{least_control, least_of}
 use Rattle.bac_npdu.specs.Frames.{BodyValue, FrameValue, is_there, is_message, control_of, addresses_of, SpellsBody, SpellsFrame}
 use Rattle.bac_npdu.specs.Heads.{says_message, says_destination, says_source, source_place, body_place, HasHead}
-use Rattle.bac_npdu.specs.Decoded.{few_octets, begins_small_message, begins_small, IsReasoned, IsRefused, IsKept, IsDecoded}
+use Rattle.bac_npdu.specs.Decoded.{few_octets, begins_small_message, begins_small, IsReasoned, IsRefused, IsKept, IsKeptAlone, IsDecoded, IsDecodedAlone}
 use Rattle.bac_npdu.specs.FrameHeads.{HeadValue, frame_with, address_of, IsLong, IsShort}
+use Rattle.bac_npdu.specs.Meanings.{IsNormalised}
 use Rattle.bac_npdu.specs.HeadsRead.{from_octets, hops_octets, behind_control, IsHead, control_at, IsControlMark, IsBehind, SpellsBodyOf, IsBodyFound, IsBodyRefused}
 use Rattle.bac_npdu.proofs.WrittenLemmas.{least_octets_then}
 use Rattle.bac_npdu.proofs.HeadLemmas.{addresses_agree, flag_once, flag_told}
@@ -316,3 +317,12 @@ kept_memory (v ∷ c ∷ b) small f p long = told long
 pub kept_decoded : (octets : List ℕ) → ((k : ℕ) → slice_index octets k < 256) → (f : FrameValue) (mark : Option ℕ) (made : Result (Frame × Option ℕ) Refusal) → SpellsFrame f octets → HasMark (SpellsFrame f) octets mark → IsKept f mark made → IsDecoded octets made
 kept_decoded octets small f mark (Ok found) p h e = record { spelled = subst (λ (g : FrameValue). SpellsFrame g octets) (sym e.0) p; marked = rw (e.0, e.1) h }
 kept_decoded octets small f mark (Err refusal) p h e = subst (IsRefused octets) (sym e.0) (kept_memory octets small f p e.1)
+
+pub kept_alone_decoded : (octets : List ℕ) → ((k : ℕ) → slice_index octets k < 256) → (f : FrameValue) (made : Result Frame Refusal) → SpellsFrame f octets → IsKeptAlone f made → IsDecodedAlone octets made
+kept_alone_decoded octets small f (Ok frame) p e = subst (λ (g : FrameValue). SpellsFrame g octets) (sym e) p
+kept_alone_decoded octets small f (Err refusal) p e = subst (IsRefused octets) (sym e.0) (kept_memory octets small f p e.1)
+
+-- what is written of a frame that octets with this mark spell
+pub normalised : (f : FrameValue) (octets : List ℕ) (mark : Option ℕ) (written : List ℕ) → HasMark (SpellsFrame f) octets mark → IsNormalised f octets mark written → IsLeast (SpellsFrame f) written
+normalised f octets None written h n = subst (IsLeast (SpellsFrame f)) (sym (n ∙ h.is_mark)) h.is_least
+normalised f octets (Some place) written h n = n

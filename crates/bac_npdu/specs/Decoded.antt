@@ -102,6 +102,11 @@ abbrev pub IsKept : FrameValue → Option ℕ → Result (Frame × Option ℕ) R
 IsKept value mark (Ok found) = (value_of found.0 ≡ value) × (found.1 ≡ mark)
 IsKept value mark (Err refusal) = (refusal ≡ record { place = 0; why = OutOfMemory }) × (IsLong (address_of value.destination) ⊎ IsLong value.source)
 
+-- the frame without its mark, or the same
+abbrev pub IsKeptAlone : FrameValue → Result Frame Refusal → Type 0
+IsKeptAlone value (Ok frame) = value_of frame ≡ value
+IsKeptAlone value (Err refusal) = (refusal ≡ record { place = 0; why = OutOfMemory }) × (IsLong (address_of value.destination) ⊎ IsLong value.source)
+
 -- the octets spell the frame, and have the mark
 pub record IsFound (octets : List ℕ) (frame : Frame) (mark : Option ℕ) : Type 0 where
   pub spelled : SpellsFrame (value_of frame) octets
@@ -110,3 +115,7 @@ pub record IsFound (octets : List ℕ) (frame : Frame) (mark : Option ℕ) : Typ
 abbrev pub IsDecoded : List ℕ → Result (Frame × Option ℕ) Refusal → Type 0
 IsDecoded octets (Ok found) = IsFound octets found.0 found.1
 IsDecoded octets (Err refusal) = IsRefused octets refusal
+
+abbrev pub IsDecodedAlone : List ℕ → Result Frame Refusal → Type 0
+IsDecodedAlone octets (Ok frame) = SpellsFrame (value_of frame) octets
+IsDecodedAlone octets (Err refusal) = IsRefused octets refusal

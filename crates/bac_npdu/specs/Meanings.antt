@@ -1,5 +1,5 @@
 -- What two lists mean, and canonical octets of what was read.
-use Rattle.std.specs.Prelude.{ℕ, Some, List}
+use Rattle.std.specs.Prelude.{◌≡◌, ℕ, Option, None, Some, List}
 use Rattle.bac_tag.specs.Spelling.{IsLeast, HasMark}
 use Rattle.bac_npdu.specs.Frames.{FrameValue, SpellsFrame}
 
@@ -10,6 +10,11 @@ MeanTheSame b c = (f : FrameValue) × SpellsFrame f b × SpellsFrame f c
 -- c are the canonical octets of the frame that b spells
 abbrev pub IsNormalOf : List ℕ → List ℕ → Type 0
 IsNormalOf b c = (f : FrameValue) × SpellsFrame f b × IsLeast (SpellsFrame f) c
+
+-- what is written for a frame of which octets with this mark are a spelling: these, where they are canonical, else its canonical octets
+abbrev pub IsNormalised : FrameValue → List ℕ → Option ℕ → List ℕ → Type 0
+IsNormalised f octets None written = written ≡ octets
+IsNormalised f octets (Some place) written = IsLeast (SpellsFrame f) written
 
 -- the octets spell a frame, and the place is the first at which they differ from its canonical ones
 abbrev pub IsFirstFlaw : List ℕ → ℕ → Type 0

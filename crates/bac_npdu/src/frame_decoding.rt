@@ -7,7 +7,7 @@ ghost use Rattle.bac_tag.specs.Spelling.{HasMark, IsWholeRefusal};
 ghost use Rattle.bac_npdu.specs.FrameHeads.{frame_with};
 ghost use Rattle.bac_npdu.specs.Frames.{SpellsFrame, body_value, value_of};
 ghost use Rattle.bac_npdu.specs.Heads.{IsVersionPlace, IsAddressPlace};
-ghost use Rattle.bac_npdu.specs.Decoded.{begins_small, IsPduTypePlace, IsFrameWindowPlace, IsFrameReason, IsMade, IsVisited, IsDecoded};
+ghost use Rattle.bac_npdu.specs.Decoded.{begins_small, IsPduTypePlace, IsFrameWindowPlace, IsFrameReason, IsMade, IsVisited, IsDecoded, IsDecodedAlone};
 ghost use Rattle.bac_npdu.specs.HeadsRead.{IsBehind, IsControlMark, IsBodyVisited};
 
 use crate::control::Control;
@@ -222,6 +222,44 @@ pub fn decode_marked(alloc: Global, octets: &[u8]) -> Result<(Frame, Option<usiz
     decode_any(alloc, octets)
 }
 
+/// Keeps the frame alone, without a mark that would be moved with it.
+#[derive(Drop)]
+struct KeepFrame {
+    alloc: Global,
+}
+
+impl FrameVisitor for KeepFrame {
+    ghost use Rattle.bac_npdu.specs.Decoded.{IsKeptAlone};
+
+    type Place = ();
+
+    type Made = Result<Frame, Refusal>;
+
+    ghost makes = { λ _ value _ _ _ made. IsKeptAlone value made };
+
+    #[inline(always)]
+    fn visit(
+        self,
+        head: &FrameHead<'_>,
+        body: Body,
+        _mark: Option<usize>,
+        _place: &mut (),
+    ) -> Result<Frame, Refusal> {
+        match head.frame(self.alloc, body) {
+            Ok(frame) => Ok(frame),
+            Err(_) => Err(Refusal::out_of_memory()),
+        }
+    }
+}
+
+/// Decodes a frame alone.
+#[inline(always)]
+fn decode_alone(alloc: Global, octets: &[u8]) -> Result<Frame, Refusal>
+    ensures { IsDecodedAlone octets.now result }
+{
+    visit_any(alloc, octets, KeepFrame { alloc }, &mut ())?
+}
+
 /// Decodes the frame that all the octets spell.
 ///
 /// # Errors
@@ -236,6 +274,5 @@ pub fn decode_frame(alloc: Global, octets: &[u8]) -> Result<Frame, Refusal>
     ensures windows { IfErr result (λ refusal. (refusal.why ≡ Why.Window) ↔ IsFrameWindowPlace octets.now refusal.place) }
     ensures reasons { IfErr result (λ refusal. IsFrameReason refusal.why) }
 {
-    let (frame, _) = decode_marked(alloc, octets)?;
-    Ok(frame)
+    decode_alone(alloc, octets)
 }

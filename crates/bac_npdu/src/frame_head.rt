@@ -163,6 +163,7 @@ impl<'a> FrameHead<'a> {
     ///
     /// # Errors
     /// `OutOfMemory` where memory is refused, which is not told of addresses of up to seven octets.
+    #[inline(always)]
     pub fn frame(&self, alloc: Global, body: Body) -> Result<Frame, OutOfMemory>
         ensures value { IfOk result (λ frame. value_of frame ≡ frame_with self.now (body_value body)) }
         ensures memory { IfErr result (λ _. IsLong (address_of self.now.destination) ⊎ IsLong self.now.source) }

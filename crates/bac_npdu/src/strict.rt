@@ -1,15 +1,16 @@
 //! Canonical octets alone, and canonical octets of what was read.
 
 ghost use Rattle.std.specs.Prelude.{◌≡◌, ◌≢◌, ◌↔◌, false, IfOk, IfErr};
-ghost use Rattle.bac_tag.specs.Spelling.{HasMark, IsLeast, IsWholeRefusal};
+ghost use Rattle.bac_tag.specs.Spelling.{IsLeast, IsWholeRefusal};
 ghost use Rattle.bac_npdu.specs.Frames.{SpellsFrame, value_of};
 ghost use Rattle.bac_npdu.specs.Heads.{IsVersionPlace, IsAddressPlace};
 ghost use Rattle.bac_npdu.specs.Decoded.{begins_small, IsPduTypePlace, IsFrameWindowPlace, IsFrameReason};
 ghost use Rattle.bac_npdu.specs.Meanings.{IsNormalOf, IsFirstFlaw};
 
-use crate::frame::Frame;
-use crate::frame_decoding::decode_marked;
-use crate::frame_encoding::append_frame;
+use crate::frame::{Body, Frame};
+use crate::frame_decoding::{decode_marked, visit_frame};
+use crate::frame_head::FrameHead;
+use crate::visiting::FrameVisitor;
 use bac_tag::{OutOfMemory, Refusal, Why};
 use std::alloc::Global;
 
@@ -36,24 +37,43 @@ pub fn decode_strict(alloc: Global, octets: &[u8]) -> Result<Frame, Refusal>
     }
 }
 
-/// The canonical octets of a frame that octets spell with this mark. They are no longer than the octets, so memory is
-/// asked for once.
-#[inline(always)]
-fn canonical_of(
+/// Writes the canonical octets of a frame where it was decoded, so that it is not put together and moved.
+#[derive(Drop)]
+struct Normalising<'a> {
     alloc: Global,
-    octets: &[u8],
-    frame: &Frame,
-    mark: Option<usize>,
-) -> Result<Vec<u8>, OutOfMemory>
-    requires { HasMark (SpellsFrame (value_of frame.now)) octets.now mark }
-    ensures { IfOk result (λ out. IsLeast (SpellsFrame (value_of frame.now)) out.items) }
-{
-    if mark.is_none() {
-        return Ok(Vec::from_slice(alloc, octets)?);
+    /// The octets that spell the frame.
+    octets: &'a [u8],
+}
+
+impl FrameVisitor for Normalising<'_> {
+    ghost use Rattle.std.specs.Prelude.{IfOk};
+    ghost use Rattle.bac_npdu.specs.Meanings.{IsNormalised};
+
+    type Place = ();
+
+    type Made = Result<Vec<u8>, OutOfMemory>;
+
+    ghost makes = { λ normalising value mark _ _ made. IfOk made (λ out. IsNormalised value normalising.octets.now mark out.items) };
+
+    #[inline(always)]
+    fn visit(
+        self,
+        head: &FrameHead<'_>,
+        body: Body,
+        mark: Option<usize>,
+        _place: &mut (),
+    ) -> Result<Vec<u8>, OutOfMemory> {
+        let Normalising { alloc, octets } = self;
+        match mark {
+            None => Ok(Vec::from_slice(alloc, octets)?),
+            Some(_) => {
+                // The canonical octets are no more, so memory is asked for once.
+                let mut out = Vec::with_capacity(alloc, octets.len())?;
+                head.append_frame(&body, &mut out)?;
+                Ok(out)
+            }
+        }
     }
-    let mut out = Vec::with_capacity(alloc, octets.len())?;
-    append_frame(frame, &mut out)?;
-    Ok(out)
 }
 
 /// The canonical octets of the frame that all the octets spell.
@@ -70,6 +90,8 @@ pub fn normalise_frame(alloc: Global, octets: &[u8]) -> Result<Vec<u8>, Refusal>
     ensures windows { IfErr result (λ refusal. refusal.why ≢ Why.OutOfMemory → (refusal.why ≡ Why.Window) ↔ IsFrameWindowPlace octets.now refusal.place) }
     ensures reasons { IfErr result (λ refusal. IsFrameReason refusal.why) }
 {
-    let (frame, mark) = decode_marked(alloc, octets)?;
-    canonical_of(alloc, octets, &frame, mark).map_err(|_refused| Refusal::out_of_memory())
+    match visit_frame(alloc, octets, Normalising { alloc, octets }, &mut ())? {
+        Ok(canonical) => Ok(canonical),
+        Err(_) => Err(Refusal::out_of_memory()),
+    }
 }
