@@ -3,8 +3,8 @@
 #   make test    the checks of the documents, then the merge gate: every proof from nothing, every test, and the
 #                examples in C, Python and Rust on the library of what was proved
 #   make check   proves what changed since the last check, while editing
-#   make bench   measures the program on a million records, the calls from C on the same, and values, services and APDUs
-#                of the library
+#   make bench   measures the program on a million records, the calls from C on the same, and values, services, APDUs
+#                and frames of the library
 #   make memory  runs the library's tests and the program with each allocation refused in turn (by hand: it takes
 #                three quarters of an hour)
 #   make wrong-bodies  tries the wrong bodies that the gate leaves out (by hand: it takes an hour and more)

@@ -1,17 +1,12 @@
 //! How many APDUs are decoded, marked and appended in a second, beside their services alone in the same run.
 
 use crate::faults::BenchFault;
+use crate::layers::{Apdus, Services, print, work};
 use crate::modes::Mode;
-use crate::rounds::{expect_canonical, expect_same, timed};
-use crate::services::{BATCH, batch_of, speed};
-use bac_apdu::{Apdu, append_apdu, decode_apdu, decode_apdu_marked};
-use bac_service::{Kind, Service, append_service, decode_service, decode_service_marked};
-use bac_tag::{OutOfMemory, Refusal};
-use std::alloc::Global;
+use crate::services::BATCH;
+use bac_service::Kind;
 use std::io;
-use std::num::nearest_usize_to_f64;
 use std::rt::Clock;
-use std::time::Duration;
 
 /// An APDU as it arrives, and the service in it.
 #[derive(Drop)]
@@ -23,130 +18,6 @@ pub struct Pdu<'a> {
     pub choice: u8,
     /// How many octets are in front of the service.
     pub head: usize,
-}
-
-/// What decodes and appends: the calls on APDUs, or those on services.
-trait Layer: Drop {
-    /// What octets spell.
-    type Value: Drop;
-
-    fn decode(&self, alloc: Global, octets: &[u8]) -> Result<Self::Value, Refusal>;
-
-    fn mark(&self, alloc: Global, octets: &[u8]) -> Result<(Self::Value, Option<usize>), Refusal>;
-
-    fn append(&self, value: &Self::Value, out: &mut Vec<u8>) -> Result<(), OutOfMemory>;
-}
-
-/// APDUs.
-#[derive(Drop)]
-struct Apdus;
-
-impl Layer for Apdus {
-    type Value = Apdu;
-
-    fn decode(&self, alloc: Global, octets: &[u8]) -> Result<Apdu, Refusal> {
-        decode_apdu(alloc, octets)
-    }
-
-    fn mark(&self, alloc: Global, octets: &[u8]) -> Result<(Apdu, Option<usize>), Refusal> {
-        decode_apdu_marked(alloc, octets)
-    }
-
-    fn append(&self, apdu: &Apdu, out: &mut Vec<u8>) -> Result<(), OutOfMemory> {
-        append_apdu(apdu, out)
-    }
-}
-
-/// Services of one kind, with one choice.
-#[derive(Drop)]
-struct Services {
-    kind: Kind,
-    choice: u8,
-}
-
-impl Layer for Services {
-    type Value = Service;
-
-    fn decode(&self, alloc: Global, octets: &[u8]) -> Result<Service, Refusal> {
-        decode_service(alloc, self.kind, self.choice, octets)
-    }
-
-    fn mark(&self, alloc: Global, octets: &[u8]) -> Result<(Service, Option<usize>), Refusal> {
-        decode_service_marked(alloc, self.kind, self.choice, octets)
-    }
-
-    fn append(&self, service: &Service, out: &mut Vec<u8>) -> Result<(), OutOfMemory> {
-        append_service(service, out)
-    }
-}
-
-/// How long a batch takes.
-#[derive(Clone, Copy)]
-struct Times {
-    decode: Duration,
-    mark: Duration,
-    append: Duration,
-}
-
-/// Decodes each message of a batch, and gives the last.
-fn decoded<L: Layer>(
-    alloc: Global,
-    layer: &L,
-    octets: &[u8],
-    batch: &[u8],
-) -> Result<L::Value, BenchFault> {
-    let mut last = layer.decode(alloc, octets)?;
-    for octets in batch.chunks_exact(octets.len().max(1)) {
-        last = layer.decode(alloc, octets)?;
-    }
-    Ok(last)
-}
-
-/// The same, and the first octet that is not canonical in a message with such an octet.
-fn marked<L: Layer>(
-    alloc: Global,
-    layer: &L,
-    octets: &[u8],
-    batch: &[u8],
-) -> Result<(L::Value, Option<usize>), BenchFault> {
-    let (mut last, mut found) = layer.mark(alloc, octets)?;
-    for octets in batch.chunks_exact(octets.len().max(1)) {
-        let (value, mark) = layer.mark(alloc, octets)?;
-        last = value;
-        found = found.or(mark);
-    }
-    Ok((last, found))
-}
-
-/// Appends a value to an empty vector, so often to the same one.
-fn appended<L: Layer>(alloc: Global, layer: &L, value: &L::Value) -> Result<Vec<u8>, BenchFault> {
-    let mut out = Vec::new(alloc);
-    for _ in 0..BATCH {
-        out.clear();
-        layer.append(value, &mut out)?;
-    }
-    Ok(out)
-}
-
-/// Does the work of a layer.
-fn work<L: Layer>(
-    rt: &(impl AllocGlobal + Clock),
-    mode: Mode,
-    layer: &L,
-    octets: &[u8],
-) -> Result<Times, BenchFault> {
-    let (alloc, repetitions) = (rt.alloc(), mode.repetitions());
-    let batch = batch_of(alloc, octets)?;
-    let (value, decode) = timed(rt, repetitions, || decoded(alloc, layer, octets, &batch))?;
-    let ((_, found), mark) = timed(rt, repetitions, || marked(alloc, layer, octets, &batch))?;
-    expect_canonical(found)?;
-    let (written, append) = timed(rt, repetitions, || appended(alloc, layer, &value))?;
-    expect_same(written, octets)?;
-    Ok(Times {
-        decode,
-        mark,
-        append,
-    })
 }
 
 /// Prints the head of the table, where there is one.
@@ -178,32 +49,5 @@ pub fn add(
         choice: pdu.choice,
     };
     let alone = work(rt, mode, &layer, service)?;
-    Ok(print(rt, mode, pdu.name, pdu.octets.len(), whole, alone)?)
-}
-
-/// Prints the line of an APDU.
-fn print(
-    rt: &impl Print,
-    mode: Mode,
-    name: &str,
-    size: usize,
-    whole: Times,
-    alone: Times,
-) -> io::Result<()> {
-    if mode == Mode::Once {
-        return println!(rt; "APDU of {name}: {size} octets decoded, marked and appended");
-    }
-    let (decode, mark, append) = (speed(whole.decode), speed(whole.mark), speed(whole.append));
-    println!(rt;
-        "{name:<26} {size:>8} {decode:>12.0} {mark:>12.0} {append:>12.0} {:>8.2} {:>8.2} {:>8.2} {:>8.1}",
-        whole.decode.div_duration_f64(alone.decode),
-        whole.mark.div_duration_f64(alone.mark),
-        whole.append.div_duration_f64(alone.append),
-        (nanoseconds(whole.decode) - nanoseconds(alone.decode))
-    )
-}
-
-/// Nanoseconds of a message.
-fn nanoseconds(took: Duration) -> f64 {
-    took.as_secs_f64() * 1e9 / nearest_usize_to_f64(BATCH)
+    Ok(print(rt, mode, "APDU", pdu.name, pdu.octets.len(), whole, alone)?)
 }

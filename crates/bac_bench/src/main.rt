@@ -1,6 +1,6 @@
 //! The program `bac_bench`: how long reading, marking and writing values takes, beside a plain copy of the same
-//! octets in the same run, how many services are decoded, marked and encoded in a second, how many APDUs, and how long
-//! a message of many segments takes to be cut and joined, and a stream of records to be taken in.
+//! octets in the same run, how many services are decoded, marked and encoded in a second, how many APDUs and frames, and
+//! how long a message of many segments takes to be cut and joined, and a stream of records to be taken in.
 //!
 //! Without a word it does each piece of work once and prints what is the same in every run; with the word
 //! `time` it measures, and prints a table.
@@ -11,7 +11,9 @@ ghost use Rattle.std.specs.Prelude.{◌≡◌, IfOk, vec_len};
 mod apdus;
 mod cases;
 mod faults;
+mod frames;
 mod intakes;
+mod layers;
 mod modes;
 mod rounds;
 mod segments;
@@ -24,6 +26,7 @@ use bac_service::Kind;
 use bac_value::{Bits, Octets, Text};
 use cases::Contents;
 use faults::BenchFault;
+use frames::Npdu;
 use modes::Mode;
 use services::Message;
 use std::alloc::{AllocError, Global};
@@ -61,6 +64,7 @@ fn run_all(rt: &(impl Print + AllocGlobal + Clock), mode: Mode) -> Result<(), Be
     run_short_values(rt, mode, 65_536)?;
     run_services(rt, mode)?;
     run_apdus(rt, mode)?;
+    run_frames(rt, mode)?;
     segments::run(rt, mode, &contents(rt.alloc(), MESSAGE)?)?;
     intakes::run(rt, mode)
 }
@@ -215,6 +219,25 @@ fn run_segment(rt: &(impl Print + AllocGlobal + Clock), mode: Mode) -> Result<()
         head: 6,
     };
     apdus::add(rt, mode, &segment)
+}
+
+/// The frames of a request to read a property, and of an answer with twenty results that another network sends.
+fn run_frames(rt: &(impl Print + AllocGlobal + Clock), mode: Mode) -> Result<(), BenchFault> {
+    frames::begin(rt, mode)?;
+    let request = Npdu {
+        name: "ReadProperty",
+        octets: &[1, 4, 0, 5, 1, 0x0C, 0x0C, 0, 0, 0, 5, 0x19, 0x55],
+        head: 2,
+    };
+    frames::add(rt, mode, &request)?;
+    let mut octets = Vec::from_slice(rt.alloc(), &[1, 8, 0, 7, 1, 9, 0x30, 1, 14])?;
+    octets.extend_from_slice(&twenty_results(rt.alloc())?)?;
+    let answer = Npdu {
+        name: "ReadPropertyMultiple-ACK",
+        octets: &octets,
+        head: 6,
+    };
+    frames::add(rt, mode, &answer)
 }
 
 /// A ReadPropertyMultiple-ACK of one object with twenty results, a Real each.

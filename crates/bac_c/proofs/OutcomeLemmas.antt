@@ -1,13 +1,12 @@
 -- What the calls for C tell.
-use Rattle.std.proofs.Common.{◌≡◌, ◌≢◌, ◌↔◌, ◌++◌, ℕ, List, [], ap, ◌∙◌}
+use Rattle.std.proofs.Common.{◌≡◌, ◌≢◌, ◌↔◌, ℕ, List}
 use Rattle.bac_tag.specs.declared.refusals.Refusal.{Refusal}
 use Rattle.bac_tag.specs.declared.refusals.Why.TheVariants.{Version, Address, PduType, Window, OutOfMemory}
 use Rattle.bac_tag.specs.Spelling.{IsWholeRefusal}
 use Rattle.bac_npdu.specs.Heads.{IsVersionPlace, IsAddressPlace}
-use Rattle.bac_npdu.specs.Frames.{FrameValue, SpellsFrame}
+use Rattle.bac_npdu.specs.Frames.{SpellsFrame}
 use Rattle.bac_npdu.specs.Decoded.{IsPduTypePlace, IsFrameWindowPlace, IsFrameReason}
-use Rattle.bac_text.specs.FrameText.{text}
-use Rattle.bac_c.specs.Outcomes.{IsHopeless, IsTextOf}
+use Rattle.bac_c.specs.Outcomes.{IsHopeless}
 
 -- what decoding says of a refusal
 pub hopeless : (octets : List ℕ) (refusal : Refusal) → refusal.why ≢ OutOfMemory → IsWholeRefusal SpellsFrame octets refusal
@@ -19,7 +18,3 @@ hopeless octets refusal memory refused versions addresses types windows reasons 
   reasoned = record { of_version = versions; of_address = addresses; of_type = types; of_window = windows; others = reasons };
   memory = memory;
 }
-
--- a text that is appended to nothing
-pub text_alone : (frame : FrameValue) (octets before line : List ℕ) → SpellsFrame frame octets → before ≡ [] → line ≡ before ++ text frame → IsTextOf octets line
-text_alone frame octets before line spelled empty appended = (frame, spelled, appended ∙ ap (λ (l : List ℕ). l ++ text frame) empty)

@@ -1,31 +1,58 @@
 //! The text of a frame.
 
 ghost use Rattle.std.specs.Prelude.{◌≡◌, ◌≢◌, ◌⊎◌, IfErr, IfOk};
-ghost use Rattle.bac_tag.specs.declared.refusals.Why.TheVariants.{OutOfMemory};
+ghost use Rattle.bac_tag.specs.declared.refusals.Why.TheVariants.{OutOfMemory as NoMemory};
 ghost use Rattle.bac_c.specs.Outcomes.{IsHopeless, IsTextOf, IsWritten, LacksRoom, Tells, without_memory};
 
 use crate::writing::{hand_out, refuse};
 use crate::{BACTOOL_NO_MEMORY, BACTOOL_NO_ROOM, BACTOOL_OK, BACTOOL_REFUSED, Outcome};
-use bac_npdu::decode_frame;
-use bac_tag::Refusal;
-use bac_text::append_text;
+use bac_npdu::{Body, FrameHead, FrameVisitor, visit_frame};
+use bac_tag::{OutOfMemory, Refusal};
+use bac_text::write_text_of;
 use std::alloc::Global;
 
 /// For how many octets there is room at first, as most texts want.
 const FIRST_ROOM: usize = 256;
 
+/// Writes the text of a frame where it was decoded, so that it is not put together and moved.
+#[derive(Drop)]
+struct Showing {
+    alloc: Global,
+}
+
+impl FrameVisitor for Showing {
+    ghost use Rattle.std.specs.Prelude.{◌≡◌, IfOk};
+    ghost use Rattle.bac_text.specs.FrameText.{text};
+
+    type Place = ();
+
+    type Made = Result<Vec<u8>, OutOfMemory>;
+
+    ghost makes = { λ _ value _ _ _ made. IfOk made (λ line. line.items ≡ text value) };
+
+    #[inline(always)]
+    fn visit(
+        self,
+        head: &FrameHead<'_>,
+        body: Body,
+        _mark: Option<usize>,
+        _place: &mut (),
+    ) -> Result<Vec<u8>, OutOfMemory> {
+        let mut line = Vec::with_capacity(self.alloc, FIRST_ROOM)?;
+        let end = write_text_of(head, &body, &mut line, 0)?;
+        line.truncate(end);
+        Ok(line)
+    }
+}
+
 /// The text of the frame that the octets spell.
 fn text_of(alloc: Global, octets: &[u8]) -> Result<Vec<u8>, Refusal>
     ensures text { IfOk result (λ line. IsTextOf octets.now line.items) }
-    ensures refused { IfErr result (λ refusal. refusal.why ≢ OutOfMemory → IsHopeless octets.now refusal) }
-    ensures memory { IfErr result (λ refusal. refusal.why ≡ OutOfMemory → refusal.place ≡ 0) }
+    ensures refused { IfErr result (λ refusal. refusal.why ≢ NoMemory → IsHopeless octets.now refusal) }
+    ensures memory { IfErr result (λ refusal. refusal.why ≡ NoMemory → refusal.place ≡ 0) }
 {
-    let frame = decode_frame(alloc, octets)?;
-    let Ok(mut line) = Vec::with_capacity(alloc, FIRST_ROOM) else {
-        return Err(Refusal::out_of_memory());
-    };
-    match append_text(&frame, &mut line) {
-        Ok(()) => Ok(line),
+    match visit_frame(alloc, octets, Showing { alloc }, &mut ())? {
+        Ok(line) => Ok(line),
         Err(_) => Err(Refusal::out_of_memory()),
     }
 }
