@@ -9,12 +9,21 @@ ghost use Rattle.bac_value.specs.Numbers.{NumberContents, HasNumberLength, least
 use bac_tag::layers::{first_difference, first_hopeless, number_within};
 use bac_tag::{OutOfMemory, Refusal, Why};
 
-/// The number between `low` and `high` whose contents are these octets.
-///
-/// Length at 0, where they are not 1 to 8; Content at the first octet that no contents of that length can
-/// have there.
-#[inline]
-pub fn read_number(octets: &[u8], low: u64, high: u64) -> Result<u64, Refusal>
+/// The number of one octet or two.
+#[inline(always)]
+fn short_number(octets: &[u8]) -> Option<u64>
+    ensures number { IfSome result (λ n. n ≡ number octets.now) }
+    ensures few { IfSome result (λ _. HasNumberLength (length octets.now)) }
+{
+    match octets {
+        [only] => Some(u64::from(*only)),
+        [first, second] => Some(u64::from(*first) * 256 + u64::from(*second)),
+        _ => None,
+    }
+}
+
+/// What [`read_number`] returns, whatever the number of octets.
+fn read_any_number(octets: &[u8], low: u64, high: u64) -> Result<u64, Refusal>
     requires range { low ≤ high }
     requires room { low < 256 }
     ensures found { IfOk result (λ n. NumberContents low high n octets.now) }
@@ -29,6 +38,27 @@ pub fn read_number(octets: &[u8], low: u64, high: u64) -> Result<u64, Refusal>
     match number_within(octets, octets.len(), low, high) {
         Ok(number) => Ok(number),
         Err(place) => Err(Why::Content.at(place)),
+    }
+}
+
+/// The number between `low` and `high` whose contents are these octets.
+///
+/// Length at 0, where they are not 1 to 8; Content at the first octet that no contents of that length can
+/// have there.
+#[inline(always)]
+pub fn read_number(octets: &[u8], low: u64, high: u64) -> Result<u64, Refusal>
+    requires range { low ≤ high }
+    requires room { low < 256 }
+    ensures found { IfOk result (λ n. NumberContents low high n octets.now) }
+    ensures none { IfErr result (λ _. (n : ℕ) → NumberContents low high n octets.now → ⊥) }
+    ensures reasons { IfErr result (λ refusal. IsNumberReason refusal.why) }
+    ensures length { IfErr result (λ refusal. refusal.why ≡ Why.Length → (refusal.place ≡ 0) × (HasNumberLength (length octets.now) → ⊥)) }
+    ensures content { IfErr result (λ refusal. refusal.why ≡ Why.Content → HasNumberLength (length octets.now) × MissesAt low high octets.now (length octets.now) refusal.place) }
+{
+    // Most numbers have one octet or two.
+    match short_number(octets) {
+        Some(number) if low <= number && number <= high => Ok(number),
+        _ => read_any_number(octets, low, high),
     }
 }
 

@@ -2,7 +2,7 @@ use Rattle.std.proofs.Common.{arith}
 use Rattle.bac_tag.specs.Laws.Octets.{octets_at}
 use Rattle.bac_value.specs.Laws.Primitives.{some_octets}
 use Rattle.bac_value.specs.Laws.Numbers.{low_fits, misses_none, begun_whole}
-use Rattle.bac_value.proofs.ranged_numbers.read_number.Goals as goal
+use Rattle.bac_value.proofs.ranged_numbers.read_any_number.Goals as goal
 
 pub number_within-requires-clause-room : goal.number_within-requires-clause-room
 number_within-requires-clause-room c = low_fits c.args.low _ c.requires.room (some_octets c.args.octets.now c.if-is_empty.ensures, omega arith)
