@@ -227,38 +227,6 @@ fn told(refusal: Refusal, octets: &[u8], room: bool) -> Refusal
     Why::Depth.at(0)
 }
 
-/// What stands next and how many octets it takes, where it is the closing tag of this number or an application
-/// primitive, and its head is the least one and has one octet.
-#[inline(always)]
-fn read_short_item(octets: &[u8], closing: u8) -> Option<(Item<'_>, usize)>
-    requires { closing ≤ 254 }
-    ensures found { IfSome result (λ found. (room : Bool) → Takes (SpellsStanding room closing) octets.now (item_event found.0, found.1)) }
-    ensures parts { IfSome result (λ found. LiesInFront found.0 1 found.1 octets.now) }
-    ensures some { IfSome result (λ found. 0 < found.1) }
-    ensures item { IfSome result (λ found. IsItem found.0) }
-{
-    if is_short_closing(octets, closing) {
-        return Some((Item::Close(closing), 1));
-    }
-    let number = *octets.first()? >> 4;
-    if number > 12 || number == 1 {
-        return None;
-    }
-    let size = short_len(octets, false, number)?;
-    let (shortest, longest) = Prim::lengths(number);
-    if size < shortest || longest < size {
-        return None;
-    }
-    let head = TagHead::App {
-        number,
-        len: size as u32,
-    };
-    match read_under(head, &octets[1..]) {
-        Ok((item, taken)) => Some((item, 1 + taken)),
-        Err(_) => None,
-    }
-}
-
 /// How many octets the application primitive at the front takes, where they are its canonical ones and its head has one
 /// octet. None tells nothing of the octets.
 #[inline(always)]
@@ -299,8 +267,8 @@ pub(crate) fn read_item(
     ensures depth { IfErr result (λ refusal. (refusal.why ≡ Why.Depth) ↔ ((room ≡ false) × (refusal.place ≡ 0) × BeginsGroup 0 octets.now)) }
     ensures reasons { IfErr result (λ refusal. IsItemReason refusal.why) }
 {
-    if let Some((item, taken)) = read_short_item(octets, closing) {
-        return Ok((item, 1, taken));
+    if is_short_closing(octets, closing) {
+        return Ok((Item::Close(closing), 1, 1));
     }
     let (head, start) = read_next_head(octets, room, closing)?;
     match read_under(head, &octets[start..]) {

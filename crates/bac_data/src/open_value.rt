@@ -14,7 +14,8 @@ use smallvec::SmallVec;
 use std::alloc::AllocError;
 use std::marker::Model;
 
-/// So many octets a value holds in itself, where they want no memory: most values have no more.
+/// So many octets a value holds in itself, where it was read in canonical octets or copied: they want no memory then. Most
+/// values have no more.
 const SHORT: usize = 16;
 
 /// An open value: a list of elements, which may be empty. Each is an application primitive, a context primitive

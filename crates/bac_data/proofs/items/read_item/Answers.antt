@@ -45,6 +45,3 @@ returns-in-Ok-clause-parts c =
       headed = subst (λ (h : TagHead). Heads h (take c.in_ok-head.start c.args.octets.now)) (sym c.in-Ok.ensures.head) c.in_ok-head.ensures.found.spelled.spelled;
       octets_are = take-add c.in_ok-head.start c.in-Ok.size c.args.octets.now ∙ ap (λ (l : List ℕ). take c.in_ok-head.start c.args.octets.now ++ l) contents;
     }
-
-pub returns-in-Some-clause-found : goal.returns-in-Some-clause-found
-returns-in-Some-clause-found c = c.in-Some.ensures.found c.args.room
