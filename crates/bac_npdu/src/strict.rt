@@ -67,7 +67,7 @@ impl FrameVisitor for Normalising<'_> {
         match mark {
             None => Ok(Vec::from_slice(alloc, octets)?),
             Some(_) => {
-                // The canonical octets are no more, so memory is asked for once.
+                // The canonical octets are no more than these, so memory is asked for once.
                 let mut out = Vec::with_capacity(alloc, octets.len())?;
                 head.append_frame(&body, &mut out)?;
                 Ok(out)
