@@ -30,5 +30,5 @@ returns-clause-mark g c =
           (least_mark g.T.Primitive.contents c.args.context g.T.Primitive.APP v (g.T.Primitive.written v) (laws.written_contents v (laws.only_values v contents spelled)) (laws.written_least v)
           (take 1 c.args.octets.now) contents (subst (λ (n : ℕ). IsLeast (Heads (heading c.args.context g.T.Primitive.APP n)) (take 1 c.args.octets.now)) (sym sized) c.requires.head.least)
           (rw (w.in-None.is, take_rest) at c.mark.ensures.none))
-      | in-Some w ↦ rw w.mark-is (rw take_rest at w.mark_of-mark.ensures)
+      | in-Some w ↦ rw w.mark-is (rw take_rest at w.mark_of_other-mark.ensures)
     ])
