@@ -6,7 +6,7 @@ use Rattle.bac_tag.specs.declared.heads.TagHead.TheVariants.{App, Ctx, Open, Clo
 use Rattle.bac_tag.specs.Spelling.{IsLeast}
 use Rattle.bac_tag.specs.Laws.Spelling.{IsLeast-one}
 use Rattle.bac_tag.specs.Heads.{IsValid, class_bit, number_octets, length_octets, Heads}
-use Rattle.bac_tag.specs.Laws.Heads.{initial_parts, head_is, length_below, class_bit_below, class_bit_one}
+use Rattle.bac_tag.specs.Laws.Heads.{head_is, length_below}
 use Rattle.bac_tag.specs.Writing.{number_form, length_form, narrow_opening, narrow_head}
 use Rattle.bac_tag.specs.Short.{headed, BeginsShort, BeginsWith}
 use Rattle.bac_tag.proofs.WritingLemmas.{least_app, least_ctx, least_open, least_close}
@@ -98,26 +98,6 @@ close_begins n octets b =
     let p = number_in_nibble n (omega arith) in
     let same = IsLeast-one (Heads (Close n)) (take 1 octets) (narrow_opening 1 n 7) b.least (least_close n _ b.least.member.valid refl) in
     record { some = b.some; nibble = p; octet = octet_is octets _ b.some (same ∙ one_opening 1 n 7 p) }
-
--- ---- the parts of the octet
-
--- the octet has the parts that its head has
-pub record HasParts (c : Bool) (n len nibble : ℕ) (class : Bool) (lvt : ℕ) : Type 0 where
-  pub nibble_is : nibble ≡ n
-  pub class_is : class ≡ c
-  pub lvt_is : lvt ≡ len
-  pub low : n < 15
-  pub small : len < 5
-
-pub headed_parts : (c : Bool) (n len : ℕ) (octets : List ℕ) (nibble : ℕ) (class : Bool) (lvt : ℕ) → get_or octets 0 0 ≡ 16 * nibble + 8 * class_bit class + lvt → lvt < 8
-    → BeginsShort (headed c n len) octets → HasParts c n len nibble class lvt
-headed_parts c n len octets nibble class lvt is below b =
-    let w = headed_begins c n len octets b in
-    let h = initial_parts nibble (class_bit class) lvt n (class_bit c) len (class_bit_below class) (class_bit_below c) below (omega (arith, w.1)) (sym is ∙ w.0.octet) in
-    record { nibble_is = h.0; class_is = class_bit_one _ _ h.1; lvt_is = h.2; low = w.0.nibble; small = w.1 }
-
-pub parts_begin : (n m k l : ℕ) (class c : Bool) (octets : List ℕ) → 0 < length octets → get_or octets 0 0 ≡ 16 * n + 8 * class_bit class + l → n ≡ m → n < 15 → class ≡ c → l ≡ k → BeginsWith (class_bit c) m k octets
-parts_begin n m k l class c octets some is p low q r = record { some = some; nibble = omega arith; octet = is ∙ rw (p, q, r) refl }
 
 -- ---- a head of one octet is the least
 

@@ -6,6 +6,7 @@ ghost use Rattle.bac_tag.specs.declared.heads.TagHead.TheVariants.{Open, Close};
 ghost use Rattle.bac_tag.specs.Short.{headed, BeginsShort, BeginsWith};
 
 use crate::reading::initial_parts;
+use crate::writing::initial_octet;
 
 /// Returns the length in the head with this class and number, 0 to 4, where the first octet alone is the canonical
 /// spelling of such a head. Else it returns None.
@@ -21,8 +22,12 @@ pub fn short_len(octets: &[u8], context: bool, number: u8) -> Option<usize>
     let [initial, ..] = octets else {
         return None;
     };
-    let (nibble, class, lvt) = initial_parts(*initial);
-    if nibble == number && nibble < 15 && class == context && lvt < 5 {
+    if number > 14 {
+        return None;
+    }
+    // Behind an octet with another number or class this is 8 or more, also where it wraps.
+    let lvt = initial.wrapping_sub(initial_octet(number, context, 0));
+    if lvt < 5 {
         Some(usize::from(lvt))
     } else {
         None

@@ -10,7 +10,7 @@ use arrayvec::ArrayVec;
 
 /// The octet with this nibble, class and LVT.
 #[inline(always)]
-fn initial_octet(nibble: u8, context: bool, lvt: u8) -> u8
+pub(crate) fn initial_octet(nibble: u8, context: bool, lvt: u8) -> u8
     requires nibble { nibble < 16 }
     requires lvt { lvt < 8 }
     ensures { result ≡ 16 * nibble + 8 * class_bit context + lvt }
