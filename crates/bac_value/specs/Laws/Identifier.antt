@@ -39,3 +39,7 @@ identifier_any_octets = record {
   sized = λ value h. (omega arith, omega arith);
   any = λ octets p least most. identifier_of octets p (omega arith);
 }
+
+-- a number is put together again of what stands above and below 22 bits
+pub put_together : (n : ℕ) → n / 2 ^ 22 * 2 ^ 22 + n % 2 ^ 22 ≡ n
+put_together n = omega arith

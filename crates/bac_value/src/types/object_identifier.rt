@@ -1,17 +1,24 @@
 //! Object identifiers (clause 20.2.14).
 
-ghost use Rattle.std.specs.Prelude.{false, ◌≡◌, ◌<◌, ◌≤◌, ◌^◌, ◌↔◌, IsSome, IfSome};
-ghost use Rattle.std.proofs.Common.{lit≤};
+ghost use Rattle.std.specs.Prelude.{false, ◌≡◌, ◌<◌, ◌≤◌, ◌^◌, ◌/◌, ◌%◌, ◌*◌, ◌+◌, ◌↔◌, nat_eq, IsSome, IfSome};
+ghost use Rattle.std.specs.Ordering.{on, eq_of_both, then_cmp, nat_cmp, as_partial_cmp};
+ghost use Rattle.std.specs.Cmp.{partial_order_from_own_ties};
+ghost use Rattle.std.specs.Cmp.Rules.{comparing, hashing};
+ghost use Rattle.std.specs.Hash as fed;
+ghost use Rattle.std.proofs.Common.{lit≤, ap, ℕ, rules};
 ghost use Rattle.bac_value.specs.Primitives.{IsTheList};
 ghost use Rattle.bac_value.specs.Laws.Primitives.{the_list_only_values, the_list_written, the_list_least};
 ghost use Rattle.bac_value.specs.Identifier.{Identifier, identifier_octets, IsIdentifier};
 ghost use Rattle.bac_value.specs.Laws.AnyOctets.{any_octets_once, any_octets_lengths, any_octets_each_length};
-ghost use Rattle.bac_value.specs.Laws.Identifier.{identifier_any_octets};
+ghost use Rattle.bac_value.specs.Laws.Identifier.{identifier_any_octets, put_together};
 
 use crate::fixed::all_of;
 use crate::primitives::Primitive;
 use bac_tag::{OutOfMemory, Refusal};
 use std::alloc::Global;
+use std::cmp::Ordering;
+use std::fmt::{self, Debug};
+use std::hash::{Hash, Hasher};
 use std::marker::Model;
 
 /// The largest kind of object: 10 bits.
@@ -22,20 +29,84 @@ const MOST_INSTANCE: u32 = 0x3F_FFFF;
 
 /// A kind of object and an instance of it. Four octets, the most significant octet first: 10 bits of kind,
 /// then 22 bits of instance.
-#[derive(Clone, Copy, Debug, PartialEq, Eq, PartialOrd, Ord, Hash)]
+#[derive(Clone, Copy)]
 pub struct ObjectId {
-    kind: u16,
-    instance: u32,
+    /// The number that the four octets are.
+    number: u32,
+}
+
+/// The kind and the instance, as `ObjectId { kind: 0, instance: 5 }`.
+impl Debug for ObjectId {
+    fn fmt<W: fmt::Write>(&self, formatter: &mut fmt::Formatter<W>) -> fmt::Result {
+        formatter
+            .debug_struct("ObjectId")
+            .field("kind", &self.kind())
+            .field("instance", &self.instance())
+            .finish()
+    }
 }
 
 impl Model for ObjectId {
     ghost Value = { Identifier };
 
-    ghost view = { λ id. record { kind = id.kind; instance = id.instance } };
+    ghost view = { λ id. record { kind = id.number / 2 ^ 22; instance = id.number % 2 ^ 22 } };
 
-    ghost invariant = { λ id. (id.kind < 2 ^ 10) × (id.instance < 2 ^ 22) };
+    ghost invariant = { λ id. id.number < 2 ^ 32 };
 
-    ghost inverse = { λ id. record { kind = id.kind; instance = id.instance } };
+    ghost inverse = { λ id. record { number = id.kind * 2 ^ 22 + id.instance } };
+
+    ghost inverse_ok = { λ id small. ap (λ (n : ℕ). record { number = n }) (put_together id.number) };
+}
+
+/// Two are equal where their kinds are and their instances are.
+impl PartialEq for ObjectId {
+    ghost eq = { eq_of_both (on (λ id. id.kind) nat_eq) (on (λ id. id.instance) nat_eq) };
+
+    ghost laws = { Prim.search (comparing, rules) };
+
+    fn eq(&self, other: &ObjectId) -> bool {
+        self.number == other.number
+    }
+}
+
+impl Eq for ObjectId {
+    ghost laws = { Prim.search (comparing, rules) };
+}
+
+/// By their kinds, and where these are equal by their instances.
+impl Ord for ObjectId {
+    ghost cmp = { then_cmp (on (λ id. id.kind) nat_cmp) (on (λ id. id.instance) nat_cmp) };
+
+    ghost total = { Prim.search (comparing, rules) };
+
+    ghost matches_partial_cmp = { Prim.search (comparing, rules) };
+
+    ghost matches_eq = { Prim.search (comparing, rules) };
+
+    fn cmp(&self, other: &ObjectId) -> Ordering {
+        self.number.cmp(&other.number)
+    }
+}
+
+impl PartialOrd for ObjectId {
+    ghost partial_cmp = { as_partial_cmp (then_cmp (on (λ id. id.kind) nat_cmp) (on (λ id. id.instance) nat_cmp)) };
+
+    ghost laws = { partial_order_from_own_ties (Prim.search (comparing, rules))
+        (Prim.search (comparing, rules)) };
+
+    fn partial_cmp(&self, other: &ObjectId) -> Option<Ordering> {
+        Some(self.cmp(other))
+    }
+}
+
+impl Hash for ObjectId {
+    ghost hash_input = { λ id. fed.u32 (id.kind * 2 ^ 22 + id.instance) };
+
+    ghost respects_eq = { Prim.search (hashing, rules) };
+
+    fn hash<H: Hasher>(&self, state: &mut H) {
+        self.number.hash(state);
+    }
 }
 
 impl ObjectId {
@@ -47,21 +118,23 @@ impl ObjectId {
         if kind > MOST_KIND || instance > MOST_INSTANCE {
             return None;
         }
-        Some(ObjectId { kind, instance })
+        Some(ObjectId {
+            number: u32::from(kind) << 22 | instance,
+        })
     }
 
     /// The kind of object, at most 1,023.
     pub fn kind(&self) -> u16
         ensures { result ≡ self.now.kind }
     {
-        self.kind
+        (self.number >> 22) as u16
     }
 
     /// The instance, at most 4,194,303.
     pub fn instance(&self) -> u32
         ensures { result ≡ self.now.instance }
     {
-        self.instance
+        self.number & MOST_INSTANCE
     }
 
     /// The identifier of four octets, 10 bits of kind in front of 22 of instance.
@@ -69,10 +142,8 @@ impl ObjectId {
     pub(crate) fn of_octets(octets: [u8; 4]) -> ObjectId
         ensures { octets ≡ identifier_octets result }
     {
-        let number = u32::from_be_bytes(octets);
         ObjectId {
-            kind: (number >> 22) as u16,
-            instance: number & MOST_INSTANCE,
+            number: u32::from_be_bytes(octets),
         }
     }
 
@@ -82,7 +153,7 @@ impl ObjectId {
         ensures value { IsIdentifier self.now }
         ensures octets { result ≡ identifier_octets self.now }
     {
-        (u32::from(self.kind) << 22 | self.instance).to_be_bytes()
+        self.number.to_be_bytes()
     }
 }
 
