@@ -16,7 +16,6 @@ mod ReasonLemmas
 mod DepthLemmas
 pub mod ValueLemmas
 mod PartLemmas
-mod QuickHeadLemmas
 mod HeldLemmas
 mod WalkLemmas
 mod ReadingSteps

@@ -15,9 +15,8 @@ ghost use Rattle.bac_data.specs.Under.{Under, HasContents};
 ghost use Rattle.bac_data.specs.Events.{SpellsEvent};
 ghost use Rattle.bac_data.specs.Reading.{SpellsStanding, next_heads, item_event, item_contents, item_head, IsItem, HasLeastContents, LiesInFront, BeginsLeast};
 
-use crate::quick_heads::quick_head;
 use bac_tag::layers::{
-    Expected, is_short_closing, joined_marks, mark_read_head, read_one_of, short_len,
+    Expected, is_short_closing, joined_marks, mark_read_head, quick_head, read_one_of, short_len,
 };
 use bac_tag::{Refusal, TagHead, Why, read_head};
 use bac_value::layers::{are_written, mark_contents, written_len_of};

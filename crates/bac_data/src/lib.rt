@@ -10,7 +10,6 @@ mod building;
 mod items;
 pub mod laws;
 mod open_value;
-mod quick_heads;
 mod reading;
 mod walking;
 mod writing;

@@ -8,7 +8,7 @@ ghost use Rattle.bac_data.specs.Events.{Event as EventOf, SpellsEvents};
 ghost use Rattle.bac_data.specs.Held.{Holds, Holds-prop};
 ghost use Rattle.bac_data.specs.Walks.{event_of, IsPackedStep, GivesStep};
 
-use crate::quick_heads::quick_head;
+use bac_tag::layers::quick_head;
 use bac_tag::{TagHead, read_head};
 use bac_value::{Boolean, PrimRef};
 use std::marker::Model;

@@ -9,3 +9,4 @@ pub mod ShortLemmas
 pub mod HeadOctetLemmas
 pub mod BehindLemmas
 pub mod FilledLemmas
+pub mod QuickHeadLemmas

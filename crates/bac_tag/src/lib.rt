@@ -21,6 +21,7 @@ pub mod laws;
 pub mod layers;
 mod marks;
 mod numbers;
+mod quick_heads;
 mod reading;
 mod refusals;
 mod short;

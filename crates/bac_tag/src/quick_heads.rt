@@ -2,9 +2,10 @@
 
 ghost use Rattle.std.specs.Prelude.{◌≡◌, ◌<◌, ◌≤◌, IfSome, length, take, drop};
 ghost use Rattle.bac_tag.specs.Spelling.{Takes};
-ghost use Rattle.bac_tag.specs.Heads.{Heads, Opening, LengthIn, class_bit};
+ghost use Rattle.bac_tag.specs.Heads.{Heads, IsValid, Opening, LengthIn, class_bit};
+ghost use Rattle.bac_tag.specs.Short.{headed};
 
-use bac_tag::TagHead;
+use crate::TagHead;
 
 /// What stands in front of the length of a head (clause 20.2.1.2): whether the class is context, the number, the LVT, and
 /// how many octets these take.
@@ -46,12 +47,57 @@ fn find_length(octets: &[u8], start: usize, lvt: u8) -> Option<(u32, usize)>
     Some((u32::from(len), start + 1))
 }
 
-/// The head at the front of the octets, in any tolerated spelling, and how many octets it takes. None tells nothing of
-/// the octets: heads with longer lengths, and those of Booleans, are left to `bac_tag::read_head`.
+/// A length in two octets or four behind the one at the place, which says so (clause 20.2.1.3.1); and where it ends.
+#[inline(always)]
+fn find_wide_length(octets: &[u8], start: usize) -> Option<(u32, usize)>
+    requires { start ≤ length octets.now }
+    ensures within { IfSome result (λ found. (start ≤ found.1) × (found.1 ≤ length octets.now)) }
+    ensures length { IfSome result (λ found. LengthIn found.0 5 (drop start (take found.1 octets.now))) }
+{
+    let wide = &octets[start..];
+    if let [first, a, b, ..] = wide {
+        if *first == 254 {
+            return Some((u32::from(u16::from_be_bytes([*a, *b])), start + 3));
+        }
+    }
+    if let [first, a, b, c, d, ..] = wide {
+        if *first == 255 {
+            return Some((u32::from_be_bytes([*a, *b, *c, *d]), start + 5));
+        }
+    }
+    None
+}
+
+/// Returns the length in the head with this class and number at the front of the octets (clause 20.2.1), in any tolerated
+/// spelling, and how many octets the head takes. None tells nothing of the octets.
+///
+/// The number must be one that the class uses: 0 to 254 where `context` is true, else 0 or 2 to 12.
+#[inline(always)]
+pub fn quick_length(octets: &[u8], context: bool, number: u8) -> Option<(u32, usize)>
+    requires { IsValid (headed context number 0) }
+    ensures { IfSome result (Takes (λ len. Heads (headed context number len)) octets.now) }
+{
+    let (class, found, lvt, start) = find_opening(octets)?;
+    if class != context || found != number || lvt > 5 {
+        return None;
+    }
+    if let Some(found) = find_length(octets, start, lvt) {
+        return Some(found);
+    }
+    if lvt < 5 {
+        return None;
+    }
+    let (len, end) = find_wide_length(octets, start)?;
+    Some((len, end))
+}
+
+/// Returns the head at the front of the octets (clause 20.2.1), in any tolerated spelling, and how many octets it takes.
+/// None tells nothing of the octets: heads with longer lengths, and those of Booleans, are left to
+/// [`read_head`](crate::read_head).
 ///
 /// Nothing is kept for a refusal, so this is the fast way where the octets begin with a head.
 #[inline(always)]
-pub(crate) fn quick_head(octets: &[u8]) -> Option<(TagHead, usize)>
+pub fn quick_head(octets: &[u8]) -> Option<(TagHead, usize)>
     ensures { IfSome result (Takes Heads octets.now) }
 {
     let (context, number, lvt, start) = find_opening(octets)?;

@@ -1,6 +1,6 @@
 use Rattle.std.proofs.Common.{arith}
-use Rattle.bac_data.proofs.QuickHeadLemmas.{takes_context, takes_application}
-use Rattle.bac_data.proofs.quick_heads.quick_head.Goals as goal
+use Rattle.bac_tag.proofs.QuickHeadLemmas.{takes_context, takes_application}
+use Rattle.bac_tag.proofs.quick_heads.quick_head.Goals as goal
 
 pub returns-then-context-3 : goal.returns-then-context-3
 returns-then-context-3 c =
