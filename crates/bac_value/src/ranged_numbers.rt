@@ -159,6 +159,25 @@ pub fn mark_number(octets: &[u8]) -> Option<usize>
     }
 }
 
+/// What [`mark_number`] returns of the octets of a number that was read: they are not gone through for it.
+#[inline(always)]
+pub(crate) fn mark_read_number(read: u64, octets: &[u8]) -> Option<usize>
+    requires sized { HasNumberLength (length octets.now) }
+    requires read { number octets.now ≡ read }
+    ensures none { IfNone result (octets.now ≡ least_number (number octets.now)) }
+    ensures some { IfSome result (FirstDifference octets.now (least_number (number octets.now))) }
+{
+    // Only zeros in front of others are too many.
+    if octets.len() == 1 || octets[0] != 0 {
+        return None;
+    }
+    // The fewest octets begin with another one, unless the number is zero.
+    if read != 0 {
+        return Some(0);
+    }
+    mark_zeros(octets)
+}
+
 /// Appends the fewest octets that spell a number of more than one octet. Where memory is refused `out` stays as it was.
 fn write_several(number: u64, out: &mut Vec<u8>) -> Result<(), OutOfMemory>
     ensures ok { OnOk result (out.new.items ≡ out.old.items ++ least_number number) }

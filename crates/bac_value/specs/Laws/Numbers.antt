@@ -3,7 +3,7 @@ use Rattle.std.proofs.Common.{◌≡◌, ℕ, zero, suc, ◌<◌, ◌≤◌, ◌
 use Rattle.std.proofs.lemmas.Bool.{cases_lt}
 use Rattle.std.specs.Int.{w64, to_be_bytes}
 use Rattle.std.specs.Int.Digits.{number_from_digits_after}
-use Rattle.std.proofs.lemmas.Int.Digits.{number_lt, number_digits_of, all_below_base_digits_of, length-digits_of-le, length-digits_of_step}
+use Rattle.std.proofs.lemmas.Int.Digits.{number_lt, number_digits_of, all_below_base_digits_of, first_digits_of, length-digits_of-le, length-digits_of_step}
 use Rattle.std.proofs.lemmas.Nat.{pow_pos, from_be_bytes-to_be_bytes_8}
 use Rattle.std.proofs.lemmas.List.{get_or-drop}
 use Rattle.std.proofs.Math.Nat.{pow-le-pow_right, mul-le-mul_right}
@@ -34,6 +34,12 @@ least_spells (suc n) h = record {
   sized = (omega (arith, length-digits_of_step 256 (suc n) (omega arith) (omega arith)), length-digits_of-le 256 8 (suc n) (omega arith) (omega arith));
   is = number_digits_of 256 (suc n) (omega arith);
 }
+
+-- their first octet is 0 for the number 0 alone
+pub first_of_least : (n : ℕ) → 0 < n → 0 < get_or (least_number n) 0 0
+unfolding least_number
+first_of_least zero h = absurd (omega arith)
+first_of_least (suc n) h = first_digits_of 256 (suc n) (omega arith) (omega arith)
 
 spelled_below : (n : ℕ) (octets : List ℕ) → Spells n octets → n < 2 ^ 64
 spelled_below n octets h = rw (← h.is) (number_fits octets h.are_octets h.sized.1)

@@ -8,7 +8,7 @@ ghost use Rattle.bac_value.specs.Laws.Enumerated.{one_enumerated, enumerated_eac
 
 use crate::primitives::Primitive;
 use crate::ranged_numbers::{
-    first_other_than_zero, mark_number, read_number, write_number, written_number_len,
+    first_other_than_zero, mark_read_number, read_number, write_number, written_number_len,
 };
 use bac_tag::{OutOfMemory, Refusal};
 use std::alloc::Global;
@@ -48,6 +48,7 @@ impl Primitive for Enumerated {
 
     ghost wants_memory = { false };
 
+    #[inline(always)]
     fn read(_alloc: Global, octets: &[u8]) -> Result<Enumerated, Refusal> {
         Ok(Enumerated(read_number(octets, 0, MOST)? as u32))
     }
@@ -62,8 +63,9 @@ impl Primitive for Enumerated {
         written_number_len(u64::from(self.0))
     }
 
+    #[inline(always)]
     fn mark(&self, octets: &[u8]) -> Option<usize> {
-        mark_number(octets)
+        mark_read_number(u64::from(self.0), octets)
     }
 
     fn write(&self, out: &mut Vec<u8>) -> Result<(), OutOfMemory> {

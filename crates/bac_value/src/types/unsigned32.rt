@@ -8,7 +8,7 @@ ghost use Rattle.bac_value.specs.Laws.Bounded.{unsigned32_number, unsigned32_of,
 
 use crate::primitives::Primitive;
 use crate::ranged_numbers::{
-    hopeless_number, mark_number, read_number, write_number, written_number_len,
+    hopeless_number, mark_read_number, read_number, write_number, written_number_len,
 };
 use bac_tag::{OutOfMemory, Refusal};
 use std::alloc::Global;
@@ -48,6 +48,7 @@ impl Primitive for Unsigned32 {
 
     ghost wants_memory = { false };
 
+    #[inline(always)]
     fn read(_alloc: Global, octets: &[u8]) -> Result<Unsigned32, Refusal> {
         Ok(Unsigned32(read_number(octets, 0, MOST)? as u32))
     }
@@ -60,8 +61,9 @@ impl Primitive for Unsigned32 {
         written_number_len(u64::from(self.0))
     }
 
+    #[inline(always)]
     fn mark(&self, octets: &[u8]) -> Option<usize> {
-        mark_number(octets)
+        mark_read_number(u64::from(self.0), octets)
     }
 
     fn write(&self, out: &mut Vec<u8>) -> Result<(), OutOfMemory> {
