@@ -1,16 +1,17 @@
 -- What a reader keeps, step by step.
 use Rattle.std.proofs.Common.{◌≡◌, ℕ, ◌+◌, ◌-◌, ◌<◌, ◌≤◌, Bool, true, false, Option, None, Some, List, [], ◌∷◌, ◌++◌, take, drop, length, reverse, refl, sym, ◌∙◌, ap, subst, arith, take-add, length-append, length-take}
-use Rattle.std.proofs.lemmas.List.{append_cancel_left, length-reverse}
+use Rattle.std.proofs.lemmas.List.{append_cancel_left, append-nil, length-reverse}
 use Rattle.std.specs.Prelude.{is_some, IsTrue, ◌↔◌}
 use Rattle.bac_tag.specs.Octets.{IsMark, joined_mark}
 use Rattle.bac_tag.specs.Spelling.{IsLeast, AppendsLeast}
 use Rattle.bac_tag.specs.Heads.{Heads}
 use Rattle.bac_tag.specs.Laws.Heads.{heads_end}
-use Rattle.bac_tag.specs.declared.heads.TagHead.TheVariants.{Open}
+use Rattle.bac_tag.specs.Short.{BeginsShort}
+use Rattle.bac_tag.specs.declared.heads.TagHead.TheVariants.{Close, Open}
 use Rattle.bac_tag.proofs.MarksLemmas.{spelled_some}
 use Rattle.bac_data.specs.declared.items.Item.{Item}
 use Rattle.bac_data.specs.declared.items.Item.TheVariants as item
-use Rattle.bac_data.specs.Events.{Event, opening, Opens, SpellsEvent, SpellsEvents}
+use Rattle.bac_data.specs.Events.{Event, closing, opening, Opens, SpellsEvent, SpellsEvents}
 use Rattle.bac_data.specs.Building.{AreOpen, Keeps, IsPlace, closing_number}
 use Rattle.bac_data.specs.Laws.Alignment.{events_some}
 use Rattle.bac_data.specs.Marks.{HasMark}
@@ -98,6 +99,14 @@ behind_marked number input place start taken i es (Some p) own r within is lies 
 unmarked : (m : Option ℕ) (place : ℕ) → m ≡ joined_mark m place None
 unmarked None place = refl
 unmarked (Some p) place = refl
+
+-- the mark behind a closing tag of one octet
+pub closed_mark : (number : ℕ) (input : List ℕ) (place : ℕ) (es : List Event) (m : Option ℕ) → number ≤ 254 → place ≤ length input → BeginsShort (Close number) (drop place input) → HasMark number input place es m
+    → HasMark number input (place + 1) (es ++ closing number ∷ []) m
+closed_mark number input place es m small within b marked =
+    let i = item.Close number in
+    let lies : LiesInFront i 1 1 (drop place input) = record { within = omega arith; headed = b.least.member; octets_are = sym (append-nil (take 1 (drop place input))) } in
+    marked_more input place 1 1 i None within small lies (least_lies i small (take 1 (drop place input)) b.least.member (omega (arith, b.some, length-take 1 (drop place input))) tt) number es (es ++ closing number ∷ []) m m marked (unmarked m place) refl
 
 stays : (i : Item) → IsApplication i → (s : List ℕ) → Opens 32 s (item_event i ∷ []) s
 stays (item.Application number contents) a s = refl
