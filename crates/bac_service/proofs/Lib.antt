@@ -1,1 +1,2 @@
 mod WideningLemmas
+pub mod LongHeadLemmas

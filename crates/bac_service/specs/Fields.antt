@@ -21,6 +21,11 @@ abbrev pub IsHeading : Option ℕ → ℕ → Type 0
 IsHeading (Some number) application = number ≤ 254
 IsHeading None application = (application ≤ 12) × (application ≢ 1)
 
+-- the number in the head
+abbrev pub number_in : Option ℕ → ℕ → ℕ
+number_in (Some number) application = number
+number_in None application = application
+
 -- a head with the length of the contents, and the contents
 pub record IsField {V : Type 0} (head_for : ℕ → TagHead) (contents : V → List ℕ → Type 0) (value : V) (b : List ℕ) : Type 0 where
   pub head : List ℕ
@@ -28,3 +33,8 @@ pub record IsField {V : Type 0} (head_for : ℕ → TagHead) (contents : V → L
   pub headed : Heads (head_for (length body)) head
   pub spelled : contents value body
   pub octets : b ≡ head ++ body
+
+-- a head that was found: how many octets it has, and the length in it
+pub record Found : Type 0 where
+  pub taken : ℕ
+  pub len : ℕ

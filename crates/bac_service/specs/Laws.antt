@@ -11,6 +11,7 @@ pub mod Choice
 pub mod Tag
 pub mod Group
 pub mod Field
+pub mod WideNumber
 pub mod OpenValue
 pub mod HasLeast
 pub mod Whole

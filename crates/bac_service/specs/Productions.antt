@@ -1,5 +1,5 @@
 -- The parts of a production (clause 21), and what a reader tells of them.
-use Rattle.std.specs.Prelude.{◌≡◌, ◌↔◌, ℕ, ◌≤◌, List, [], ◌∷◌, ◌++◌, length, take, Bool, ◌⊎◌, IsTrue, Option, Some, None}
+use Rattle.std.specs.Prelude.{◌≡◌, ◌↔◌, ℕ, ◌≤◌, List, [], ◌∷◌, ◌++◌, length, take, Bool, ◌⊎◌, cond, nat_lt, IsTrue, Option, Some, None}
 use Rattle.bac_tag.specs.declared.refusals.Refusal.{Refusal}
 use Rattle.bac_tag.specs.declared.refusals.Why.TheVariants.{Short}
 use Rattle.bac_tag.specs.Spelling.{IsLeast, IsFurthest, Joins}
@@ -54,6 +54,10 @@ abbrev pub HasLeast : {V : Type 0} → (V → List ℕ → Type 0) → Type 0
 HasLeast {V} spells = (v : V) (b : List ℕ) → spells v b → (c : List ℕ) × IsLeast (spells v) c
 
 -- ---- what a reader tells
+
+-- the mark of so many octets, of which so many stand in front of the first that differs from the canonical ones
+abbrev pub mark_within : ℕ → ℕ → Option ℕ
+mark_within taken agreed = cond (nat_lt agreed taken) (Some agreed) None
 
 -- so many octets of the input spell the value, and no longer front of it spells any
 pub record IsLongest {V : Type 0} (spells : V → List ℕ → Type 0) (input : List ℕ) (v : V) (n : ℕ) : Type 0 where

@@ -1,10 +1,10 @@
 //! The parts of a production (clause 21): what each is spelled by, how it is read and how it is written.
 
-ghost use Rattle.std.specs.Prelude.{◌≡◌, ◌↔◌, ℕ, Bool, List, take, length, IsTrue, IfSome, IfOk, IfErr, OnOk, Err};
+ghost use Rattle.std.specs.Prelude.{◌≡◌, ◌↔◌, ℕ, ◌+◌, ◌^◌, ◌<◌, ◌≤◌, Bool, List, take, length, IsTrue, IfSome, IfNone, IfOk, IfErr, OnOk, Err};
 ghost use Rattle.bac_tag.specs.Spelling.{IsRefusal, Takes, HasMark, AppendsLeast};
 ghost use Rattle.bac_tag.specs.Octets.{Extends};
 ghost use Rattle.bac_service.specs.Leads.{Lead};
-ghost use Rattle.bac_service.specs.Productions.{Lawful, IsInhabited, HasLeast, IsLongest, IsReach};
+ghost use Rattle.bac_service.specs.Productions.{Lawful, IsInhabited, HasLeast, IsLongest, IsReach, mark_within};
 ghost use Rattle.bac_service.specs.Reasons.{IsPartReason, IsReachReason};
 ghost use Rattle.bac_service.specs.ReadFaults.{IfRefused, EndsOrGoesOn};
 
@@ -13,6 +13,7 @@ pub(crate) mod decoding;
 pub(crate) mod field;
 pub(crate) mod group;
 pub(crate) mod list;
+pub(crate) mod long_head;
 pub(crate) mod open_value;
 pub(crate) mod option;
 pub(crate) mod pair;
@@ -48,8 +49,45 @@ pub(crate) struct Spelling<T> {
     pub(crate) value: T,
     /// How many octets it takes.
     pub(crate) taken: usize,
-    /// The first of them that differs from the canonical ones.
-    pub(crate) mark: Option<usize>,
+    /// How many of them stand in front of the first that differs from the canonical ones: all, where none does.
+    pub(crate) same: usize,
+}
+
+impl<T: Drop> Spelling<T> {
+    /// The first octet that differs from the canonical ones.
+    #[inline(always)]
+    pub(crate) fn mark(&self) -> Option<usize>
+        ensures { result ≡ mark_within self.now.taken self.now.same }
+    {
+        if self.same < self.taken {
+            Some(self.same)
+        } else {
+            None
+        }
+    }
+}
+
+/// How many of so many octets stand in front of the first that differs from the canonical ones.
+#[inline(always)]
+pub(crate) fn same_octets(taken: usize, mark: Option<usize>) -> usize
+    ensures all { IfNone mark (result ≡ taken) }
+    ensures some { IfSome mark (λ place. result ≡ place) }
+{
+    match mark {
+        None => taken,
+        Some(place) => place,
+    }
+}
+
+/// The same of two parts, one behind the other, of which the first has `taken` octets.
+#[inline(always)]
+pub(crate) fn joined_same(first: usize, taken: usize, second: usize) -> usize
+    requires { taken + second < 2 ^ 64 }
+    ensures first { first < taken → result ≡ first }
+    ensures second { taken ≤ first → result ≡ taken + second }
+    ensures within { result ≤ taken + second }
+{
+    if first < taken { first } else { taken + second }
 }
 
 /// The longest spelling at the front of octets, and how far they may be spelled.
@@ -69,12 +107,15 @@ impl<T: Drop> Front<T> {
     /// The spelling alone.
     #[inline(always)]
     pub(crate) fn into_spelling(self) -> Spelling<T>
-        ensures { result ≡ record { value = self.value; taken = self.taken; mark = self.mark } }
+        ensures value { result.value ≡ self.value }
+        ensures taken { result.taken ≡ self.taken }
+        ensures all { IfNone self.mark (result.same ≡ self.taken) }
+        ensures some { IfSome self.mark (λ place. result.same ≡ place) }
     {
         Spelling {
             value: self.value,
             taken: self.taken,
-            mark: self.mark,
+            same: same_octets(self.taken, self.mark),
         }
     }
 }
@@ -126,7 +167,8 @@ pub(crate) trait Production: Drop {
     fn read_spelling(alloc: Global, octets: &[u8]) -> Option<Spelling<Self>>
         requires { IsTrue is_sound }
         ensures found { IfSome result (λ found. Takes spells octets.now (view found.value, found.taken)) }
-        ensures mark { IfSome result (λ found. HasMark (spells (view found.value)) (take found.taken octets.now) found.mark) };
+        ensures mark { IfSome result (λ found. HasMark (spells (view found.value)) (take found.taken octets.now) (mark_within found.taken found.same)) }
+        ensures same { IfSome result (λ found. found.same ≤ found.taken) };
 
     /// Reads the longest front of the octets that spells a value.
     fn read(alloc: Global, octets: &[u8]) -> Result<Front<Self>, ReadFault>

@@ -1,11 +1,12 @@
 -- The least spellings of parts joined, and marks against them.
-use Rattle.std.specs.Prelude.{◌≡◌, ◌↔◌, ℕ, ◌+◌, ◌≤◌, List, [], ◌∷◌, ◌++◌, length, take, drop, Option, None, refl}
-use Rattle.std.proofs.Common.{sym, ◌∙◌, ap, subst, append_assoc}
+use Rattle.std.specs.Prelude.{◌≡◌, ◌↔◌, ℕ, ◌+◌, ◌<◌, ◌≤◌, List, [], ◌∷◌, ◌++◌, length, take, drop, Option, Some, None, IfSome, IfNone, nat_lt, refl}
+use Rattle.std.proofs.Common.{sym, ◌∙◌, ap, subst, append_assoc, inl, inr, arith}
 use Rattle.std.proofs.lemmas.List.{append-nil, length-take-le}
+use Rattle.std.proofs.lemmas.Bool.{cases_lt, lt-ltb, le-ltb, cond-true, cond-false}
 use Rattle.bac_tag.specs.Octets.{NoGreater, joined_mark}
 use Rattle.bac_tag.specs.Laws.Octets.{NoGreater-append, NoGreater-same, mark-append}
 use Rattle.bac_tag.specs.Spelling.{IsLeast, Joins, HasMark, AppendsLeast}
-use Rattle.bac_service.specs.Productions.{Items}
+use Rattle.bac_service.specs.Productions.{Items, mark_within}
 use Rattle.bac_service.specs.Laws.Longest.{take_add}
 
 -- ---- the least list
@@ -87,3 +88,33 @@ pub mark_both : {P Q : List ℕ → Type 0} {m o : Option ℕ} (input : List ℕ
 mark_both {P} {Q} {m} {o} input n k r within D E e =
     let joined = mark_joined D E in
     rw (e, take_add n k input within) (subst (λ (i : ℕ). HasMark (Joins P Q) (take n input ++ take k (drop n input)) (joined_mark m i o)) (length-take-le n input within) joined)
+
+-- ---- marks told by how many octets stand in front of them
+
+pub within_some : (taken agreed : ℕ) → agreed < taken → mark_within taken agreed ≡ Some agreed
+within_some taken agreed lt = cond-true (nat_lt agreed taken) (Some agreed) None (lt-ltb agreed taken lt)
+
+pub within_none : (taken agreed : ℕ) → taken ≤ agreed → mark_within taken agreed ≡ None
+within_none taken agreed le = cond-false (nat_lt agreed taken) (Some agreed) None (le-ltb agreed taken le)
+
+-- of two parts
+pub joined_within : (n s k t r : ℕ) → (s < n → r ≡ s) → (n ≤ s → r ≡ n + t) → mark_within (n + k) r ≡ joined_mark (mark_within n s) n (mark_within k t)
+joined_within n s k t r first second = elim (cases_lt s n) [
+  | inl lt ↦ ap (mark_within (n + k)) (first lt) ∙ within_some (n + k) s (omega arith) ∙ sym (ap (λ (m : Option ℕ). joined_mark m n (mark_within k t)) (within_some n s lt))
+  | inr le ↦ elim (cases_lt t k) [
+    | inl lt ↦ ap (mark_within (n + k)) (second le) ∙ within_some (n + k) (n + t) (omega arith)
+        ∙ sym (ap (λ (m : Option ℕ). joined_mark m n (mark_within k t)) (within_none n s le) ∙ ap (joined_mark None n) (within_some k t lt))
+    | inr more ↦ ap (mark_within (n + k)) (second le) ∙ within_none (n + k) (n + t) (omega arith)
+        ∙ sym (ap (λ (m : Option ℕ). joined_mark m n (mark_within k t)) (within_none n s le) ∙ ap (joined_mark None n) (within_none k t more))
+  ]
+]
+
+-- a mark lies within the octets
+pub mark_below : {P : List ℕ → Type 0} (input : List ℕ) (n : ℕ) (m : Option ℕ) (r : ℕ) → n ≤ length input → HasMark P (take n input) m → IfNone m (r ≡ n) → IfSome m (λ place. r ≡ place) → r ≤ n
+mark_below input n None r within D none some = omega (arith, none)
+mark_below input n (Some place) r within D none some = omega (arith, some, D.is_mark.0, length-take-le n input within)
+
+pub mark_told : {P : List ℕ → Type 0} (input : List ℕ) (n : ℕ) (m : Option ℕ) (r : ℕ) → n ≤ length input → HasMark P (take n input) m → IfNone m (r ≡ n) → IfSome m (λ place. r ≡ place) → HasMark P (take n input) (mark_within n r)
+mark_told {P} input n None r within D none some = subst (HasMark P (take n input)) (sym (within_none n r (omega (arith, none)))) D
+mark_told {P} input n (Some place) r within D none some =
+    subst (HasMark P (take n input)) (sym (ap (mark_within n) some ∙ within_some n place (omega (arith, D.is_mark.0, length-take-le n input within)))) D

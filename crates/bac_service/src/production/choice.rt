@@ -42,14 +42,14 @@ impl<A: Production, B: Production> Production for Choice<A, B> {
             return Some(Spelling {
                 value: Choice::First(found.value),
                 taken: found.taken,
-                mark: found.mark,
+                same: found.same,
             });
         }
         let found = B::read_spelling(alloc, octets)?;
         Some(Spelling {
             value: Choice::Second(found.value),
             taken: found.taken,
-            mark: found.mark,
+            same: found.same,
         })
     }
 

@@ -60,7 +60,8 @@ pub(crate) fn decode<P: Production>(
 {
     if let Some(found) = P::read_spelling(alloc, octets) {
         if found.taken == octets.len() {
-            return Ok((found.value, found.mark));
+            let mark = found.mark();
+            return Ok((found.value, mark));
         }
     }
     decode_part_by_part(alloc, octets)

@@ -7,14 +7,16 @@ ghost use Rattle.bac_tag.specs.Spelling.{IsRefusal, Takes, HasMark, AppendsLeast
 ghost use Rattle.bac_value.specs.Primitives.{OfSize};
 ghost use Rattle.bac_tag.specs.Octets.{Extends};
 ghost use Rattle.bac_service.specs.Leads.{context, application};
-ghost use Rattle.bac_service.specs.Fields.{heading, expected_heading, IsHeading, IsField};
+ghost use Rattle.bac_service.specs.Fields.{heading, expected_heading, number_in, IsHeading, IsField};
 ghost use Rattle.bac_service.specs.Laws.Field.{field_lawful, field_inhabited, application_heading};
 ghost use Rattle.bac_service.specs.Laws.Tag.{number_within};
+ghost use Rattle.bac_service.specs.Productions.{mark_within};
 ghost use Rattle.bac_service.specs.Reasons.{IsPartReason};
 ghost use Rattle.bac_service.specs.ReadFaults.{IfRefused, EndsOrGoesOn};
 ghost use Rattle.bac_service.specs.Laws.HasLeast.{field_least};
 
-use crate::production::{Front, Production, ReadFault, Spelling, complete_at};
+use crate::production::long_head::{FoundHead, long_head};
+use crate::production::{Front, Production, ReadFault, Spelling, complete_at, same_octets};
 use bac_tag::layers::{
     Expected, append_head, joined_marks, mark_read_head, read_expected, short_len,
 };
@@ -120,6 +122,37 @@ fn mark_of_other<T: Primitive>(
     mark_of(head, value, context, contents)
 }
 
+/// The number in the head of a field.
+#[inline(always)]
+fn number_of<T: Primitive>(context: Option<u8>) -> u8
+    ensures { result ≡ number_in context T.APP }
+{
+    match context {
+        Some(number) => number,
+        None => T::APP,
+    }
+}
+
+/// What [`mark_of`] returns, where the head is not that of one octet.
+#[inline(always)]
+fn mark_of_long<T: Primitive>(
+    head: &[u8],
+    value: &T,
+    context: Option<u8>,
+    contents: &[u8],
+) -> Option<usize>
+    requires heading { IsHeading context T.APP }
+    requires spelled { T.contents value.now contents.now }
+    requires headed { Heads (heading context T.APP (length contents.now)) head.now }
+    ensures { HasMark (IsField (heading context T.APP) T.contents value.now) (head.now ++ contents.now) result }
+{
+    // The least head has a number below 15 in its first octet.
+    if head[0] >= 0xF0 && number_of::<T>(context) < 15 {
+        return Some(0);
+    }
+    mark_of_other(head, value, context, contents)
+}
+
 /// The length of the head of a field at the front of the octets, where that is the least one and has one octet.
 #[inline(always)]
 fn short_size<T: Primitive>(octets: &[u8], context: Option<u8>) -> Option<usize>
@@ -215,6 +248,51 @@ fn read_field<T: Primitive>(
     }
 }
 
+/// The head of a field at the front of the octets, where it has more than one. None tells nothing of the octets.
+#[inline(always)]
+fn long_head_of<T: Primitive>(octets: &[u8], context: Option<u8>) -> Option<FoundHead>
+    requires { IsHeading context T.APP }
+    ensures { IfSome result (λ found. Takes (λ len. Heads (heading context T.APP len)) octets.now (found.len, found.taken)) }
+{
+    match context {
+        Some(number) => long_head(octets, true, number),
+        None => long_head(octets, false, T::APP),
+    }
+}
+
+/// Reads a field at the front of the octets, if one is found at once. None tells nothing of the octets.
+#[inline(always)]
+fn find_field<T: Primitive>(
+    alloc: Global,
+    octets: &[u8],
+    context: Option<u8>,
+) -> Option<Spelling<T>>
+    requires { IsHeading context T.APP }
+    ensures found { IfSome result (λ found. Takes (IsField (heading context T.APP) T.contents) octets.now (found.value, found.taken)) }
+    ensures mark { IfSome result (λ found. HasMark (IsField (heading context T.APP) T.contents found.value) (take found.taken octets.now) (mark_within found.taken found.same)) }
+    ensures same { IfSome result (λ found. found.same ≤ found.taken) }
+{
+    if let Some(size) = short_size::<T>(octets, context) {
+        return Some(read_short_field(alloc, octets, context, size)?.into_spelling());
+    }
+    let head = long_head_of::<T>(octets, context)?;
+    let (start, size) = (head.taken(), head.size());
+    let rest = &octets[start..];
+    if size > rest.len() {
+        return None;
+    }
+    let contents = &rest[..size];
+    let Ok(value) = T::read(alloc, contents) else {
+        return None;
+    };
+    let mark = mark_of_long(&octets[..start], &value, context, contents);
+    Some(Spelling {
+        value,
+        taken: start + size,
+        same: same_octets(start + size, mark),
+    })
+}
+
 /// Appends the least octets of a field. Where memory is refused some octets may be there.
 #[inline(always)]
 fn write_field<T: Primitive>(
@@ -258,7 +336,12 @@ impl<T: Primitive, const N: u8> Production for Field<T, N> {
 
     #[inline(always)]
     fn read_spelling(alloc: Global, octets: &[u8]) -> Option<Spelling<Field<T, N>>> {
-        Some(Self::read(alloc, octets).ok()?.into_spelling())
+        let found = find_field::<T>(alloc, octets, Some(N))?;
+        Some(Spelling {
+            value: Field(found.value),
+            taken: found.taken,
+            same: found.same,
+        })
     }
 
     #[inline(always)]
@@ -303,7 +386,12 @@ impl<T: Primitive> Production for ApplicationField<T> {
 
     #[inline(always)]
     fn read_spelling(alloc: Global, octets: &[u8]) -> Option<Spelling<ApplicationField<T>>> {
-        Some(Self::read(alloc, octets).ok()?.into_spelling())
+        let found = find_field::<T>(alloc, octets, None)?;
+        Some(Spelling {
+            value: ApplicationField(found.value),
+            taken: found.taken,
+            same: found.same,
+        })
     }
 
     #[inline(always)]

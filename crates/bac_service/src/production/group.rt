@@ -58,7 +58,7 @@ impl<P: Production, const N: u8> Production for Group<P, N> {
         Some(Spelling {
             value: Group(part),
             taken: found.taken,
-            mark: found.mark,
+            same: found.same,
         })
     }
 

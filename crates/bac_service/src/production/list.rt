@@ -8,7 +8,7 @@ ghost use Rattle.bac_service.specs.Laws.List.{items_inhabited};
 ghost use Rattle.bac_service.specs.Laws.HasLeast.{items_least, record_least};
 
 use crate::production::record::{Fields, Record};
-use crate::production::{Front, Production, ReadFault, Spelling, complete_at};
+use crate::production::{Front, Production, ReadFault, Spelling, complete_at, joined_same};
 use bac_tag::OutOfMemory;
 use bac_tag::layers::joined_marks;
 use std::alloc::Global;
@@ -39,9 +39,9 @@ impl<R: Record> Production for Vec<R> {
             return None;
         };
         let mut taken = 0;
-        let mut mark = None;
+        let mut same = 0;
         while let Some(item) = Fields::<R>::read_spelling(alloc, &octets[taken..]) {
-            mark = joined_marks(mark, taken, item.mark);
+            same = joined_same(same, taken, item.same);
             taken += item.taken;
             let Ok(()) = items.push(item.value.0) else {
                 return None;
@@ -50,7 +50,7 @@ impl<R: Record> Production for Vec<R> {
         Some(Spelling {
             value: items,
             taken,
-            mark,
+            same,
         })
     }
 

@@ -9,7 +9,7 @@ ghost use Rattle.bac_service.specs.Leads.{opening};
 ghost use Rattle.bac_service.specs.Laws.OpenValue.{open_lawful, open_inhabited};
 ghost use Rattle.bac_service.specs.Laws.HasLeast.{open_value_least};
 
-use crate::production::{Front, Production, ReadFault, Spelling, complete_at};
+use crate::production::{Front, Production, ReadFault, Spelling, complete_at, same_octets};
 use bac_data::{Any, read_any_marked, write_any};
 use bac_tag::{OutOfMemory, Why};
 use std::alloc::Global;
@@ -53,7 +53,7 @@ impl<const N: u8> Production for OpenValue<N> {
         Some(Spelling {
             value: OpenValue(value),
             taken,
-            mark,
+            same: same_octets(taken, mark),
         })
     }
 

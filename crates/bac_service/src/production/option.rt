@@ -37,12 +37,12 @@ impl<P: Production> Production for Option<P> {
             Some(found) => Spelling {
                 value: Some(found.value),
                 taken: found.taken,
-                mark: found.mark,
+                same: found.same,
             },
             None => Spelling {
                 value: None,
                 taken: 0,
-                mark: None,
+                same: 0,
             },
         })
     }

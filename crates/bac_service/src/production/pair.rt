@@ -7,7 +7,7 @@ ghost use Rattle.bac_service.specs.Laws.Production.{pair_lawful};
 ghost use Rattle.bac_service.specs.Laws.Refusal.{sound_inhabited};
 ghost use Rattle.bac_service.specs.Laws.HasLeast.{pair_least};
 
-use crate::production::{Front, Production, ReadFault, Spelling};
+use crate::production::{Front, Production, ReadFault, Spelling, joined_same};
 use bac_tag::OutOfMemory;
 use bac_tag::layers::joined_marks;
 use std::alloc::Global;
@@ -37,7 +37,7 @@ impl<A: Production, B: Production> Production for (A, B) {
         Some(Spelling {
             value: (first.value, second.value),
             taken: taken + second.taken,
-            mark: joined_marks(first.mark, taken, second.mark),
+            same: joined_same(first.same, taken, second.same),
         })
     }
 

@@ -65,7 +65,7 @@ impl<R: Record> Production for Fields<R> {
         Some(Spelling {
             value: Fields(R::from_parts(found.value)),
             taken: found.taken,
-            mark: found.mark,
+            same: found.same,
         })
     }
 

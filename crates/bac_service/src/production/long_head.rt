@@ -1,0 +1,78 @@
+//! Heads of fields that have more than one octet (clause 20.2.1).
+
+ghost use Rattle.std.specs.Prelude.{◌≡◌, ◌<◌, ◌/◌, ◌%◌, IfSome};
+ghost use Rattle.bac_tag.specs.Heads.{Heads, IsValid};
+ghost use Rattle.bac_tag.specs.Short.{headed};
+ghost use Rattle.bac_tag.specs.Spelling.{Takes};
+ghost use Rattle.bac_service.specs.Fields.{Found};
+
+use bac_tag::layers::quick_length;
+use std::marker::Model;
+
+/// A head that was found: how many octets it has, and the length in it. In one number, which a call returns in a
+/// register.
+#[derive(Drop)]
+pub(crate) struct FoundHead {
+    /// 256 times the length, and the number of octets.
+    number: u64,
+}
+
+impl Model for FoundHead {
+    ghost Value = { Found };
+
+    ghost view = { λ head. record { taken = head.number % 256; len = head.number / 256 } };
+}
+
+impl FoundHead {
+    fn new(taken: usize, len: u32) -> FoundHead
+        requires { taken < 256 }
+        ensures { result ≡ record { taken = taken; len = len } }
+    {
+        FoundHead {
+            number: u64::from(len) * 256 + taken as u64,
+        }
+    }
+
+    /// How many octets it has.
+    #[inline(always)]
+    pub(crate) fn taken(&self) -> usize
+        ensures { result ≡ self.now.taken }
+    {
+        (self.number % 256) as usize
+    }
+
+    /// The length in it.
+    #[inline(always)]
+    pub(crate) fn size(&self) -> usize
+        ensures { result ≡ self.now.len }
+    {
+        (self.number / 256) as usize
+    }
+}
+
+/// What [`long_head`] returns, whatever the first octet is.
+#[inline(never)]
+fn find_head(octets: &[u8], context: bool, number: u8) -> Option<FoundHead>
+    requires { IsValid (headed context number 0) }
+    ensures { IfSome result (λ found. Takes (λ len. Heads (headed context number len)) octets.now (found.len, found.taken)) }
+{
+    let (len, taken) = quick_length(octets, context, number)?;
+    Some(FoundHead::new(taken, len))
+}
+
+/// The head with this class and number at the front of the octets, where it has more than one. None tells nothing of
+/// the octets.
+#[inline(always)]
+pub(crate) fn long_head(octets: &[u8], context: bool, number: u8) -> Option<FoundHead>
+    requires { IsValid (headed context number 0) }
+    ensures { IfSome result (λ found. Takes (λ len. Heads (headed context number len)) octets.now (found.len, found.taken)) }
+{
+    let class = u8::from(context) << 3;
+    let initial = *octets.first()?;
+    // The number stands in an octet of its own, or the length does.
+    if initial & 0xF8 == 0xF0 | class || initial == number << 4 | class | 5 {
+        find_head(octets, context, number)
+    } else {
+        None
+    }
+}
