@@ -1,5 +1,6 @@
 //! Of tag heads, and of the words by which octets are refused.
 
 mod heads;
+mod quick_heads;
 mod refusals;
 mod short;
