@@ -1,5 +1,5 @@
 -- Heads of one octet.
-use Rattle.std.specs.Prelude.{◌≡◌, ℕ, ◌+◌, ◌*◌, ◌<◌, Bool, true, false, List, length, take, get_or}
+use Rattle.std.specs.Prelude.{◌≡◌, ◌⊎◌, ℕ, ◌+◌, ◌*◌, ◌/◌, ◌<◌, Bool, true, false, List, length, take, get_or}
 use Rattle.bac_tag.specs.declared.heads.TagHead.{TagHead}
 use Rattle.bac_tag.specs.declared.heads.TagHead.TheVariants.{App, Ctx}
 use Rattle.bac_tag.specs.Spelling.{IsLeast}
@@ -20,3 +20,8 @@ pub record BeginsWith (class number lvt : ℕ) (octets : List ℕ) : Type 0 wher
   pub some : 0 < length octets
   pub nibble : number < 15
   pub octet : get_or octets 0 0 ≡ 16 * number + 8 * class + lvt
+
+-- the first octet has this class, and leaves the number or the length to octets behind it
+pub record BeginsLong (class number : ℕ) (octets : List ℕ) : Type 0 where
+  pub some : 0 < length octets
+  pub opens : ((number < 15) × (get_or octets 0 0 ≡ 16 * number + 8 * class + 5)) ⊎ (get_or octets 0 0 / 8 ≡ 30 + class)

@@ -1,11 +1,12 @@
 //! Heads that are found at once.
 
-ghost use Rattle.std.specs.Prelude.{◌≡◌, ◌<◌, ◌≤◌, IfSome, length, take, drop};
+ghost use Rattle.std.specs.Prelude.{◌≡◌, ◌<◌, ◌≤◌, IsTrue, IfSome, length, take, drop};
 ghost use Rattle.bac_tag.specs.Spelling.{Takes};
 ghost use Rattle.bac_tag.specs.Heads.{Heads, IsValid, Opening, LengthIn, class_bit};
-ghost use Rattle.bac_tag.specs.Short.{headed};
+ghost use Rattle.bac_tag.specs.Short.{headed, BeginsLong};
 
 use crate::TagHead;
+use crate::writing::initial_octet;
 
 /// What stands in front of the length of a head (clause 20.2.1.2): whether the class is context, the number, the LVT, and
 /// how many octets these take.
@@ -68,23 +69,42 @@ fn find_wide_length(octets: &[u8], start: usize) -> Option<(u32, usize)>
     None
 }
 
+/// Whether the first octet has this class, and leaves the number to an octet behind it, or has this number and leaves the
+/// length to those (clauses 20.2.1.2 and 20.2.1.3.1).
+#[inline(always)]
+pub fn begins_long(octets: &[u8], context: bool, number: u8) -> bool
+    ensures { IsTrue result → BeginsLong (class_bit context) number octets.now }
+{
+    let [initial, ..] = octets else {
+        return false;
+    };
+    initial / 8 == 30 + u8::from(context)
+        || number < 15 && *initial == initial_octet(number, context, 5)
+}
+
 /// Returns the length in the head with this class and number at the front of the octets (clause 20.2.1), in any tolerated
 /// spelling, and how many octets the head takes. None tells nothing of the octets.
 ///
-/// The number must be one that the class uses: 0 to 254 where `context` is true, else 0 or 2 to 12.
+/// The number must be one that the class uses: 0 to 254 where `context` is true, else 0 or 2 to 12. The octets must begin as
+/// [`begins_long`] tells.
 #[inline(always)]
-pub fn quick_length(octets: &[u8], context: bool, number: u8) -> Option<(u32, usize)>
-    requires { IsValid (headed context number 0) }
-    ensures { IfSome result (Takes (λ len. Heads (headed context number len)) octets.now) }
+pub fn long_length(octets: &[u8], _context: bool, number: u8) -> Option<(u32, usize)>
+    requires valid { IsValid (headed _context number 0) }
+    requires begins { BeginsLong (class_bit _context) number octets.now }
+    ensures { IfSome result (Takes (λ len. Heads (headed _context number len)) octets.now) }
 {
-    let (class, found, lvt, start) = find_opening(octets)?;
-    if class != context || found != number || lvt > 5 {
+    let start = if octets[0] < 0xF0 {
+        1
+    } else if octets.len() > 1 && octets[1] == number {
+        2
+    } else {
         return None;
-    }
+    };
+    let lvt = octets[0] % 8;
     if let Some(found) = find_length(octets, start, lvt) {
         return Some(found);
     }
-    if lvt < 5 {
+    if lvt != 5 {
         return None;
     }
     let (len, end) = find_wide_length(octets, start)?;
