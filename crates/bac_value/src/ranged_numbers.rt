@@ -122,10 +122,14 @@ pub(crate) fn significant_of_four(octets: &[u8]) -> &[u8]
 pub fn written_number_len(number: u64) -> usize
     ensures { result ≡ length (least_number number) }
 {
-    if number < 256 {
-        return 1;
+    // Few numbers have more than four octets.
+    match number {
+        0..=0xFF => 1,
+        0x100..=0xFFFF => 2,
+        0x1_0000..=0xFF_FFFF => 3,
+        0x100_0000..=0xFFFF_FFFF => 4,
+        _ => significant(&number.to_be_bytes()).len(),
     }
-    significant(&number.to_be_bytes()).len()
 }
 
 /// What [`mark_number`] returns of octets in which a zero stands in front of others.
@@ -183,13 +187,15 @@ fn write_several(number: u64, out: &mut Vec<u8>) -> Result<(), OutOfMemory>
     ensures ok { OnOk result (out.new.items ≡ out.old.items ++ least_number number) }
     ensures err { OnErr result (out.new.items ≡ out.old.items) }
 {
-    let octets = number.to_be_bytes();
     // Copied without a call where they are few.
-    match significant(&octets) {
-        [a, b] => out.extend_from_slice(&[*a, *b])?,
-        [a, b, c] => out.extend_from_slice(&[*a, *b, *c])?,
-        [a, b, c, d] => out.extend_from_slice(&[*a, *b, *c, *d])?,
-        others => out.extend_from_slice(others)?,
+    match number {
+        0x100..=0xFFFF => out.extend_from_slice(&(number as u16).to_be_bytes())?,
+        0x1_0000..=0xFF_FFFF => {
+            let [_, a, b, c] = (number as u32).to_be_bytes();
+            out.extend_from_slice(&[a, b, c])?;
+        }
+        0x100_0000..=0xFFFF_FFFF => out.extend_from_slice(&(number as u32).to_be_bytes())?,
+        _ => out.extend_from_slice(significant(&number.to_be_bytes()))?,
     }
     Ok(())
 }

@@ -1,10 +1,10 @@
 -- Laws on numbers as contents.
 use Rattle.std.proofs.Common.{◌≡◌, ℕ, zero, suc, ◌<◌, ◌≤◌, ◌^◌, ◌+◌, ◌*◌, ◌-◌, List, [], ◌∷◌, ◌++◌, length, take, drop, arith, sym, ◌∙◌, ap, refl, inl, inr, get_or, add-zero, append-nil, take-append-drop, length-drop}
 use Rattle.std.proofs.lemmas.Bool.{cases_lt}
-use Rattle.std.specs.Int.{w64, to_be_bytes}
+use Rattle.std.specs.Int.{w16, w32, w64, to_be_bytes}
 use Rattle.std.specs.Int.Digits.{number_from_digits_after}
 use Rattle.std.proofs.lemmas.Int.Digits.{number_lt, number_digits_of, all_below_base_digits_of, first_digits_of, length-digits_of-le, length-digits_of_step}
-use Rattle.std.proofs.lemmas.Nat.{pow_pos, from_be_bytes-to_be_bytes_8}
+use Rattle.std.proofs.lemmas.Nat.{pow_pos, from_be_bytes-to_be_bytes_2, from_be_bytes-to_be_bytes_4, from_be_bytes-to_be_bytes_8}
 use Rattle.std.proofs.lemmas.List.{get_or-drop}
 use Rattle.std.proofs.Math.Nat.{pow-le-pow_right, mul-le-mul_right}
 use Rattle.bac_tag.specs.Octets.{IsOctets, NoGreater}
@@ -202,3 +202,13 @@ written_if n octets p sized is first = least_number_is n octets (record { are_oc
 -- a number of one octet
 pub written_in_one : (n : ℕ) → n < 256 → least_number n ≡ n ∷ []
 written_in_one n small = sym (written_if n (n ∷ []) (small, tt) (omega arith) (omega arith) (λ two. absurd (omega (arith, two))))
+
+-- of two, of four, and of three, which are those of four without the first
+pub written_in_two : (n : ℕ) → 256 ≤ n → n < 2 ^ 16 → to_be_bytes w16 n ≡ least_number n
+written_in_two n least most = written_if n (to_be_bytes w16 n) (omega arith, (omega arith, tt)) (omega arith, omega arith) (omega (arith, from_be_bytes-to_be_bytes_2 n most)) (λ two. omega arith)
+
+pub written_in_four : (n : ℕ) → 2 ^ 24 ≤ n → n < 2 ^ 32 → to_be_bytes w32 n ≡ least_number n
+written_in_four n least most = written_if n (to_be_bytes w32 n) (omega arith, (omega arith, (omega arith, (omega arith, tt)))) (omega arith, omega arith) (omega (arith, from_be_bytes-to_be_bytes_4 n most)) (λ two. omega arith)
+
+pub written_in_three : (n : ℕ) → 2 ^ 16 ≤ n → n < 2 ^ 24 → drop 1 (to_be_bytes w32 n) ≡ least_number n
+written_in_three n least most = written_if n (drop 1 (to_be_bytes w32 n)) (omega arith, (omega arith, (omega arith, tt))) (omega arith, omega arith) (omega (arith, from_be_bytes-to_be_bytes_4 n (omega arith))) (λ two. omega arith)
