@@ -1,12 +1,12 @@
 //! Heads of fields that have more than one octet (clause 20.2.1).
 
 ghost use Rattle.std.specs.Prelude.{◌≡◌, ◌<◌, ◌/◌, ◌%◌, IfSome};
-ghost use Rattle.bac_tag.specs.Heads.{Heads, IsValid};
-ghost use Rattle.bac_tag.specs.Short.{headed};
+ghost use Rattle.bac_tag.specs.Heads.{Heads, IsValid, class_bit};
+ghost use Rattle.bac_tag.specs.Short.{headed, BeginsLong};
 ghost use Rattle.bac_tag.specs.Spelling.{Takes};
 ghost use Rattle.bac_service.specs.Fields.{Found};
 
-use bac_tag::layers::quick_length;
+use bac_tag::layers::{begins_long, long_length};
 use std::marker::Model;
 
 /// A head that was found: how many octets it has, and the length in it. In one number, which a call returns in a
@@ -50,27 +50,25 @@ impl FoundHead {
     }
 }
 
-/// What [`long_head`] returns, whatever the first octet is.
+/// What [`long_head`] returns, where the first octet may begin such a head.
 #[inline(never)]
 fn find_head(octets: &[u8], context: bool, number: u8) -> Option<FoundHead>
-    requires { IsValid (headed context number 0) }
+    requires valid { IsValid (headed context number 0) }
+    requires begins { BeginsLong (class_bit context) number octets.now }
     ensures { IfSome result (λ found. Takes (λ len. Heads (headed context number len)) octets.now (found.len, found.taken)) }
 {
-    let (len, taken) = quick_length(octets, context, number)?;
+    let (len, taken) = long_length(octets, context, number)?;
     Some(FoundHead::new(taken, len))
 }
 
-/// The head with this class and number at the front of the octets, where it has more than one. None tells nothing of
-/// the octets.
+/// The length in the head with this class and number at the front of the octets, and how many of them it takes. It is looked
+/// for only where their first leaves the number or the length to others, and None tells nothing of them.
 #[inline(always)]
 pub(crate) fn long_head(octets: &[u8], context: bool, number: u8) -> Option<FoundHead>
     requires { IsValid (headed context number 0) }
     ensures { IfSome result (λ found. Takes (λ len. Heads (headed context number len)) octets.now (found.len, found.taken)) }
 {
-    let class = u8::from(context) << 3;
-    let initial = *octets.first()?;
-    // The number stands in an octet of its own, or the length does.
-    if initial & 0xF8 == 0xF0 | class || initial == number << 4 | class | 5 {
+    if begins_long(octets, context, number) {
         find_head(octets, context, number)
     } else {
         None
