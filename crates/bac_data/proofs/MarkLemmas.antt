@@ -1,21 +1,23 @@
 -- Marks of what was read.
-use Rattle.std.proofs.Common.{◌≡◌, ◌≢◌, ℕ, ◌+◌, ◌^◌, ◌<◌, ◌≤◌, Bool, List, [], ◌∷◌, ◌++◌, Option, None, Some, take, drop, length, refl, sym, ◌∙◌, ap, subst, arith, Bor, append-nil, length-take, length-append, take-add}
-use Rattle.std.specs.Prelude.{false, true, is_some, IfNone, IfSome}
-use Rattle.bac_tag.specs.declared.heads.TagHead.{TagHead}
+use Rattle.std.proofs.Common.{◌≡◌, ◌≢◌, ℕ, ◌+◌, ◌<◌, ◌≤◌, Bool, List, [], ◌∷◌, ◌++◌, Option, None, Some, take, drop, length, refl, sym, ◌∙◌, ap, subst, arith, Bor, append-nil, length-take, take-add}
+use Rattle.std.proofs.lemmas.Bool.{eqb-true, eq-eqb}
+use Rattle.std.proofs.lemmas.List.{append_cancel_left}
+use Rattle.std.specs.Prelude.{false, true, is_some, nat_eq, IsTrue, ◌↔◌, IfNone, IfSome}
 use Rattle.bac_tag.specs.declared.heads.TagHead.TheVariants.{App, AppBool, Ctx, Open, Close}
 use Rattle.bac_tag.specs.Octets.{FirstDifference, IsMark, joined_mark}
-use Rattle.bac_tag.specs.Laws.Octets.{mark-append, mark_first, mark_by, difference_below}
+use Rattle.bac_tag.specs.Laws.Octets.{mark-append, mark_first}
 use Rattle.bac_tag.specs.Spelling.{IsLeast}
-use Rattle.bac_tag.specs.Laws.Spelling.{IsLeast-one}
+use Rattle.bac_tag.specs.Laws.Spelling.{IsLeast-one, difference_within}
 use Rattle.bac_tag.specs.Heads.{Heads}
 use Rattle.bac_tag.specs.Laws.Heads.{heads_end}
+use Rattle.bac_tag.proofs.HeadLenLemmas.{fits_spelled, least_as_short}
 use Rattle.bac_tag.proofs.WritingLemmas.{some_least}
 use Rattle.bac_tag.proofs.ShortLemmas.{one_is_least}
 use Rattle.bac_value.specs.declared.prim.PrimitiveValue.{PrimitiveValue}
 use Rattle.bac_value.specs.declared.prim.PrimitiveValue.TheVariants.{Boolean}
 use Rattle.bac_value.specs.OctetStringContents.{IsOctetString}
-use Rattle.bac_value.specs.PrimContents.{PrimContents, ContentsOf, prim_written}
-use Rattle.bac_value.specs.Laws.Prim.{prim_limit, prim_written_contents, prim_only_values}
+use Rattle.bac_value.specs.PrimContents.{ContentsOf, prim_written}
+use Rattle.bac_value.specs.Laws.Prim.{prim_limit, prim_once, prim_written_contents, prim_only_values}
 use Rattle.bac_value.specs.PrimOfContents.{prim_of_contents}
 use Rattle.bac_value.specs.Laws.PrimOfContents.{prim_of_contents_is}
 use Rattle.bac_data.specs.declared.items.Item.{Item}
@@ -24,6 +26,7 @@ use Rattle.bac_data.specs.OpenValue.{Elements, depth}
 use Rattle.bac_data.specs.Spells.{SpellsPrimitive, SpellsContext, SpellsOpen}
 use Rattle.bac_data.specs.Events.{Event, opening, closing, events, SpellsEvent}
 use Rattle.bac_data.specs.Reading.{item_event, item_contents, item_head, IsItem, HasLeastContents, LiesInFront}
+use Rattle.bac_data.specs.Laws.Heads.{event_ends}
 use Rattle.bac_data.specs.Marks.{HasMark}
 use Rattle.bac_data.proofs.EventLeastLemmas.{least_contents, least_boolean_of, least_context}
 use Rattle.bac_data.proofs.LeastLemmas.{least_more, least_one, least_open}
@@ -31,129 +34,132 @@ use Rattle.bac_data.proofs.LeastLemmas.{least_more, least_one, least_open}
 by_least : (Among : List ℕ → Type 0) (c b taken : List ℕ) (m : Option ℕ) → IsLeast Among c → IsMark taken c m → IsLeast Among b → IsMark taken b m
 by_least Among c b taken m p h q = subst (λ (l : List ℕ). IsMark taken l m) (IsLeast-one Among c b p q) h
 
--- the same octets behind
-mark_alike : (a c b : List ℕ) (m : Option ℕ) → IsMark a c m → IsMark (a ++ b) (c ++ b) m
-mark_alike a c b None h = ap (λ (l : List ℕ). l ++ b) h
-mark_alike a c b (Some place) h = mark_first a b c b place h
-
 -- nothing behind
 mark_alone : (a c : List ℕ) (m : Option ℕ) → IsMark a c m → IsMark (a ++ []) c m
 mark_alone a c m h = rw (append-nil a) h
 
--- the mark of a head is known
-abbrev pub HeadMark : List ℕ → TagHead → Option ℕ → Type 0
-HeadMark taken head m = (b : List ℕ) → IsLeast (Heads head) b → IsMark taken b m
+-- ---- contents under a head
 
--- ---- a head and what stands under it
-
--- contents behind a head, where the same head has as many octets
-parts_marked : (h k : TagHead) (a c b d : List ℕ) (m o r : Option ℕ) → Heads h a → Heads k c → (h ≡ k → length b ≡ length d) → IsMark a c m → IfNone o (b ≡ d) → IfSome o (FirstDifference b d) → r ≡ joined_mark m (length a) o
-    → IsMark (a ++ b) (c ++ d) r
-parts_marked h k a c b d (Some place) o r p q long mark none some e = rw e (mark_first a b c d place mark)
-parts_marked h k a c b d None o r p q long mark none some e =
-    let same = heads_end h k a c [] [] p q (ap (λ (l : List ℕ). l ++ []) mark) in
-    rw e (mark-append a b c d None o mark (mark_by b d o (long same.1) none some))
-
-app_len : (a b n m : ℕ) → App a n ≡ App b m → n ≡ m
-app_len a b n m e = cc
-
--- what is told of the contents of every value that they have
 module _ (number : ℕ) (prim : PrimitiveValue) (contents : List ℕ) (s : ContentsOf number prim contents) where
-  told_none : (o : Option ℕ) → IfNone o ((p : PrimitiveValue) → ContentsOf number p contents → contents ≡ prim_written p) → IfNone o (contents ≡ prim_written prim)
-  told_none None h = h prim s
-  told_none (Some place) h = tt
-
-  told_some : (o : Option ℕ) → IfSome o (λ place. (p : PrimitiveValue) → ContentsOf number p contents → FirstDifference contents (prim_written p) place) → IfSome o (FirstDifference contents (prim_written prim))
-  told_some None h = tt
-  told_some (Some place) h = h prim s
-
-  written_spelled : PrimContents prim (prim_written prim)
-  written_spelled = prim_written_contents prim (prim_only_values prim contents s.1)
-
   pub written_small : length (prim_written prim) ≤ 1048576
-  written_small = prim_limit prim (prim_written prim) written_spelled
-
-  -- a mark of contents is a place of few octets
-  pub mark_below : (o : Option ℕ) → IfSome o (λ place. (p : PrimitiveValue) → ContentsOf number p contents → FirstDifference contents (prim_written p) place) → IfSome o (λ place. place < 1048576)
-  mark_below None h = tt
-  mark_below (Some place) h = difference_below contents (prim_written prim) place 1048576 (prim_limit prim contents s.1) written_small (h prim s)
+  written_small = prim_limit prim (prim_written prim) (prim_written_contents prim (prim_only_values prim contents s.1))
 
   -- the least spelling of an application primitive
   pub least_by_head : number ≢ 1 → (head : List ℕ) → IsLeast (Heads (App number (length (prim_written prim)))) head → IsLeast (SpellsPrimitive (prim_of_contents number contents)) (head ++ prim_written prim)
   least_by_head other head h =
       subst (λ (p : PrimitiveValue). IsLeast (SpellsPrimitive p) (head ++ prim_written prim)) (sym (prim_of_contents_is number prim contents s))
-      (least_contents prim (prim_written prim) head (λ e. other (sym s.0 ∙ e)) written_spelled refl (subst (λ (n : ℕ). IsLeast (Heads (App n (length (prim_written prim)))) head) (sym s.0) h))
+      (least_contents prim (prim_written prim) head (λ e. other (sym s.0 ∙ e)) (prim_written_contents prim (prim_only_values prim contents s.1)) refl (subst (λ (n : ℕ). IsLeast (Heads (App n (length (prim_written prim)))) head) (sym s.0) h))
 
-  pub least_by_contents : number ≤ 12 → number ≢ 1 → (b : List ℕ) × IsLeast (Heads (App number (length (prim_written prim)))) b × IsLeast (SpellsPrimitive (prim_of_contents number contents)) (b ++ prim_written prim)
+  least_by_contents : number ≤ 12 → number ≢ 1 → (b : List ℕ) × IsLeast (Heads (App number (length (prim_written prim)))) b × IsLeast (SpellsPrimitive (prim_of_contents number contents)) (b ++ prim_written prim)
   least_by_contents fits other =
       let l = some_least (App number (length (prim_written prim))) (fits, other) (omega (arith, written_small)) in
       (l.0, l.1, least_by_head other l.0 l.1)
 
-  pub mark_application : (head : List ℕ) (m o r : Option ℕ) → number ≤ 12 → number ≢ 1 → Heads (App number (length contents)) head → HeadMark head (App number (length (prim_written prim))) m
-      → IfNone o ((p : PrimitiveValue) → ContentsOf number p contents → contents ≡ prim_written p) → IfSome o (λ place. (p : PrimitiveValue) → ContentsOf number p contents → FirstDifference contents (prim_written p) place)
-      → r ≡ joined_mark m (length head) o → (b : List ℕ) → IsLeast (SpellsPrimitive (prim_of_contents number contents)) b → IsMark (head ++ contents) b r
-  mark_application head m o r fits other h mark none some e b p =
-      let l = least_by_contents fits other in
-      by_least (SpellsPrimitive (prim_of_contents number contents)) (l.0 ++ prim_written prim) b (head ++ contents) r l.2
-      (parts_marked (App number (length contents)) (App number (length (prim_written prim))) head l.0 contents (prim_written prim) m o r h l.1.member (app_len number number (length contents) (length (prim_written prim))) (mark l.0 l.1)
-      (told_none o none) (told_some o some) e) p
-
-pub mark_boolean : (bit : Bool) (head : List ℕ) (m : Option ℕ) → HeadMark head (AppBool bit) m → (b : List ℕ) → IsLeast (SpellsPrimitive (Boolean (record { 0 = bit }))) b → IsMark (head ++ []) b m
-mark_boolean bit head m mark b p =
-    let l = some_least (AppBool bit) tt tt in
-    by_least (SpellsPrimitive (Boolean (record { 0 = bit }))) l.0 b (head ++ []) m (least_boolean_of (record { 0 = bit }) l.0 l.1) (mark_alone head l.0 m (mark l.0 l.1)) p
+  -- contents that are written of one value are written of each that they spell
+  written_alike : contents ≡ prim_written prim → (p : PrimitiveValue) → ContentsOf number p contents → contents ≡ prim_written p
+  written_alike same p q = same ∙ ap prim_written (prim_once prim p contents (s.0 ∙ sym q.0) s.1 q.1)
 
 least_under_context : (number : ℕ) (octets : List ℕ) → number ≤ 254 → IsOctetString octets → (b : List ℕ) × IsLeast (Heads (Ctx number (length octets))) b × IsLeast (SpellsContext number octets) (b ++ octets)
 least_under_context number octets fits within =
     let l = some_least (Ctx number (length octets)) fits (omega (arith, within.1)) in
     (l.0, l.1, least_context number octets l.0 within l.1)
 
-pub mark_context : (number : ℕ) (octets head : List ℕ) (m : Option ℕ) → number ≤ 254 → IsOctetString octets → HeadMark head (Ctx number (length octets)) m → (b : List ℕ) → IsLeast (SpellsContext number octets) b → IsMark (head ++ octets) b m
-mark_context number octets head m fits within mark b p =
-    let l = least_under_context number octets fits within in
-    by_least (SpellsContext number octets) (l.0 ++ octets) b (head ++ octets) m l.2 (mark_alike head l.0 octets m (mark l.0 l.1)) p
-
-pub mark_tag : (tag : TagHead) (head : List ℕ) (m : Option ℕ) → HeadMark head tag m → (b : List ℕ) → IsLeast (Heads tag) b → IsMark (head ++ []) b m
-mark_tag tag head m mark b p = mark_alone head b m (mark b p)
-
 -- ---- items
 
--- the mark of an item is known
-abbrev pub ItemMark : List ℕ → Item → Option ℕ → Type 0
-ItemMark head i m = (b : List ℕ) → IsLeast (SpellsEvent (item_event i)) b → IsMark (head ++ item_contents i) b m
+-- it is told whether the contents are those that are written
+pub written_told : (i : Item) (number : ℕ) (contents : Bor (List ℕ)) (written : Bool) → i ≡ item.Application number contents written → IsItem i → IsTrue written ↔ HasLeastContents i
+written_told i number contents written e is =
+    let (fits, other, found, told) = subst IsItem e is in
+    subst (λ (j : Item). IsTrue written ↔ HasLeastContents j) (sym e)
+    ((λ t prim s. let w = told.0 t in written_alike number w.value contents.now w.spelled w.is prim s), λ least. told.1 (record { value = found.0; spelled = found.1; is = least found.0 found.1 }))
 
--- an item with no contents that have a mark of their own
-pub mark_by_head : (i : Item) → IsItem i → ((number : ℕ) (contents : Bor (List ℕ)) → i ≡ item.Application number contents → ⊥) → (head : List ℕ) (m : Option ℕ) → HeadMark head (item_head i) m → ItemMark head i m
-mark_by_head (item.Boolean bit) is other head m mark = mark_boolean bit head m mark
-mark_by_head (item.Application number contents) is other head m mark = absurd (other number contents refl)
-mark_by_head (item.Context number octets) is other head m mark = mark_context number octets.now head m is.0 is.1 mark
-mark_by_head (item.Open number) is other head m mark = mark_tag (Open number) head m mark
-mark_by_head (item.Close number) is other head m mark = mark_tag (Close number) head m mark
+-- other items have no others
+pub others_least : (i : Item) → ((number : ℕ) (contents : Bor (List ℕ)) (written : Bool) → i ≡ item.Application number contents written → ⊥) → HasLeastContents i
+others_least (item.Boolean bit) other = tt
+others_least (item.Application number contents written) other = absurd (other number contents written refl)
+others_least (item.Context number octets) other = tt
+others_least (item.Open number) other = tt
+others_least (item.Close number) other = tt
 
--- an item with a head of one octet and the contents that are written
-pub least_lies : (i : Item) → IsItem i → (head : List ℕ) → Heads (item_head i) head → length head ≡ 1 → HasLeastContents i → ItemMark head i None
-least_lies (item.Application number contents) (fits, other, found) head h one least =
-    mark_application number found.0 contents.now found.1 head None None None fits other h
-    (λ b p. one_is_least (App number (length contents.now)) head b h one (subst (λ (n : ℕ). IsLeast (Heads (App number n)) b) (sym (ap length (least found.0 found.1))) p)) least tt refl
-least_lies (item.Boolean bit) is head h one least = mark_boolean bit head None (λ b p. one_is_least (AppBool bit) head b h one p)
-least_lies (item.Context number octets) is head h one least = mark_context number octets.now head None is.0 is.1 (λ b p. one_is_least (Ctx number (length octets.now)) head b h one p)
-least_lies (item.Open number) is head h one least = mark_tag (Open number) head None (λ b p. one_is_least (Open number) head b h one p)
-least_lies (item.Close number) is head h one least = mark_tag (Close number) head None (λ b p. one_is_least (Close number) head b h one p)
+-- an item is canonical where its head and its contents are,
+pub least_whole : (i : Item) → IsItem i → (head : List ℕ) → IsLeast (Heads (item_head i)) head → HasLeastContents i → IsLeast (SpellsEvent (item_event i)) (head ++ item_contents i)
+least_whole (item.Boolean bit) is head h least = rw (append-nil head) (least_boolean_of (record { 0 = bit }) head h)
+least_whole (item.Application number contents written) (fits, other, found, told) head h least =
+    let same : contents.now ≡ prim_written found.0 = least found.0 found.1 in
+    subst (λ (l : List ℕ). IsLeast (SpellsPrimitive (prim_of_contents number contents.now)) (head ++ l)) (sym same)
+    (least_by_head number found.0 contents.now found.1 other head (subst (λ (l : List ℕ). IsLeast (Heads (App number (length l))) head) same h))
+least_whole (item.Context number octets) (fits, within) head h least = least_context number octets.now head within h
+least_whole (item.Open number) is head h least = rw (append-nil head) h
+least_whole (item.Close number) is head h least = rw (append-nil head) h
 
-pub of_item : (i j : Item) (head : List ℕ) (m : Option ℕ) → i ≡ j → ItemMark head j m → ItemMark head i m
-of_item i j head m e h = subst (λ (i : Item). ItemMark head i m) (sym e) h
+-- and nowhere else
+pub whole_least : (i : Item) → IsItem i → (head : List ℕ) → Heads (item_head i) head → IsLeast (SpellsEvent (item_event i)) (head ++ item_contents i) → IsLeast (Heads (item_head i)) head × HasLeastContents i
+whole_least (item.Boolean bit) is head h whole =
+    let l = some_least (AppBool bit) tt tt in
+    let same : head ≡ l.0 = sym (append-nil head) ∙ IsLeast-one (SpellsPrimitive (Boolean (record { 0 = bit }))) (head ++ []) l.0 whole (least_boolean_of (record { 0 = bit }) l.0 l.1) in
+    (subst (IsLeast (Heads (AppBool bit))) (sym same) l.1, tt)
+whole_least (item.Application number contents written) (fits, other, found, told) head h whole =
+    let prim = found.0 in
+    let l = least_by_contents number prim contents.now found.1 fits other in
+    let same = IsLeast-one (SpellsPrimitive (prim_of_contents number contents.now)) (head ++ contents.now) (l.0 ++ prim_written prim) whole l.2 in
+    let ends = heads_end (App number (length contents.now)) (App number (length (prim_written prim))) head l.0 contents.now (prim_written prim) h l.1.member same in
+    let alike : contents.now ≡ prim_written prim = append_cancel_left head contents.now (prim_written prim) (same ∙ ap (λ (k : List ℕ). k ++ prim_written prim) (sym ends.0)) in (
+      subst (IsLeast (Heads (App number (length contents.now)))) (sym ends.0) (subst (λ (c : List ℕ). IsLeast (Heads (App number (length c))) l.0) (sym alike) l.1),
+      written_alike number prim contents.now found.1 alike,
+    )
+whole_least (item.Context number octets) (fits, within) head h whole =
+    let l = least_under_context number octets.now fits within in
+    let same = IsLeast-one (SpellsContext number octets.now) (head ++ octets.now) (l.0 ++ octets.now) whole l.2 in
+    let ends = heads_end (Ctx number (length octets.now)) (Ctx number (length octets.now)) head l.0 octets.now octets.now h l.1.member same in
+    (subst (IsLeast (Heads (Ctx number (length octets.now)))) (sym ends.0) l.1, tt)
+whole_least (item.Open number) is head h whole = (rw (append-nil head) at whole, tt)
+whole_least (item.Close number) is head h whole = (rw (append-nil head) at whole, tt)
+
+-- a head is the least one where it is as long
+pub least_as_long : (i : Item) → IsItem i → (head : List ℕ) → Heads (item_head i) head → (n : ℕ) → ((b : List ℕ) → IsLeast (Heads (item_head i)) b → n ≡ length b) → HasLeastContents i
+    → IsTrue (nat_eq (length head) n) ↔ IsLeast (SpellsEvent (item_event i)) (head ++ item_contents i)
+least_as_long i is head h n told least =
+    let l = some_least (item_head i) h.valid (fits_spelled (item_head i) head h) in (
+      λ same. least_whole i is head (subst (IsLeast (Heads (item_head i))) (sym (least_as_short (item_head i) head l.0 h l.1 (eqb-true (length head) n same ∙ told l.0 l.1))) l.1) least,
+      λ whole. eq-eqb (length head) n (sym (told head (whole_least i is head h whole).0)),
+    )
+
+-- so is a head of one octet
+pub least_of_one : (i : Item) → IsItem i → (head : List ℕ) → Heads (item_head i) head → length head ≡ 1 → HasLeastContents i → IsLeast (SpellsEvent (item_event i)) (head ++ item_contents i)
+least_of_one i is head h one least =
+    let l = some_least (item_head i) h.valid (fits_spelled (item_head i) head h) in
+    least_whole i is head (subst (IsLeast (Heads (item_head i))) (sym (one_is_least (item_head i) head l.0 h one l.1)) l.1) least
 
 pub least_item : (i : Item) → IsItem i → (b : List ℕ) × IsLeast (SpellsEvent (item_event i)) b
 least_item (item.Boolean bit) h = let l = some_least (AppBool bit) tt tt in (l.0, least_boolean_of (record { 0 = bit }) l.0 l.1)
-least_item (item.Application number contents) (fits, other, found) = let l = least_by_contents number found.0 contents.now found.1 fits other in (l.0 ++ prim_written found.0, l.2)
+least_item (item.Application number contents written) (fits, other, found, told) = let l = least_by_contents number found.0 contents.now found.1 fits other in (l.0 ++ prim_written found.0, l.2)
 least_item (item.Context number octets) (fits, within) = let l = least_under_context number octets.now fits within in (l.0 ++ octets.now, l.2)
 least_item (item.Open number) h = some_least (Open number) h tt
 least_item (item.Close number) h = some_least (Close number) h tt
 
--- its mark is a place of few octets
-pub mark_fits : (place : ℕ) (head : List ℕ) (i : Item) (o : Option ℕ) → IsItem i → place + (length head + length (item_contents i)) < 2 ^ 64 → ItemMark head i o → IfSome o (λ k. place + k < 2 ^ 64)
-mark_fits place head i None is small mark = tt
-mark_fits place head i (Some k) is small mark = let l = least_item i is in omega (arith, (mark l.0 l.1).0, length-append head (item_contents i))
+-- the mark of its octets
+abbrev pub ItemMark : List ℕ → Item → Option ℕ → Type 0
+ItemMark octets i m = (b : List ℕ) → IsLeast (SpellsEvent (item_event i)) b → IsMark octets b m
+
+-- those that are canonical have none
+pub least_marked : (i : Item) (octets : List ℕ) → IsLeast (SpellsEvent (item_event i)) octets → ItemMark octets i None
+least_marked i octets least b p = IsLeast-one (SpellsEvent (item_event i)) octets b least p
+
+-- others have the first place where they differ from those
+pub difference_marked : (i : Item) (octets more : List ℕ) (m : Option ℕ) → SpellsEvent (item_event i) octets → IsLeast (SpellsEvent (item_event i)) more → IfNone m (octets ≡ more) → IfSome m (FirstDifference octets more) → ItemMark octets i m
+difference_marked i octets more None s least none some b p = none ∙ IsLeast-one (SpellsEvent (item_event i)) more b least p
+difference_marked i octets more (Some place) s least none some b p =
+    let within = difference_within SpellsEvent event_ends (item_event i) (item_event i) octets more place s least.member some in
+    by_least (SpellsEvent (item_event i)) more b octets (Some place) least (within.0, within.1, some) p
+
+-- the mark of a closing tag
+pub closing_marked : (n : ℕ) (octets : List ℕ) (m : Option ℕ) → ((b : List ℕ) → IsLeast (Heads (Close n)) b → IsMark octets b m) → ItemMark (octets ++ []) (item.Close n) m
+closing_marked n octets m mark b p = mark_alone octets b m (mark b p)
+
+-- a mark is a place of the octets
+pub mark_inside : (octets : List ℕ) (i : Item) (m : Option ℕ) → IsItem i → ItemMark octets i m → IfSome m (λ k. k < length octets)
+mark_inside octets i None is mark = tt
+mark_inside octets i (Some k) is mark = let l = least_item i is in (mark l.0 l.1).0
 
 -- ---- the value so far
 
@@ -163,7 +169,7 @@ marked_opening n input place es m small mark e =
     rw e (record { least = l.0; is_least = least_one (opening n) l.0 l.1; is_mark = mark l.0 l.1 })
 
 module _ (input : List ℕ) (place start taken : ℕ) (i : Item) (o : Option ℕ) (within : place ≤ length input) (is : IsItem i) (lies : LiesInFront i start taken (drop place input))
-    (mark : (b : List ℕ) → IsLeast (SpellsEvent (item_event i)) b → IsMark (take start (drop place input) ++ item_contents i) b o) where
+    (mark : ItemMark (take start (drop place input) ++ item_contents i) i o) where
   pub marked_more : (n : ℕ) (es fs : List Event) (m r : Option ℕ) → HasMark n input place es m → r ≡ joined_mark m place o → fs ≡ es ++ item_event i ∷ [] → HasMark n input (place + taken) fs r
   marked_more n es fs m r h e f =
       let l = least_item i is in

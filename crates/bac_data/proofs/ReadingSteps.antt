@@ -1,11 +1,13 @@
 -- What a reader keeps, step by step.
 use Rattle.std.proofs.Common.{◌≡◌, ℕ, ◌+◌, ◌-◌, ◌<◌, ◌≤◌, Bool, true, false, Option, None, Some, List, [], ◌∷◌, ◌++◌, take, drop, length, reverse, refl, sym, ◌∙◌, ap, subst, arith, take-add, length-append, length-take}
-use Rattle.std.proofs.lemmas.List.{append_cancel_left, append-nil, length-reverse}
-use Rattle.std.specs.Prelude.{is_some, IsTrue, ◌↔◌}
+use Rattle.std.proofs.Math.Seq.{drop-append_seam}
+use Rattle.std.proofs.lemmas.List.{append_cancel_left, append-nil, length-reverse, take_all}
+use Rattle.std.specs.Prelude.{is_some, IsTrue, IfNone, ◌↔◌}
 use Rattle.bac_tag.specs.Octets.{IsMark, joined_mark}
 use Rattle.bac_tag.specs.Spelling.{IsLeast, AppendsLeast}
 use Rattle.bac_tag.specs.Heads.{Heads}
 use Rattle.bac_tag.specs.Laws.Heads.{heads_end}
+use Rattle.bac_tag.specs.Laws.Spelling.{IsLeast-one}
 use Rattle.bac_tag.specs.Short.{BeginsShort}
 use Rattle.bac_tag.specs.declared.heads.TagHead.TheVariants.{Close, Open}
 use Rattle.bac_tag.proofs.MarksLemmas.{spelled_some}
@@ -19,7 +21,7 @@ use Rattle.bac_data.specs.Reading.{item_event, item_contents, item_head, IsItem,
 use Rattle.bac_data.proofs.AnyLemmas.{HasRead, has_read_more}
 use Rattle.bac_data.proofs.BuildingLemmas.{open_kept}
 use Rattle.bac_data.proofs.LeastLemmas.{least_more, least_none}
-use Rattle.bac_data.proofs.MarkLemmas.{ItemMark, least_lies, least_item, marked_more, marked_already}
+use Rattle.bac_data.proofs.MarkLemmas.{ItemMark, least_of_one, least_marked, closing_marked, marked_more, marked_already}
 use Rattle.bac_data.proofs.WalkLemmas.{in_two}
 
 -- ---- what is kept
@@ -38,8 +40,31 @@ pub kept_on : (before : Option ℕ) (es : List Event) (old : List ℕ) → is_so
 kept_on None es old i k = absurd (let u : false ≡ true = i in cc)
 kept_on (Some place) es old i k = k
 
-pub some_told : (m : Option ℕ) → is_some m ≡ true → m ≡ None → ⊥
-some_told m e f = let i : false ≡ true = sym (ap is_some f) ∙ e in cc
+pub none_told : (m : Option ℕ) → is_some m ≡ true → m ≡ None → ⊥
+none_told m e f = let i : false ≡ true = sym (ap is_some f) ∙ e in cc
+
+pub none_then : (m : Option ℕ) (P : Type 0) → IfNone m P → m ≡ None → P
+none_then None P h e = h
+none_then (Some place) P h e = absurd (let u : Some place ≡ None = e in cc)
+
+-- what was appended stands behind what was there
+pub appended_behind : (old more new read : List ℕ) (start : ℕ) → start ≡ length old → read ≡ new → new ≡ old ++ more → drop start read ≡ more
+appended_behind old more new read start s r n = rw (s, r, n) (drop-append_seam old more)
+
+-- nothing is kept behind an item that is canonical as those in front of it are
+pub kept_none : (before : Option ℕ) (es : List Event) (e : Event) (place : ℕ) (kept : List ℕ) → is_some before ≡ false → Keeps before es kept → Keeps (joined_mark before place None) (es ++ e ∷ []) kept
+kept_none None es e place kept i k = k
+kept_none (Some p) es e place kept i k = absurd (let u : true ≡ false = i in cc)
+
+-- behind one that is not, or that stands behind such a one, the mark is a place
+pub marked_behind : (before own : Option ℕ) (place : ℕ) → (before ≡ None → own ≡ None → ⊥) → joined_mark before place own ≡ None → ⊥
+marked_behind None None place f e = f refl refl
+marked_behind None (Some k) place f e = let u : Some (place + k) ≡ None = e in cc
+marked_behind (Some p) own place f e = let u : Some p ≡ None = e in cc
+
+-- the octets of an item are its head and its contents
+pub whole_octets : (i : Item) (start : ℕ) (octets : List ℕ) → LiesInFront i start (length octets) octets → octets ≡ take start octets ++ item_contents i
+whole_octets i start octets lies = sym (take_all (length octets) octets (omega arith)) ∙ lies.octets_are
 
 -- with no event nothing is kept
 pub keeps_nothing : (m : Option ℕ) (kept : List ℕ) → kept ≡ [] → Keeps m [] kept
@@ -88,11 +113,26 @@ front_least number input start place es None le h k e =
 
 -- the mark behind an item
 pub behind_marked : (number : ℕ) (input : List ℕ) (place start taken : ℕ) (i : Item) (es : List Event) (m own r : Option ℕ) → place ≤ length input → IsItem i → LiesInFront i start taken (drop place input)
-    → (m ≡ None → (b : List ℕ) → IsLeast (SpellsEvent (item_event i)) b → IsMark (take start (drop place input) ++ item_contents i) b own) → r ≡ joined_mark m place own
-    → HasMark number input place es m → HasMark number input (place + taken) (es ++ item_event i ∷ []) r
-behind_marked number input place start taken i es None own r within is lies f e k = marked_more input place start taken i own within is lies (f refl) number es (es ++ item_event i ∷ []) None r k e refl
+    → (m ≡ None → ItemMark (take taken (drop place input)) i own) → r ≡ joined_mark m place own → HasMark number input place es m → HasMark number input (place + taken) (es ++ item_event i ∷ []) r
+behind_marked number input place start taken i es None own r within is lies f e k =
+    marked_more input place start taken i own within is lies (subst (λ (l : List ℕ). ItemMark l i own) lies.octets_are (f refl)) number es (es ++ item_event i ∷ []) None r k e refl
 behind_marked number input place start taken i es (Some p) own r within is lies f e k =
     subst (HasMark number input (place + taken) (es ++ item_event i ∷ [])) (sym e) (marked_already input place taken i number es (es ++ item_event i ∷ []) (Some p) is refl k refl)
+
+-- an item that ends a group is a closing tag
+pub closing_item : (i : Item) (n : ℕ) → item_event i ≡ closing n → i ≡ item.Close n
+closing_item (item.Boolean bit) n e = absurd (let u = e in cc)
+closing_item (item.Application number contents written) n e = absurd (let u = e in cc)
+closing_item (item.Context number octets) n e = absurd (let u = e in cc)
+closing_item (item.Open number) n e = absurd (let u = e in cc)
+closing_item (item.Close number) n e = ap item.Close (let u = e in cc)
+
+-- the mark behind a closing tag
+pub closed_behind : (number : ℕ) (input : List ℕ) (place start taken : ℕ) (i : Item) (es : List Event) (m own r : Option ℕ) → number ≤ 254 → place ≤ length input → i ≡ item.Close number → LiesInFront i start taken (drop place input)
+    → ((b : List ℕ) → IsLeast (Heads (Close number)) b → IsMark (take start (drop place input)) b own) → r ≡ joined_mark m place own → HasMark number input place es m → HasMark number input (place + taken) (es ++ item_event i ∷ []) r
+closed_behind number input place start taken i es m own r small within is lies mark e k =
+    subst (λ (j : Item). HasMark number input (place + taken) (es ++ item_event j ∷ []) r) (sym is)
+    (marked_more input place start taken (item.Close number) own within small (subst (λ (j : Item). LiesInFront j start taken (drop place input)) is lies) (closing_marked number (take start (drop place input)) own mark) number es (es ++ closing number ∷ []) m r k e refl)
 
 -- ---- primitives that stand in their canonical octets
 
@@ -104,12 +144,12 @@ unmarked (Some p) place = refl
 pub closed_mark : (number : ℕ) (input : List ℕ) (place : ℕ) (es : List Event) (m : Option ℕ) → number ≤ 254 → place ≤ length input → BeginsShort (Close number) (drop place input) → HasMark number input place es m
     → HasMark number input (place + 1) (es ++ closing number ∷ []) m
 closed_mark number input place es m small within b marked =
-    let i = item.Close number in
-    let lies : LiesInFront i 1 1 (drop place input) = record { within = omega arith; headed = b.least.member; octets_are = sym (append-nil (take 1 (drop place input))) } in
-    marked_more input place 1 1 i None within small lies (least_lies i small (take 1 (drop place input)) b.least.member (omega (arith, b.some, length-take 1 (drop place input))) tt) number es (es ++ closing number ∷ []) m m marked (unmarked m place) refl
+    let front : List ℕ = take 1 (drop place input) in
+    let lies : LiesInFront (item.Close number) 1 1 (drop place input) = record { within = omega arith; headed = b.least.member; octets_are = sym (append-nil front) } in
+    closed_behind number input place 1 1 (item.Close number) es m None m small within refl lies (λ c p. IsLeast-one (Heads (Close number)) front c b.least p) (unmarked m place) marked
 
 stays : (i : Item) → IsApplication i → (s : List ℕ) → Opens 32 s (item_event i ∷ []) s
-stays (item.Application number contents) a s = refl
+stays (item.Application number contents written) a s = refl
 stays (item.Boolean bit) a s = absurd a
 stays (item.Context number octets) a s = absurd a
 stays (item.Open number) a s = absurd a
@@ -122,11 +162,14 @@ kept_octets None es e old octets new none some least k = none refl ∙ k
 kept_octets (Some place) es e old octets new none some least k = subst (IsLeast (SpellsEvents (es ++ e ∷ []))) (sym (some refl)) (least_more es e old octets k least)
 
 module _ (i : Item) (taken : ℕ) (octets : List ℕ) (b : BeginsLeast i taken octets) where
-  pub begun_mark : ItemMark (take 1 octets) i None
-  begun_mark = least_lies i b.is_item (take 1 octets) b.lies.headed (let some = spelled_some (item_head i) (take 1 octets) b.lies.headed in omega (arith, some, length-take 1 octets)) b.least
+  least_lies : IsLeast (SpellsEvent (item_event i)) (take 1 octets ++ item_contents i)
+  least_lies = least_of_one i b.is_item (take 1 octets) b.lies.headed (let some = spelled_some (item_head i) (take 1 octets) b.lies.headed in omega (arith, some, length-take 1 octets)) b.least
+
+  pub begun_mark : ItemMark (take 1 octets ++ item_contents i) i None
+  begun_mark = least_marked i (take 1 octets ++ item_contents i) least_lies
 
   pub begun_least : IsLeast (SpellsEvent (item_event i)) (take taken octets)
-  begun_least = let l = least_item i b.is_item in subst (IsLeast (SpellsEvent (item_event i))) (sym (b.lies.octets_are ∙ begun_mark l.0 l.1)) l.1
+  begun_least = subst (IsLeast (SpellsEvent (item_event i))) (sym b.lies.octets_are) least_lies
 
 -- one more item that begins with its canonical octets
 pub read_least : (number : ℕ) (input : List ℕ) (start place count taken next more : ℕ) (groups kept new : List ℕ) (mark : Option ℕ) (i : Item) → BeginsLeast i taken (drop place input) → taken ≤ length (drop place input)

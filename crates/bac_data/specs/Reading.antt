@@ -1,5 +1,5 @@
 -- What may stand next between the tags of an open value, as a reader meets it.
-use Rattle.std.specs.Prelude.{◌≡◌, ◌≢◌, ℕ, Bool, true, false, IsTrue, ◌≤◌, None, Some, List, [], ◌∷◌, ◌++◌, length, take}
+use Rattle.std.specs.Prelude.{◌≡◌, ◌≢◌, ◌↔◌, ℕ, Bool, true, false, IsTrue, ◌≤◌, None, Some, List, [], ◌∷◌, ◌++◌, length, take}
 use Rattle.bac_tag.specs.declared.heads.TagHead.{TagHead}
 use Rattle.bac_tag.specs.declared.heads.TagHead.TheVariants.{App, AppBool, Ctx, Open, Close}
 use Rattle.bac_tag.specs.Heads.{Heads}
@@ -8,7 +8,7 @@ use Rattle.bac_tag.specs.declared.expecting.Expected.TheVariants as expected
 use Rattle.bac_value.specs.declared.prim.PrimitiveValue.{PrimitiveValue}
 use Rattle.bac_value.specs.declared.prim.PrimitiveValue.TheVariants.{Boolean}
 use Rattle.bac_value.specs.OctetStringContents.{IsOctetString}
-use Rattle.bac_value.specs.PrimContents.{ContentsOf, prim_written}
+use Rattle.bac_value.specs.PrimContents.{ContentsOf, IsWrittenOf, prim_written}
 use Rattle.bac_value.specs.PrimOfContents.{prim_of_contents}
 use Rattle.bac_data.specs.declared.items.Item.{Item}
 use Rattle.bac_data.specs.declared.items.Item.TheVariants as item
@@ -53,7 +53,7 @@ next_heads room number =
 -- the event that an item is
 abbrev pub item_event : Item → Event
 item_event (item.Boolean bit) = application (Boolean (record { 0 = bit }))
-item_event (item.Application number contents) = application (prim_of_contents number contents.now)
+item_event (item.Application number contents written) = application (prim_of_contents number contents.now)
 item_event (item.Context number octets) = contextual number octets.now
 item_event (item.Open number) = opening number
 item_event (item.Close number) = closing number
@@ -61,7 +61,7 @@ item_event (item.Close number) = closing number
 -- its contents as they lie there
 abbrev pub item_contents : Item → List ℕ
 item_contents (item.Boolean bit) = []
-item_contents (item.Application number contents) = contents.now
+item_contents (item.Application number contents written) = contents.now
 item_contents (item.Context number octets) = octets.now
 item_contents (item.Open number) = []
 item_contents (item.Close number) = []
@@ -69,22 +69,22 @@ item_contents (item.Close number) = []
 -- the head above them
 abbrev pub item_head : Item → TagHead
 item_head (item.Boolean bit) = AppBool bit
-item_head (item.Application number contents) = App number (length contents.now)
+item_head (item.Application number contents written) = App number (length contents.now)
 item_head (item.Context number octets) = Ctx number (length octets.now)
 item_head (item.Open number) = Open number
 item_head (item.Close number) = Close number
 
--- its contents are those of a value, its number is one of its kind
+-- its contents are those of a value, its number is one of its kind; and it is told whether they are those that are written
 abbrev pub IsItem : Item → Type 0
 IsItem (item.Boolean bit) = Unit {0}
-IsItem (item.Application number contents) = (number ≤ 12) × (number ≢ 1) × ((prim : PrimitiveValue) × ContentsOf number prim contents.now)
+IsItem (item.Application number contents written) = (number ≤ 12) × (number ≢ 1) × ((prim : PrimitiveValue) × ContentsOf number prim contents.now) × (IsTrue written ↔ IsWrittenOf number contents.now)
 IsItem (item.Context number octets) = (number ≤ 254) × IsOctetString octets.now
 IsItem (item.Open number) = number ≤ 254
 IsItem (item.Close number) = number ≤ 254
 
 -- its contents are those that are written of its value
 abbrev pub HasLeastContents : Item → Type 0
-HasLeastContents (item.Application number contents) = (prim : PrimitiveValue) → ContentsOf number prim contents.now → contents.now ≡ prim_written prim
+HasLeastContents (item.Application number contents written) = (prim : PrimitiveValue) → ContentsOf number prim contents.now → contents.now ≡ prim_written prim
 HasLeastContents _ = Unit {0}
 
 -- the item lies at the front of the octets: so many of them are its head, and so many it takes with its contents
@@ -95,7 +95,7 @@ pub record LiesInFront (item : Item) (start taken : ℕ) (octets : List ℕ) : T
 
 -- it is an application primitive, and no Boolean
 abbrev pub IsApplication : Item → Type 0
-IsApplication (item.Application number contents) = Unit {0}
+IsApplication (item.Application number contents written) = Unit {0}
 IsApplication _ = ⊥
 
 -- an application primitive with a head of one octet lies there, and so many octets at the front are its canonical ones

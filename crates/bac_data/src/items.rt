@@ -1,13 +1,12 @@
 //! What stands next in an open value.
 
 ghost use Rattle.std.specs.Prelude.{◌≡◌, ◌↔◌, ◌≤◌, ◌<◌, ◌⊎◌, ◌++◌, true, false, Bool, IsTrue, IfSome, ℕ, List, length, take, [], IfOk, IfErr};
-ghost use Rattle.bac_tag.specs.Octets.{IsMark};
 ghost use Rattle.bac_tag.specs.Spelling.{IsLeast, IsRefusal, Takes};
 ghost use Rattle.bac_tag.specs.Heads.{Heads, IsValid};
 ghost use Rattle.bac_tag.specs.Expected.{FitsOne, HeadsOfOne};
 ghost use Rattle.bac_value.specs.declared.prim.PrimitiveValue.{PrimitiveValue};
 ghost use Rattle.bac_value.specs.Primitives.{IsBegun, OfSize};
-ghost use Rattle.bac_value.specs.PrimContents.{ContentsOf};
+ghost use Rattle.bac_value.specs.PrimContents.{ContentsOf, IsWrittenOf};
 ghost use Rattle.bac_tag.specs.Refusals.{IsHeadReason};
 ghost use Rattle.bac_data.specs.Refusals.{IsContentsReason, IsItemReason, BeginsGroup};
 ghost use Rattle.bac_data.specs.declared.items.Item.{Item};
@@ -15,11 +14,9 @@ ghost use Rattle.bac_data.specs.Under.{Under, HasContents};
 ghost use Rattle.bac_data.specs.Events.{SpellsEvent};
 ghost use Rattle.bac_data.specs.Reading.{SpellsStanding, next_heads, item_event, item_contents, item_head, IsItem, HasLeastContents, LiesInFront, BeginsLeast};
 
-use bac_tag::layers::{
-    Expected, is_short_closing, joined_marks, mark_read_head, quick_head, read_one_of, short_len,
-};
-use bac_tag::{Refusal, TagHead, Why, read_head};
-use bac_value::layers::{are_written, mark_contents, written_len_of};
+use bac_tag::layers::{Expected, is_short_closing, quick_head, read_one_of, short_len};
+use bac_tag::{Refusal, TagHead, Why, head_len, read_head};
+use bac_value::layers::are_written;
 use bac_value::{
     Bits, Date, DoubleBits, Enumerated, Null, ObjectId, Octets, Prim, Primitive, RealBits, Signed,
     Text, Time, Unsigned,
@@ -30,36 +27,48 @@ use bac_value::{
 pub(crate) enum Item<'a> {
     /// An application Boolean.
     Boolean(bool),
-    /// Another application primitive of the type with this number.
-    Application { number: u8, contents: &'a [u8] },
+    /// Another application primitive of the type with this number, and whether the contents are those that are written.
+    Application {
+        number: u8,
+        contents: &'a [u8],
+        written: bool,
+    },
     /// A context primitive.
-    Context { number: u8, octets: &'a [u8] },
+    Context {
+        number: u8,
+        octets: &'a [u8],
+    },
     /// The beginning of a group.
     Open(u8),
     /// The end of a group, or of the value.
     Close(u8),
 }
 
-/// Contents of so many octets, of the type with that application number, at the front of the octets.
+/// Contents of so many octets, of the type with that application number, at the front of the octets, and whether they are
+/// those that are written.
 ///
 /// # Errors
 /// `Content` at the first octet that no such contents can have there, else `Short` where they end too early.
-fn read_contents(number: u8, size: usize, octets: &[u8]) -> Result<&[u8], Refusal>
+fn read_contents(number: u8, size: usize, octets: &[u8]) -> Result<(&[u8], bool), Refusal>
     requires number { number ≤ 12 }
     requires size { IsBegun (ContentsOf number) [] size }
-    ensures front { IfOk result (λ contents. (contents.now ≡ take size octets.now) × (size ≤ length octets.now)) }
-    ensures found { IfOk result (λ contents. (prim : PrimitiveValue) × ContentsOf number prim contents.now) }
+    ensures front { IfOk result (λ found. (found.0.now ≡ take size octets.now) × (size ≤ length octets.now)) }
+    ensures found { IfOk result (λ found. (prim : PrimitiveValue) × ContentsOf number prim found.0.now) }
+    ensures written { IfOk result (λ found. IsTrue found.1 ↔ IsWrittenOf number found.0.now) }
     ensures refused { IfErr result (IsRefusal (OfSize (ContentsOf number) size) octets.now) }
     ensures reasons { IfErr result (λ refusal. IsContentsReason refusal.why) }
 {
     let seen = &octets[..size.min(octets.len())];
+    if seen.len() == size && are_written(number, seen) {
+        return Ok((seen, true));
+    }
     if let Some(place) = Prim::hopeless(number, seen, size) {
         return Err(Why::Content.at(place));
     }
     if seen.len() < size {
         return Err(Why::Short.at(seen.len()));
     }
-    Ok(seen)
+    Ok((seen, false))
 }
 
 /// What stands under a head at the front of the octets, and how many octets it takes.
@@ -79,8 +88,15 @@ fn read_under(head: TagHead, octets: &[u8]) -> Result<(Item<'_>, usize), Refusal
     match head {
         TagHead::App { number, len } => {
             let size = len as usize;
-            let contents = read_contents(number, size, octets)?;
-            Ok((Item::Application { number, contents }, size))
+            let (contents, written) = read_contents(number, size, octets)?;
+            Ok((
+                Item::Application {
+                    number,
+                    contents,
+                    written,
+                },
+                size,
+            ))
         }
         TagHead::AppBool(bit) => Ok((Item::Boolean(bit), 0)),
         TagHead::Ctx { number, len } => {
@@ -277,13 +293,18 @@ pub(crate) fn read_item(
 }
 
 /// The head that an item was read under.
-fn head_of(item: Item<'_>) -> TagHead
+#[inline(always)]
+pub(crate) fn head_of(item: Item<'_>) -> TagHead
     requires { IsItem item }
     ensures { result ≡ item_head item.entry }
 {
     match item {
         Item::Boolean(bit) => TagHead::AppBool(bit),
-        Item::Application { number, contents } => {
+        Item::Application {
+            number,
+            contents,
+            ..
+        } => {
             let len = contents.len() as u32;
             TagHead::App { number, len }
         }
@@ -296,35 +317,37 @@ fn head_of(item: Item<'_>) -> TagHead
     }
 }
 
+/// The contents that an item was read with.
+#[inline(always)]
+pub(crate) fn contents_of(item: Item<'_>) -> &[u8]
+    ensures { result.now ≡ item_contents item.entry }
+{
+    match item {
+        Item::Application { contents, .. } => contents,
+        Item::Context { octets, .. } => octets,
+        _ => &[],
+    }
+}
+
 /// Whether the contents of an item are those that are written.
 #[inline(always)]
 fn contents_are_least(item: Item<'_>) -> bool
     requires { IsItem item }
-    ensures { IsTrue result → HasLeastContents item.entry }
+    ensures { IsTrue result ↔ HasLeastContents item.entry }
 {
     match item {
-        Item::Application { number, contents } => mark_contents(number, contents).is_none(),
+        Item::Application { written, .. } => written,
         _ => true,
     }
 }
 
-/// The first octet of an item, whose head has these octets, that differs from the canonical ones.
-pub(crate) fn mark_item(head: &[u8], item: Item<'_>) -> Option<usize>
+/// Whether the octets of an item, whose head has these, are the canonical ones.
+#[inline(always)]
+pub(crate) fn is_least(head: &[u8], item: Item<'_>) -> bool
     requires item { IsItem item }
     requires headed { Heads (item_head item) head.now }
-    ensures { (b : List ℕ) → IsLeast (SpellsEvent (item_event item.entry)) b → IsMark (head.now ++ item_contents item.entry) b result }
+    ensures { IsTrue result ↔ IsLeast (SpellsEvent (item_event item.entry)) (head.now ++ item_contents item.entry) }
 {
-    // A head of one octet is the least one.
-    if head.len() == 1 && contents_are_least(item) {
-        return None;
-    }
-    let read = head_of(item);
-    match item {
-        Item::Application { number, contents } => {
-            let len = written_len_of(number, contents) as u32;
-            let mark = mark_read_head(head, read, TagHead::App { number, len });
-            joined_marks(mark, head.len(), mark_contents(number, contents))
-        }
-        _ => mark_read_head(head, read, read),
-    }
+    // Each other spelling of a head has more octets than the least one.
+    contents_are_least(item) && head.len() == head_len(head_of(item))
 }

@@ -1,22 +1,25 @@
 //! Reading an open value.
 
-ghost use Rattle.std.specs.Prelude.{◌≡◌, ◌≢◌, ◌≤◌, ◌<◌, ◌+◌, ◌^◌, ◌↔◌, ◌∷◌, ◌++◌, [], IsTrue, ℕ, List, Option, None, Some, Ok, length, reverse, take, drop, IfOk, IfErr, OnOk};
+ghost use Rattle.std.specs.Prelude.{◌≡◌, ◌≢◌, ◌≤◌, ◌<◌, ◌+◌, ◌^◌, ◌↔◌, ◌∷◌, ◌++◌, [], IsTrue, ℕ, List, Option, None, Some, Ok, length, reverse, take, drop, IfSome, IfOk, IfErr, OnOk};
 ghost use Rattle.std.specs.List.{AllByRecursion};
 ghost use Rattle.bac_tag.specs.Octets.{IsMark, joined_mark};
 ghost use Rattle.bac_tag.specs.Spelling.{IsLeast, IsRefusal, Takes};
 ghost use Rattle.bac_tag.specs.Heads.{Heads};
 ghost use Rattle.bac_data.specs.Spells.{SpellsOpen};
 ghost use Rattle.bac_data.specs.Events.{Event, closing, events, SpellsEvent, SpellsEvents};
-ghost use Rattle.bac_data.specs.Reading.{item_event, item_contents, item_head, IsItem};
+ghost use Rattle.bac_tag.specs.declared.heads.TagHead.TheVariants.{Close};
+ghost use Rattle.bac_data.specs.Reading.{item_event, IsItem, LiesInFront};
 ghost use Rattle.bac_data.specs.Refusals.{IsOpenValueReason, IsTooDeep};
 ghost use Rattle.bac_data.specs.Building.{AreOpen, Keeps, MayFollow, closing_number};
 
 use crate::building::MAX_GROUPS;
-use crate::items::{Item, least_primitive, mark_item, read_item};
+use crate::items::{Item, is_least, least_primitive, read_item};
 use crate::open_value::Any;
 use crate::writing::append_item;
 use arrayvec::ArrayVec;
-use bac_tag::layers::{Expected, is_short_closing, joined_marks, mark_read_head, read_expected};
+use bac_tag::layers::{
+    Expected, first_difference, is_short_closing, joined_marks, mark_read_head, read_expected,
+};
 use bac_tag::{OutOfMemory, Refusal, TagHead, Why};
 use smallvec::SmallVec;
 use std::alloc::Global;
@@ -64,42 +67,50 @@ fn follow(groups: &mut ArrayVec<u8, MAX_GROUPS>, item: Item<'_>)
     }
 }
 
-/// The mark behind an item, of which the head has these octets: behind the first difference none is looked for.
+/// The mark behind the closing tag with this number, which has these octets.
 #[inline(always)]
-fn mark_behind(mark: Option<usize>, place: usize, head: &[u8], item: Item<'_>) -> Option<usize>
-    requires item { IsItem item }
-    requires headed { Heads (item_head item) head.now }
-    requires fits { place + (length head.now + length (item_contents item)) < 2 ^ 64 }
-    ensures { (own : Option ℕ) × (mark ≡ None → (b : List ℕ) → IsLeast (SpellsEvent (item_event item.entry)) b → IsMark (head.now ++ item_contents item.entry) b own) × (result ≡ joined_mark mark place own) }
+fn mark_closing(mark: Option<usize>, place: usize, closing: &[u8], number: u8) -> Option<usize>
+    requires number { number ≤ 254 }
+    requires headed { Heads (Close number) closing.now }
+    requires fits { place + length closing.now < 2 ^ 64 }
+    ensures { (own : Option ℕ) × ((b : List ℕ) → IsLeast (Heads (Close number)) b → IsMark closing.now b own) × (result ≡ joined_mark mark place own) }
 {
-    match mark {
-        None => joined_marks(None, place, mark_item(head, item)),
-        Some(_) => mark,
-    }
+    let head = TagHead::Close(number);
+    joined_marks(mark, place, mark_read_head(closing, head, head))
 }
 
-/// Keeps an item, where its octets or those of an item in front of it are not the canonical ones. `front` are the octets
-/// of those in front, of which nothing is kept while all are canonical.
+/// Keeps the canonical octets of an item, where its octets or those of an item in front of it are others. It has these
+/// octets, of which so many are its head; `front` are those of the items in front, of which nothing is kept while all are
+/// canonical. Returns the mark of its octets; behind the first difference none is looked for.
 #[inline(always)]
 fn keep(
     front: &[u8],
     before: Option<usize>,
-    behind: Option<usize>,
+    octets: &[u8],
+    head: usize,
     item: Item<'_>,
     kept: &mut Vec<u8>,
-) -> Result<(), OutOfMemory>
+) -> Result<Option<usize>, OutOfMemory>
     requires item { IsItem item }
+    requires lies { LiesInFront item head (length octets.now) octets.now }
+    requires spelled { SpellsEvent (item_event item) octets.now }
     requires front { (es : List Event) × Keeps before es kept.old.items × (before ≡ None → IsLeast (SpellsEvents es) front.now) }
-    requires marks { behind ≡ None → before ≡ None }
-    ensures { OnOk result ((es : List Event) → Keeps before es kept.old.items → (before ≡ None → IsLeast (SpellsEvents es) front.now) → Keeps behind (es ++ item_event item.entry ∷ []) kept.new.items) }
+    ensures mark { IfOk result (λ own. before ≡ None → (b : List ℕ) → IsLeast (SpellsEvent (item_event item.entry)) b → IsMark octets.now b own) }
+    ensures within { IfOk result (λ own. IfSome own (λ place. place < length octets.now)) }
+    ensures kept { IfOk result (λ own. (es : List Event) (place : ℕ) → Keeps before es kept.old.items → (before ≡ None → IsLeast (SpellsEvents es) front.now) → Keeps (joined_mark before place own) (es ++ item_event item.entry ∷ []) kept.new.items) }
 {
-    if behind.is_none() {
-        return Ok(());
-    }
     if before.is_none() {
+        if is_least(&octets[..head], item) {
+            return Ok(None);
+        }
         begin(front, kept)?;
     }
-    append_item(item, kept)
+    let start = kept.len();
+    append_item(item, kept)?;
+    if before.is_some() {
+        return Ok(None);
+    }
+    Ok(first_difference(octets, &kept[start..]))
 }
 
 /// Keeps the canonical octets of an item, where those of an item in front of it are not the canonical ones.
@@ -233,19 +244,20 @@ pub fn read_any_marked(
             Ok(found) => found,
             Err(refusal) => return Err(refusal.behind(place)),
         };
-        let front = &octets[start..place];
-        let behind = mark_behind(mark, place, &octets[place..place + head], item);
         if groups.is_empty() && ends(item, number) {
-            return match finish(front, mark, kept, count) {
+            let behind = mark_closing(mark, place, &octets[place..place + head], number);
+            return match finish(&octets[start..place], mark, kept, count) {
                 Ok(value) => Ok((value, place + taken, behind)),
                 Err(_) => Err(Refusal::out_of_memory()),
             };
         }
-        if keep(front, mark, behind, item, &mut kept).is_err() {
-            return Err(Refusal::out_of_memory());
-        }
+        let front = &octets[start..place];
+        let own = &octets[place..place + taken];
+        mark = match keep(front, mark, own, head, item, &mut kept) {
+            Ok(own) => joined_marks(mark, place, own),
+            Err(_) => return Err(Refusal::out_of_memory()),
+        };
         follow(&mut groups, item);
-        mark = behind;
         count += 1;
         place += taken;
     }

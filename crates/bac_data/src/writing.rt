@@ -11,7 +11,7 @@ ghost use Rattle.bac_data.specs.Events.{SpellsEvent};
 ghost use Rattle.bac_data.specs.Reading.{item_event, IsItem};
 ghost use Rattle.bac_tag.specs.Octets.{Extends};
 
-use crate::items::Item;
+use crate::items::{Item, contents_of, head_of};
 use crate::open_value::Any;
 use bac_tag::layers::append_head;
 use bac_tag::{OutOfMemory, TagHead};
@@ -25,6 +25,7 @@ fn append_contents(contents: &[u8], out: &mut Vec<u8>) -> Result<(), OutOfMemory
     ensures err { OnErr result (out.new.items ≡ out.old.items) }
 {
     match contents {
+        [] => {}
         [a] => out.push(*a)?,
         [a, b] => out.extend_from_slice(&[*a, *b])?,
         [a, b, c] => out.extend_from_slice(&[*a, *b, *c])?,
@@ -63,7 +64,7 @@ pub(crate) fn append_primitive(prim: &Prim, out: &mut Vec<u8>) -> Result<(), Out
 
 /// Appends the application primitive with this number and these contents, which may be others than those that are
 /// written. Where memory is refused some octets may be there.
-#[inline]
+#[inline(never)]
 fn append_application(number: u8, contents: &[u8], out: &mut Vec<u8>) -> Result<(), OutOfMemory>
     requires number { number ≤ 12 }
     requires other { number ≢ 1 }
@@ -115,13 +116,18 @@ pub(crate) fn append_item(item: Item<'_>, out: &mut Vec<u8>) -> Result<(), OutOf
     ensures ok { OnOk result (AppendsLeast (SpellsEvent (item_event item.entry)) out.old.items out.new.items) }
     ensures err { OnErr result (Extends out.old.items out.new.items) }
 {
-    match item {
-        Item::Boolean(bit) => append_head(TagHead::AppBool(bit), out),
-        Item::Application { number, contents } => append_application(number, contents, out),
-        Item::Context { number, octets } => append_context_parts(number, octets, out),
-        Item::Open(number) => append_head(TagHead::Open(number), out),
-        Item::Close(number) => append_head(TagHead::Close(number), out),
+    if let Item::Application {
+        number,
+        contents,
+        written,
+    } = item
+    {
+        if !written {
+            return append_application(number, contents, out);
+        }
     }
+    append_head(head_of(item), out)?;
+    append_contents(contents_of(item), out)
 }
 
 /// The octets of an opening and a closing tag, at most.

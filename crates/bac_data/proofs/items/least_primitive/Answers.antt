@@ -1,4 +1,4 @@
-use Rattle.std.proofs.Common.{◌≡◌, ℕ, ◌-◌, ◌/◌, List, ◌++◌, take, drop, length, sym, ◌∙◌, ap, subst, arith, take-add}
+use Rattle.std.proofs.Common.{◌≡◌, ℕ, true, refl, ◌-◌, ◌/◌, List, ◌++◌, take, drop, length, sym, ◌∙◌, ap, subst, arith, take-add}
 use Rattle.std.proofs.lemmas.List.{take_rest}
 use Rattle.bac_tag.specs.Heads.{Heads}
 use Rattle.bac_tag.specs.declared.heads.TagHead.TheVariants.{App}
@@ -13,9 +13,9 @@ returns-then-are_written-clause-found c =
     let lookup = rw take_rest at c.in_ok-contents.ensures.lookup in
     let all : c.in_ok-size.size ≡ c.in_ok-size.size - 0 = omega arith in
     let long : c.in_ok-size.size ≡ length c.in_ok-contents.contents.now = omega (arith, lookup.0.3) in (
-      item.Application _ c.in_ok-contents.contents,
+      item.Application _ c.in_ok-contents.contents true,
       record {
-        is_item = (omega (arith, c.if-number-gt12.false), c.if-number-eq1.false, (is.value, is.spelled));
+        is_item = (omega (arith, c.if-number-gt12.false), c.if-number-eq1.false, (is.value, is.spelled), (λ t. is, λ w. refl));
         primitive = tt;
         lies = record {
           within = omega arith;

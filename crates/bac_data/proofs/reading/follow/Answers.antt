@@ -37,7 +37,7 @@ returns-in-Close c = λ es a m.
 -- what opens and closes nothing
 keeps : (i : Item) → ((number : ℕ) → i ≡ item.Open number → ⊥) → ((number : ℕ) → i ≡ item.Close number → ⊥) → (s : List ℕ) → Opens 32 s (item_event i ∷ []) s
 keeps (item.Boolean bit) o c s = refl
-keeps (item.Application number contents) o c s = refl
+keeps (item.Application number contents written) o c s = refl
 keeps (item.Context number octets) o c s = refl
 keeps (item.Open number) o c s = absurd (o number refl)
 keeps (item.Close number) o c s = absurd (c number refl)

@@ -1,19 +1,20 @@
-use Rattle.std.proofs.Common.{◌≡◌, ◌+◌, ◌-◌, ◌++◌, ◌∷◌, [], List, ℕ, false, true, take, drop, length, refl, sym, ◌∙◌, subst, arith, length-append}
+use Rattle.std.proofs.Common.{◌≡◌, Option, ◌+◌, ◌-◌, ◌++◌, ◌∷◌, [], List, ℕ, false, true, take, drop, length, refl, sym, ◌∙◌, subst, arith, length-append, length-drop, length-take}
 use Rattle.std.proofs.lemmas.Bool.{eqb-true, eq-eqb}
 use Rattle.std.proofs.lemmas.List.{take_rest}
+use Rattle.std.proofs.lemmas.Option.{IfSome_then}
 use Rattle.std.proofs.lemmas.Result.{err_from_is_err_and}
 use Rattle.bac_tag.specs.Octets.{IsMark}
 use Rattle.bac_tag.specs.Spelling.{IsLeast}
 use Rattle.bac_data.specs.Events.{Event, closing, SpellsEvent}
-use Rattle.bac_data.specs.Building.{AreOpen}
-use Rattle.bac_data.specs.Reading.{item_event, item_contents}
+use Rattle.bac_data.specs.Building.{AreOpen, Keeps}
+use Rattle.bac_data.specs.Reading.{item_event}
 use Rattle.bac_data.specs.Marks.{HasMark}
-use Rattle.bac_data.proofs.MarkLemmas.{marked_opening, value_marked, ended_events}
+use Rattle.bac_data.proofs.MarkLemmas.{ItemMark, marked_opening, value_marked, ended_events}
 use Rattle.bac_data.proofs.AnyLemmas.{has_read_opening, opening_is, refused_opening, has_read_more, refused_behind_events, may_follow, value_read, where_ok}
 use Rattle.bac_data.proofs.BuildingLemmas.{none_open, groups_open, has_open_one}
 use Rattle.bac_data.proofs.DepthLemmas.{too_deep_behind}
 use Rattle.bac_data.proofs.ReasonLemmas.{item_memory}
-use Rattle.bac_data.proofs.ReadingSteps.{keeps_nothing, is_place, all_closed, front_least, behind_marked, closed_mark, read_least, fewer_events}
+use Rattle.bac_data.proofs.ReadingSteps.{keeps_nothing, is_place, all_closed, front_least, behind_marked, closing_item, closed_behind, closed_mark, read_least, fewer_events}
 use Rattle.bac_data.proofs.reading.read_any_marked.Goals.{in-Ok, in-Err, in-Ok-finish, in-Err-finish, else-is_empty-2-via-then-is_empty-2+else-ends, else-is_empty-2-via-else-is_empty-2}
 use Rattle.bac_data.proofs.reading.read_any_marked.Goals as goal
 
@@ -93,14 +94,17 @@ returns-then-ends-clause-mark c =
           let same = w.in-Ok-finish.ensures c.loop-taken.invariant.es c.loop-taken.invariant.keeps (front_least c.args.number c.args.octets.now c.in_ok-opening.start c.loop-taken.place c.loop-taken.invariant.es c.loop-taken.mark c.loop-taken.invariant.begun c.loop-taken.invariant.opened c.loop-taken.invariant.marked) in
           let is = c.ends.ensures.0 c.if-ends.true in
           let read = value_read c.args.number c.args.octets.now c.loop-taken.place c.in-Ok-read_item.found.2 c.loop-taken.invariant.es w.in-Ok-finish.value (item_event c.in-Ok-read_item.found.0) c.loop-taken.invariant.read stand.within stand.spelled.spelled is (groups_open c.loop-taken.invariant.es c.loop-taken.groups.items 0 c.loop-taken.invariant.are_open (eqb-true (length c.loop-taken.groups.items) 0 (sym c.is_empty-in-loop-taken.ensures ∙ c.if-is_empty-2.true))) same in
-          let told : HasMark c.args.number c.args.octets.now (c.loop-taken.place + c.in-Ok-read_item.found.2) (c.loop-taken.invariant.es ++ item_event c.in-Ok-read_item.found.0 ∷ []) c.mark_behind-behind.result = (let start : c.loop-taken.place + c.in-Ok-read_item.found.1 - c.loop-taken.place ≡ c.in-Ok-read_item.found.1 = omega arith in
-          let (own, told, is) = c.mark_behind-behind.ensures in
-          behind_marked c.args.number c.args.octets.now c.loop-taken.place c.in-Ok-read_item.found.1 c.in-Ok-read_item.found.2 c.in-Ok-read_item.found.0 c.loop-taken.invariant.es c.loop-taken.mark own c.mark_behind-behind.result c.loop-taken.invariant.read.within c.in-Ok-read_item.ensures.item lies
-          (λ e b p. subst (λ (k : ℕ). IsMark (take k (drop c.loop-taken.place c.args.octets.now) ++ item_contents c.in-Ok-read_item.found.0) b own) start (told e b p)) is c.loop-taken.invariant.marked) in
-          value_marked c.args.number c.args.octets.now (c.loop-taken.place + c.in-Ok-read_item.found.2) w.in-Ok-finish.value c.mark_behind-behind.result read.spelled.nested
-          (subst (λ (fs : List Event). HasMark c.args.number c.args.octets.now (c.loop-taken.place + c.in-Ok-read_item.found.2) fs c.mark_behind-behind.result) (sym (ended_events c.loop-taken.invariant.es w.in-Ok-finish.value (item_event c.in-Ok-read_item.found.0) c.args.number same is)) told))
+          let start : c.loop-taken.place + c.in-Ok-read_item.found.1 - c.loop-taken.place ≡ c.in-Ok-read_item.found.1 = omega arith in
+          let (own, told, joined) = c.mark_closing-behind.ensures in
+          let told = closed_behind c.args.number c.args.octets.now c.loop-taken.place c.in-Ok-read_item.found.1 c.in-Ok-read_item.found.2 c.in-Ok-read_item.found.0 c.loop-taken.invariant.es c.loop-taken.mark own c.mark_closing-behind.result c.requires c.loop-taken.invariant.read.within
+          (closing_item c.in-Ok-read_item.found.0 c.args.number is) lies (λ b p. subst (λ (k : ℕ). IsMark (take k (drop c.loop-taken.place c.args.octets.now)) b own) start (told b p)) joined c.loop-taken.invariant.marked in
+          value_marked c.args.number c.args.octets.now (c.loop-taken.place + c.in-Ok-read_item.found.2) w.in-Ok-finish.value c.mark_closing-behind.result read.spelled.nested
+          (subst (λ (fs : List Event). HasMark c.args.number c.args.octets.now (c.loop-taken.place + c.in-Ok-read_item.found.2) fs c.mark_closing-behind.result) (sym (ended_events c.loop-taken.invariant.es w.in-Ok-finish.value (item_event c.in-Ok-read_item.found.0) c.args.number same is)) told))
       | in-Err-finish w ↦ rw w.result-is tt
     ]
+
+pub joined_marks-mark-requires : goal.joined_marks-mark-requires
+joined_marks-mark-requires c = IfSome_then c.in-Ok-keep.own c.in-Ok-keep.ensures.within (λ place h. omega (arith, h, length-take (c.loop-taken.place + c.in-Ok-read_item.found.2 - c.loop-taken.place) (drop c.loop-taken.place c.args.octets.now), length-drop c.loop-taken.place c.args.octets.now))
 
 pub keep-requires-clause-front : goal.keep-requires-clause-front
 keep-requires-clause-front c = (c.loop-taken.invariant.es, c.loop-taken.invariant.keeps, (front_least c.args.number c.args.octets.now c.in_ok-opening.start c.loop-taken.place c.loop-taken.invariant.es c.loop-taken.mark c.loop-taken.invariant.begun c.loop-taken.invariant.opened c.loop-taken.invariant.marked))
@@ -140,13 +144,12 @@ pub loop-taken-preserved : goal.loop-taken-preserved
 loop-taken-preserved c =
     let stand = rw take_rest at c.in-Ok-read_item.ensures.found in
     let lies = rw take_rest at c.in-Ok-read_item.ensures.parts in
+    let whole : c.loop-taken.place + c.in-Ok-read_item.found.2 - c.loop-taken.place ≡ c.in-Ok-read_item.found.2 = omega arith in
     record {
       es = c.loop-taken.invariant.es ++ item_event c.in-Ok-read_item.found.0 ∷ [];
       read = has_read_more c.args.number c.args.octets.now c.loop-taken.place c.in-Ok-read_item.found.2 c.loop-taken.invariant.es (c.loop-taken.invariant.es ++ item_event c.in-Ok-read_item.found.0 ∷ []) (item_event c.in-Ok-read_item.found.0) c.loop-taken.invariant.read stand.within stand.spelled.spelled refl;
-      marked = (let start : c.loop-taken.place + c.in-Ok-read_item.found.1 - c.loop-taken.place ≡ c.in-Ok-read_item.found.1 = omega arith in
-          let (own, told, is) = c.mark_behind-behind.ensures in
-          behind_marked c.args.number c.args.octets.now c.loop-taken.place c.in-Ok-read_item.found.1 c.in-Ok-read_item.found.2 c.in-Ok-read_item.found.0 c.loop-taken.invariant.es c.loop-taken.mark own c.mark_behind-behind.result c.loop-taken.invariant.read.within c.in-Ok-read_item.ensures.item lies
-          (λ e b p. subst (λ (k : ℕ). IsMark (take k (drop c.loop-taken.place c.args.octets.now) ++ item_contents c.in-Ok-read_item.found.0) b own) start (told e b p)) is c.loop-taken.invariant.marked);
+      marked = behind_marked c.args.number c.args.octets.now c.loop-taken.place c.in-Ok-read_item.found.1 c.in-Ok-read_item.found.2 c.in-Ok-read_item.found.0 c.loop-taken.invariant.es c.loop-taken.mark c.in-Ok-keep.own c.joined_marks-mark.result c.loop-taken.invariant.read.within c.in-Ok-read_item.ensures.item lies
+          (λ e. subst (λ (k : ℕ). ItemMark (take k (drop c.loop-taken.place c.args.octets.now)) c.in-Ok-read_item.found.0 c.in-Ok-keep.own) whole (c.in-Ok-keep.ensures.mark e)) c.joined_marks-mark.ensures c.loop-taken.invariant.marked;
       are_open = c.follow.ensures c.loop-taken.invariant.es c.loop-taken.invariant.are_open (let stand = rw take_rest at c.in-Ok-read_item.ensures.found in
           may_follow c.args.number c.loop-taken.invariant.es c.place_in-room.result.0 c.place_in-room.result.1 (item_event c.in-Ok-read_item.found.0) (is_place c.args.number c.loop-taken.invariant.es c.loop-taken.groups.items c.place_in-room.result.0 c.place_in-room.result.1 c.loop-taken.invariant.are_open c.place_in-room.ensures.room c.place_in-room.ensures.closing) stand.spelled.stands (λ h e.
           elim c.else-is_empty-2.branch [
@@ -155,7 +158,8 @@ loop-taken-preserved c =
                 absurd (let i : false ≡ true = sym w.if-is_empty-2.false ∙ c.is_empty-in-loop-taken.ensures ∙ eq-eqb (length c.loop-taken.groups.items) 0 (has_open_one c.loop-taken.invariant.es (length c.loop-taken.groups.items) 0 (groups_open c.loop-taken.invariant.es c.loop-taken.groups.items (length c.loop-taken.groups.items) c.loop-taken.invariant.are_open refl) h) in cc)
           ]));
       counted = omega (arith, c.loop-taken.invariant.counted, length-append c.loop-taken.invariant.es (item_event c.in-Ok-read_item.found.0 ∷ []));
-      keeps = where_ok c.keep.result c.is_err-in-loop-taken.result c.is_err-in-loop-taken.ensures.value c.if-is_err-2.false c.keep.ensures c.loop-taken.invariant.es c.loop-taken.invariant.keeps (front_least c.args.number c.args.octets.now c.in_ok-opening.start c.loop-taken.place c.loop-taken.invariant.es c.loop-taken.mark c.loop-taken.invariant.begun c.loop-taken.invariant.opened c.loop-taken.invariant.marked);
+      keeps = subst (λ (m : Option ℕ). Keeps m (c.loop-taken.invariant.es ++ item_event c.in-Ok-read_item.found.0 ∷ []) c.keep.new.kept.items) (sym c.joined_marks-mark.ensures)
+          (c.in-Ok-keep.ensures.kept c.loop-taken.invariant.es c.loop-taken.place c.loop-taken.invariant.keeps (front_least c.args.number c.args.octets.now c.in_ok-opening.start c.loop-taken.place c.loop-taken.invariant.es c.loop-taken.mark c.loop-taken.invariant.begun c.loop-taken.invariant.opened c.loop-taken.invariant.marked));
       begun = omega (arith, c.loop-taken.invariant.begun);
       opened = c.loop-taken.invariant.opened;
     }
