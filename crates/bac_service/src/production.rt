@@ -49,7 +49,8 @@ pub(crate) struct Spelling<T> {
     pub(crate) value: T,
     /// How many octets it takes.
     pub(crate) taken: usize,
-    /// How many of them stand in front of the first that differs from the canonical ones: all, where none does.
+    /// How many of them stand in front of the first that differs from the canonical ones: all, where none does. It says
+    /// nothing where that was not wanted.
     pub(crate) same: usize,
 }
 
@@ -88,6 +89,15 @@ pub(crate) fn joined_same(first: usize, taken: usize, second: usize) -> usize
     ensures within { result ≤ taken + second }
 {
     if first < taken { first } else { taken + second }
+}
+
+/// Whether it is wanted how many octets of a part are canonical that stands behind so many octets, where that is wanted of
+/// the whole: not behind one that is not.
+#[inline(always)]
+pub(crate) fn is_wanted_behind(wanted: bool, same: usize, taken: usize) -> bool
+    ensures { IsTrue result ↔ (IsTrue wanted × (same ≡ taken)) }
+{
+    wanted && same == taken
 }
 
 /// The longest spelling at the front of octets, and how far they may be spelled.
@@ -160,14 +170,15 @@ pub(crate) trait Production: Drop {
     /// Reading may want memory.
     ghost wants_memory: { Bool };
 
-    /// Reads a front of the octets that spells a value, if one is found at once. None tells nothing of the octets.
+    /// Reads a front of the octets that spells a value, if one is found at once. None tells nothing of the octets. How many
+    /// octets are canonical is told where that is wanted: behind the first that is not, nobody asks.
     ///
     /// Nothing is kept for a refusal, so this is the fast way where the octets spell a value; [`Production::read`] tells
     /// why they spell none.
-    fn read_spelling(alloc: Global, octets: &[u8]) -> Option<Spelling<Self>>
+    fn read_spelling(alloc: Global, octets: &[u8], wanted: bool) -> Option<Spelling<Self>>
         requires { IsTrue is_sound }
         ensures found { IfSome result (λ found. Takes spells octets.now (view found.value, found.taken)) }
-        ensures mark { IfSome result (λ found. HasMark (spells (view found.value)) (take found.taken octets.now) (mark_within found.taken found.same)) }
+        ensures mark { IfSome result (λ found. IsTrue wanted → HasMark (spells (view found.value)) (take found.taken octets.now) (mark_within found.taken found.same)) }
         ensures same { IfSome result (λ found. found.same ≤ found.taken) };
 
     /// Reads the longest front of the octets that spells a value.

@@ -4,7 +4,7 @@ use Rattle.std.proofs.Common.{sym, ◌∙◌, ap, subst, append_assoc, inl, inr,
 use Rattle.std.proofs.lemmas.List.{append-nil, length-take-le}
 use Rattle.std.proofs.lemmas.Bool.{cases_lt, lt-ltb, le-ltb, cond-true, cond-false}
 use Rattle.bac_tag.specs.Octets.{NoGreater, joined_mark}
-use Rattle.bac_tag.specs.Laws.Octets.{NoGreater-append, NoGreater-same, mark-append}
+use Rattle.bac_tag.specs.Laws.Octets.{NoGreater-append, NoGreater-same, mark_first, mark-append}
 use Rattle.bac_tag.specs.Spelling.{IsLeast, Joins, HasMark, AppendsLeast}
 use Rattle.bac_service.specs.Productions.{Items, mark_within}
 use Rattle.bac_service.specs.Laws.Longest.{take_add}
@@ -109,10 +109,36 @@ joined_within n s k t r first second = elim (cases_lt s n) [
   ]
 ]
 
+-- where the first part has one, that of the second need not be known
+mark_ahead : {P Q : List ℕ → Type 0} {a c : List ℕ} {place : ℕ} (b : List ℕ) → HasMark P a (Some place) → IsLeast Q c → HasMark (Joins P Q) (a ++ b) (Some place)
+mark_ahead {P} {Q} {a} {c} {place} b D L = record { least = D.least ++ c; is_least = least_joined D.is_least L; is_mark = mark_first a b D.least c place D.is_mark }
+
+pub mark_either : {P Q : List ℕ → Type 0} (input : List ℕ) (n s k t r : ℕ) → n ≤ length input → s ≤ n → HasMark P (take n input) (mark_within n s) → (c : List ℕ) × IsLeast Q c → (s ≡ n → HasMark Q (take k (drop n input)) (mark_within k t))
+    → (s < n → r ≡ s) → (n ≤ s → r ≡ n + t) → HasMark (Joins P Q) (take (n + k) input) (mark_within (n + k) r)
+mark_either {P} {Q} input n s k t r within le D L E first second = elim (cases_lt s n) [
+  | inl lt ↦
+      let told : mark_within (n + k) r ≡ Some s = ap (mark_within (n + k)) (first lt) ∙ within_some (n + k) s (omega arith) in
+      rw (told, take_add n k input within) (mark_ahead (take k (drop n input)) (subst (HasMark P (take n input)) (within_some n s lt) D) L.1)
+  | inr ge ↦ mark_both input n k (mark_within (n + k) r) within D (E (omega arith)) (joined_within n s k t r first second)
+]
+
+-- the same of an item behind others
+pub mark_either_item : {V : Type 0} (S : V → List ℕ → Type 0) (vs : List V) (v : V) (input : List ℕ) (n s k t r : ℕ) → n ≤ length input → s ≤ n → HasMark (Items S vs) (take n input) (mark_within n s) → (c : List ℕ) × IsLeast (S v) c
+    → (s ≡ n → HasMark (S v) (take k (drop n input)) (mark_within k t)) → (s < n → r ≡ s) → (n ≤ s → r ≡ n + t) → HasMark (Items S (vs ++ v ∷ [])) (take (n + k) input) (mark_within (n + k) r)
+mark_either_item S vs v input n s k t r within le D L E first second = mark_alike (items_alike S vs v) (mark_either input n s k t r within le D L E first second)
+
 -- a mark lies within the octets
 pub mark_below : {P : List ℕ → Type 0} (input : List ℕ) (n : ℕ) (m : Option ℕ) (r : ℕ) → n ≤ length input → HasMark P (take n input) m → IfNone m (r ≡ n) → IfSome m (λ place. r ≡ place) → r ≤ n
 mark_below input n None r within D none some = omega (arith, none)
 mark_below input n (Some place) r within D none some = omega (arith, some, D.is_mark.0, length-take-le n input within)
+
+pub mark_place : {P : List ℕ → Type 0} (input : List ℕ) (n : ℕ) (m : Option ℕ) → n ≤ length input → HasMark P (take n input) m → IfSome m (λ place. place < n)
+mark_place input n None within D = tt
+mark_place input n (Some place) within D = omega (arith, D.is_mark.0, length-take-le n input within)
+
+pub same_below : (n : ℕ) (m : Option ℕ) (r : ℕ) → IfSome m (λ place. place < n) → IfNone m (r ≡ n) → IfSome m (λ place. r ≡ place) → r ≤ n
+same_below n None r within none some = omega (arith, none)
+same_below n (Some place) r within none some = omega (arith, some, within)
 
 pub mark_told : {P : List ℕ → Type 0} (input : List ℕ) (n : ℕ) (m : Option ℕ) (r : ℕ) → n ≤ length input → HasMark P (take n input) m → IfNone m (r ≡ n) → IfSome m (λ place. r ≡ place) → HasMark P (take n input) (mark_within n r)
 mark_told {P} input n None r within D none some = subst (HasMark P (take n input)) (sym (within_none n r (omega (arith, none)))) D

@@ -6,14 +6,14 @@ use Rattle.bac_tag.specs.Octets.{joined_mark}
 use Rattle.bac_tag.specs.Refusals.{farther_of, behind}
 use Rattle.bac_tag.specs.Spelling.{IsRefusal, Takes, HasMark}
 use Rattle.bac_service.specs.Leads.{Lead, disjoint}
-use Rattle.bac_service.specs.Productions.{Items, Lawful, IsInhabited, IsLongest, IsReach}
+use Rattle.bac_service.specs.Productions.{HasLeast, Items, Lawful, IsInhabited, IsLongest, IsReach, mark_within}
 use Rattle.bac_service.specs.Laws.Production.{sound_parts, not_empty}
 use Rattle.bac_service.specs.Laws.Longest.{IsSoFar, some_taken, some_spelled, so_far_start, so_far_end, list_more, items_snoc, take_add}
 use Rattle.bac_service.specs.Laws.Reach.{IsReachSoFar, reach_start}
 use Rattle.bac_service.specs.Laws.Refusal.{farther_is, reach_taken, reach_item, reach_items, reach_so_far}
 use Rattle.bac_service.specs.Reasons.{IsPartReason, IsReachReason, part_trails}
 use Rattle.bac_service.specs.ReadFaults.{EndsOrGoesOn}
-use Rattle.bac_service.specs.Laws.Least.{mark_nothing, mark_item}
+use Rattle.bac_service.specs.Laws.Least.{mark_nothing, mark_item, mark_either_item}
 use Rattle.std.proofs.Common.{sym, subst, inl, inr, arith, length-drop}
 use Rattle.std.proofs.lemmas.List.{length-take-le}
 
@@ -77,24 +77,27 @@ module _ {V : Type 0} {S : V → List ℕ → Type 0} {os cs : List Lead} {e : B
       let rest = L.within in
       omega (arith, some, rest, length-drop p input)
 
--- items that were found, with their mark
-pub record TakesItems {V : Type 0} (S : V → List ℕ → Type 0) (input : List ℕ) (vs : List V) (p : ℕ) (mark : Option ℕ) : Type 0 where
+-- items that were found, and how many of their octets are canonical, where that is wanted
+pub record TakesItems {V : Type 0} (S : V → List ℕ → Type 0) (input : List ℕ) (vs : List V) (p s : ℕ) (wanted : Bool) : Type 0 where
   pub within : p ≤ length input
   pub spelled : Items S vs (take p input)
-  pub marked : HasMark (Items S vs) (take p input) mark
+  pub marked : IsTrue wanted → HasMark (Items S vs) (take p input) (mark_within p s)
+  pub same : s ≤ p
 
-pub takes_none : {V : Type 0} (S : V → List ℕ → Type 0) (input : List ℕ) → TakesItems S input [] 0 None
-takes_none S input = record { within = omega arith; spelled = refl; marked = mark_nothing }
+pub takes_none : {V : Type 0} (S : V → List ℕ → Type 0) (input : List ℕ) (wanted : Bool) → TakesItems S input [] 0 0 wanted
+takes_none S input wanted = record { within = omega arith; spelled = refl; marked = λ w. mark_nothing; same = omega arith }
 
-module _ {V : Type 0} {S : V → List ℕ → Type 0} {input : List ℕ} {vs : List V} {p : ℕ} {mark : Option ℕ} (H : TakesItems S input vs p mark) where
-  pub takes_next : {v : V} {n : ℕ} {m : Option ℕ} (o : Option ℕ) → Takes S (drop p input) (v, n) → HasMark (S v) (take n (drop p input)) m → o ≡ joined_mark mark p m → TakesItems S input (vs ++ v ∷ []) (p + n) o
-  takes_next {v} {n} {m} o T M e =
+module _ {V : Type 0} {S : V → List ℕ → Type 0} {input : List ℕ} {vs : List V} {p s : ℕ} {wanted : Bool} (H : TakesItems S input vs p s wanted) where
+  pub takes_next : HasLeast S → {v : V} {n : ℕ} {behind : Bool} (t r : ℕ) → Takes S (drop p input) (v, n) → (IsTrue behind → HasMark (S v) (take n (drop p input)) (mark_within n t)) → (IsTrue wanted × (s ≡ p) → IsTrue behind)
+      → (s < p → r ≡ s) → (p ≤ s → r ≡ p + t) → r ≤ p + n → TakesItems S input (vs ++ v ∷ []) (p + n) r wanted
+  takes_next has {v} {n} {behind} t r T M W first second le =
       let long : p ≤ length input = H.within in
-      rw e (record {
+      record {
         within = let h : n ≤ length (drop p input) = T.within in omega (arith, long, length-drop p input);
         spelled = rw (take_add p n input long) (items_snoc S vs v (take p input) (take n (drop p input)) H.spelled T.spelled);
-        marked = rw (take_add p n input long) (subst (λ (i : ℕ). HasMark (Items S (vs ++ v ∷ [])) (take p input ++ take n (drop p input)) (joined_mark mark i m)) (length-take-le p input long) (mark_item S vs v H.marked M));
-      })
+        marked = λ w. mark_either_item S vs v input p s n t r long H.same (H.marked w) (has v (take n (drop p input)) T.spelled) (λ e. M (W (w, e))) first second;
+        same = le;
+      }
 
   pub takes_shrink : {os cs : List Lead} {e : Bool} (a : Bool) → (IsTrue a → Lawful S os cs e) → IsTrue (a && (not e && disjoint os cs)) → {v : V} {n : ℕ} → Takes S (drop p input) (v, n) → length input - (p + n) < length input - p
   takes_shrink {os} {cs} {e} a law sound {v} {n} T =

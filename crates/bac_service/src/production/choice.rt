@@ -37,15 +37,15 @@ impl<A: Production, B: Production> Production for Choice<A, B> {
 
     ghost wants_memory = { A.wants_memory || B.wants_memory };
 
-    fn read_spelling(alloc: Global, octets: &[u8]) -> Option<Spelling<Choice<A, B>>> {
-        if let Some(found) = A::read_spelling(alloc, octets) {
+    fn read_spelling(alloc: Global, octets: &[u8], wanted: bool) -> Option<Spelling<Choice<A, B>>> {
+        if let Some(found) = A::read_spelling(alloc, octets, wanted) {
             return Some(Spelling {
                 value: Choice::First(found.value),
                 taken: found.taken,
                 same: found.same,
             });
         }
-        let found = B::read_spelling(alloc, octets)?;
+        let found = B::read_spelling(alloc, octets, wanted)?;
         Some(Spelling {
             value: Choice::Second(found.value),
             taken: found.taken,

@@ -58,7 +58,7 @@ pub(crate) fn decode<P: Production>(
     ensures memory { IfErr result (λ refusal. refusal.why ≡ Why.OutOfMemory → (refusal.place ≡ 0) × IsTrue P.wants_memory) }
     ensures reasons { IfErr result (λ refusal. IsServiceReason refusal.why) }
 {
-    if let Some(found) = P::read_spelling(alloc, octets) {
+    if let Some(found) = P::read_spelling(alloc, octets, true) {
         if found.taken == octets.len() {
             let mark = found.mark();
             return Ok((found.value, mark));

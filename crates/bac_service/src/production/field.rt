@@ -1,9 +1,9 @@
 //! Fields of a production: contents under a head (clause 21).
 
-ghost use Rattle.std.specs.Prelude.{◌≡◌, ◌↔◌, ◌≤◌, ◌&&◌, ◌∷◌, ◌++◌, [], false, not, nat_le, nat_eq, Some, None, Err, IsTrue, IfSome, IfOk, IfErr, OnOk, length, take};
+ghost use Rattle.std.specs.Prelude.{◌≡◌, ◌↔◌, ◌≤◌, ◌<◌, ◌&&◌, ◌∷◌, ◌++◌, [], false, not, nat_le, nat_eq, Some, None, Err, IsTrue, IfSome, IfOk, IfErr, OnOk, length, take};
 ghost use Rattle.bac_tag.specs.Heads.{Heads};
 ghost use Rattle.bac_tag.specs.Short.{BeginsShort};
-ghost use Rattle.bac_tag.specs.Spelling.{IsRefusal, Takes, HasMark, AppendsLeast};
+ghost use Rattle.bac_tag.specs.Spelling.{IsLeast, IsRefusal, Takes, HasMark, AppendsLeast};
 ghost use Rattle.bac_value.specs.Primitives.{OfSize};
 ghost use Rattle.bac_tag.specs.Octets.{Extends};
 ghost use Rattle.bac_service.specs.Leads.{context, application};
@@ -122,6 +122,25 @@ fn mark_of_other<T: Primitive>(
     mark_of(head, value, context, contents)
 }
 
+/// What [`mark_of`] returns, where the head is the least one and has one octet.
+#[inline(always)]
+fn mark_of_short<T: Primitive>(
+    head: &[u8],
+    value: &T,
+    context: Option<u8>,
+    contents: &[u8],
+) -> Option<usize>
+    requires heading { IsHeading context T.APP }
+    requires spelled { T.contents value.now contents.now }
+    requires least { IsLeast (Heads (heading context T.APP (length contents.now))) head.now }
+    ensures { HasMark (IsField (heading context T.APP) T.contents value.now) (head.now ++ contents.now) result }
+{
+    match value.mark(contents) {
+        None => None,
+        Some(_) => mark_of_other(head, value, context, contents),
+    }
+}
+
 /// The number in the head of a field.
 #[inline(always)]
 fn number_of<T: Primitive>(context: Option<u8>) -> u8
@@ -173,11 +192,13 @@ fn read_short_field<T: Primitive>(
     octets: &[u8],
     context: Option<u8>,
     size: usize,
+    wanted: bool,
 ) -> Option<Front<T>>
     requires heading { IsHeading context T.APP }
     requires head { BeginsShort (heading context T.APP size) octets.now }
     ensures found { IfSome result (λ front. Takes (IsField (heading context T.APP) T.contents) octets.now (front.value, front.taken)) }
-    ensures mark { IfSome result (λ front. HasMark (IsField (heading context T.APP) T.contents front.value) (take front.taken octets.now) front.mark) }
+    ensures mark { IfSome result (λ front. IsTrue wanted → HasMark (IsField (heading context T.APP) T.contents front.value) (take front.taken octets.now) front.mark) }
+    ensures within { IfSome result (λ front. IfSome front.mark (λ place. place < front.taken)) }
     ensures place { IfSome result (λ front. front.reach.place ≡ front.taken) }
     ensures short { IfSome result (λ front. (front.reach.why ≡ Why.Short) ↔ (front.taken ≡ length octets.now)) }
     ensures trailing { IfSome result (λ front. EndsOrGoesOn front.taken front.reach) }
@@ -190,9 +211,10 @@ fn read_short_field<T: Primitive>(
     let Ok(value) = T::read(alloc, contents) else {
         return None;
     };
-    let mark = match value.mark(contents) {
-        None => None,
-        Some(_) => mark_of_other(&octets[..1], &value, context, contents),
+    let mark = if wanted {
+        mark_of_short(&octets[..1], &value, context, contents)
+    } else {
+        None
     };
     Some(Front {
         value,
@@ -220,7 +242,7 @@ fn read_field<T: Primitive>(
     ensures memory { result ≡ Err ReadFault.OutOfMemory → IsTrue T.wants_memory }
 {
     if let Some(size) = short_size::<T>(octets, context) {
-        if let Some(front) = read_short_field(alloc, octets, context, size) {
+        if let Some(front) = read_short_field(alloc, octets, context, size, true) {
             return Ok(front);
         }
     }
@@ -266,14 +288,15 @@ fn find_field<T: Primitive>(
     alloc: Global,
     octets: &[u8],
     context: Option<u8>,
+    wanted: bool,
 ) -> Option<Spelling<T>>
     requires { IsHeading context T.APP }
     ensures found { IfSome result (λ found. Takes (IsField (heading context T.APP) T.contents) octets.now (found.value, found.taken)) }
-    ensures mark { IfSome result (λ found. HasMark (IsField (heading context T.APP) T.contents found.value) (take found.taken octets.now) (mark_within found.taken found.same)) }
+    ensures mark { IfSome result (λ found. IsTrue wanted → HasMark (IsField (heading context T.APP) T.contents found.value) (take found.taken octets.now) (mark_within found.taken found.same)) }
     ensures same { IfSome result (λ found. found.same ≤ found.taken) }
 {
     if let Some(size) = short_size::<T>(octets, context) {
-        return Some(read_short_field(alloc, octets, context, size)?.into_spelling());
+        return Some(read_short_field(alloc, octets, context, size, wanted)?.into_spelling());
     }
     let head = long_head_of::<T>(octets, context)?;
     let (start, size) = (head.taken(), head.size());
@@ -285,7 +308,11 @@ fn find_field<T: Primitive>(
     let Ok(value) = T::read(alloc, contents) else {
         return None;
     };
-    let mark = mark_of_long(&octets[..start], &value, context, contents);
+    let mark = if wanted {
+        mark_of_long(&octets[..start], &value, context, contents)
+    } else {
+        None
+    };
     Some(Spelling {
         value,
         taken: start + size,
@@ -335,8 +362,8 @@ impl<T: Primitive, const N: u8> Production for Field<T, N> {
     ghost wants_memory = { T.wants_memory };
 
     #[inline(always)]
-    fn read_spelling(alloc: Global, octets: &[u8]) -> Option<Spelling<Field<T, N>>> {
-        let found = find_field::<T>(alloc, octets, Some(N))?;
+    fn read_spelling(alloc: Global, octets: &[u8], wanted: bool) -> Option<Spelling<Field<T, N>>> {
+        let found = find_field::<T>(alloc, octets, Some(N), wanted)?;
         Some(Spelling {
             value: Field(found.value),
             taken: found.taken,
@@ -385,8 +412,12 @@ impl<T: Primitive> Production for ApplicationField<T> {
     ghost wants_memory = { T.wants_memory };
 
     #[inline(always)]
-    fn read_spelling(alloc: Global, octets: &[u8]) -> Option<Spelling<ApplicationField<T>>> {
-        let found = find_field::<T>(alloc, octets, None)?;
+    fn read_spelling(
+        alloc: Global,
+        octets: &[u8],
+        wanted: bool,
+    ) -> Option<Spelling<ApplicationField<T>>> {
+        let found = find_field::<T>(alloc, octets, None, wanted)?;
         Some(Spelling {
             value: ApplicationField(found.value),
             taken: found.taken,

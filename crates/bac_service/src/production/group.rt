@@ -52,8 +52,8 @@ impl<P: Production, const N: u8> Production for Group<P, N> {
     ghost wants_memory = { P.wants_memory };
 
     #[inline(always)]
-    fn read_spelling(alloc: Global, octets: &[u8]) -> Option<Spelling<Group<P, N>>> {
-        let found = <(Opening<N>, (P, Closing<N>))>::read_spelling(alloc, octets)?;
+    fn read_spelling(alloc: Global, octets: &[u8], wanted: bool) -> Option<Spelling<Group<P, N>>> {
+        let found = <(Opening<N>, (P, Closing<N>))>::read_spelling(alloc, octets, wanted)?;
         let (_, (part, _)) = found.value;
         Some(Spelling {
             value: Group(part),

@@ -8,7 +8,9 @@ ghost use Rattle.bac_service.specs.Laws.List.{items_inhabited};
 ghost use Rattle.bac_service.specs.Laws.HasLeast.{items_least, record_least};
 
 use crate::production::record::{Fields, Record};
-use crate::production::{Front, Production, ReadFault, Spelling, complete_at, joined_same};
+use crate::production::{
+    Front, Production, ReadFault, Spelling, complete_at, is_wanted_behind, joined_same,
+};
 use bac_tag::OutOfMemory;
 use bac_tag::layers::joined_marks;
 use std::alloc::Global;
@@ -34,13 +36,17 @@ impl<R: Record> Production for Vec<R> {
 
     ghost wants_memory = { true };
 
-    fn read_spelling(alloc: Global, octets: &[u8]) -> Option<Spelling<Vec<R>>> {
+    fn read_spelling(alloc: Global, octets: &[u8], wanted: bool) -> Option<Spelling<Vec<R>>> {
         let Ok(mut items) = Vec::with_capacity(alloc, ROOM) else {
             return None;
         };
         let mut taken = 0;
         let mut same = 0;
-        while let Some(item) = Fields::<R>::read_spelling(alloc, &octets[taken..]) {
+        while let Some(item) = Fields::<R>::read_spelling(
+            alloc,
+            &octets[taken..],
+            is_wanted_behind(wanted, same, taken),
+        ) {
             same = joined_same(same, taken, item.same);
             taken += item.taken;
             let Ok(()) = items.push(item.value.0) else {

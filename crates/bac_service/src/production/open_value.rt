@@ -46,7 +46,11 @@ impl<const N: u8> Production for OpenValue<N> {
 
     ghost wants_memory = { true };
 
-    fn read_spelling(alloc: Global, octets: &[u8]) -> Option<Spelling<OpenValue<N>>> {
+    fn read_spelling(
+        alloc: Global,
+        octets: &[u8],
+        _wanted: bool,
+    ) -> Option<Spelling<OpenValue<N>>> {
         let Ok((value, taken, mark)) = read_any_marked(alloc, octets, N) else {
             return None;
         };

@@ -32,8 +32,8 @@ impl<P: Production> Production for Option<P> {
     ghost wants_memory = { P.wants_memory };
 
     #[inline(always)]
-    fn read_spelling(alloc: Global, octets: &[u8]) -> Option<Spelling<Option<P>>> {
-        Some(match P::read_spelling(alloc, octets) {
+    fn read_spelling(alloc: Global, octets: &[u8], wanted: bool) -> Option<Spelling<Option<P>>> {
+        Some(match P::read_spelling(alloc, octets, wanted) {
             Some(found) => Spelling {
                 value: Some(found.value),
                 taken: found.taken,

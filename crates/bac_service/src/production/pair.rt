@@ -7,7 +7,7 @@ ghost use Rattle.bac_service.specs.Laws.Production.{pair_lawful};
 ghost use Rattle.bac_service.specs.Laws.Refusal.{sound_inhabited};
 ghost use Rattle.bac_service.specs.Laws.HasLeast.{pair_least};
 
-use crate::production::{Front, Production, ReadFault, Spelling, joined_same};
+use crate::production::{Front, Production, ReadFault, Spelling, is_wanted_behind, joined_same};
 use bac_tag::OutOfMemory;
 use bac_tag::layers::joined_marks;
 use std::alloc::Global;
@@ -30,10 +30,11 @@ impl<A: Production, B: Production> Production for (A, B) {
     ghost wants_memory = { A.wants_memory || B.wants_memory };
 
     #[inline(always)]
-    fn read_spelling(alloc: Global, octets: &[u8]) -> Option<Spelling<(A, B)>> {
-        let first = A::read_spelling(alloc, octets)?;
+    fn read_spelling(alloc: Global, octets: &[u8], wanted: bool) -> Option<Spelling<(A, B)>> {
+        let first = A::read_spelling(alloc, octets, wanted)?;
         let taken = first.taken;
-        let second = B::read_spelling(alloc, &octets[taken..])?;
+        let wanted = is_wanted_behind(wanted, first.same, taken);
+        let second = B::read_spelling(alloc, &octets[taken..], wanted)?;
         Some(Spelling {
             value: (first.value, second.value),
             taken: taken + second.taken,

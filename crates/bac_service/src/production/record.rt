@@ -60,8 +60,8 @@ impl<R: Record> Production for Fields<R> {
 
     ghost wants_memory = { R.Parts.wants_memory };
 
-    fn read_spelling(alloc: Global, octets: &[u8]) -> Option<Spelling<Fields<R>>> {
-        let found = R::Parts::read_spelling(alloc, octets)?;
+    fn read_spelling(alloc: Global, octets: &[u8], wanted: bool) -> Option<Spelling<Fields<R>>> {
+        let found = R::Parts::read_spelling(alloc, octets, wanted)?;
         Some(Spelling {
             value: Fields(R::from_parts(found.value)),
             taken: found.taken,

@@ -40,7 +40,7 @@ impl<const N: u8> Production for Opening<N> {
     ghost wants_memory = { false };
 
     #[inline(always)]
-    fn read_spelling(alloc: Global, octets: &[u8]) -> Option<Spelling<Opening<N>>> {
+    fn read_spelling(alloc: Global, octets: &[u8], _wanted: bool) -> Option<Spelling<Opening<N>>> {
         Some(Self::read(alloc, octets).ok()?.into_spelling())
     }
 
@@ -95,7 +95,7 @@ impl<const N: u8> Production for Closing<N> {
     ghost wants_memory = { false };
 
     #[inline(always)]
-    fn read_spelling(alloc: Global, octets: &[u8]) -> Option<Spelling<Closing<N>>> {
+    fn read_spelling(alloc: Global, octets: &[u8], _wanted: bool) -> Option<Spelling<Closing<N>>> {
         Some(Self::read(alloc, octets).ok()?.into_spelling())
     }
 
