@@ -1,9 +1,11 @@
 -- Numbers and octets as digits.
-use Rattle.std.proofs.Common.{◌≡◌, ℕ, ◌+◌, ◌/◌, ◌%◌, ◌^◌, ◌<◌, ◌≤◌, List, [], ◌∷◌, ◌++◌, length, take, get_or, arith, refl, sym, ap, ◌∙◌, append_assoc}
+use Rattle.std.proofs.Common.{◌≡◌, ℕ, zero, suc, ◌+◌, ◌-◌, ◌*◌, ◌/◌, ◌%◌, ◌^◌, ◌<◌, ◌≤◌, List, [], ◌∷◌, ◌++◌, length, take, drop, get_or, arith, inl, inr, refl, sym, ap, ◌∙◌, append_assoc}
 use Rattle.std.specs.Fmt.{decimal}
 use Rattle.std.proofs.lemmas.Fmt.{decimal_step, decimal_digit}
 use Rattle.std.proofs.Math.ListN.{set}
-use Rattle.std.proofs.lemmas.List.{take_more, take_more_set}
+use Rattle.std.proofs.lemmas.Bool.{cases_lt}
+use Rattle.std.proofs.lemmas.List.{length-take-le, take_more, take_more_set, take-take}
+use Rattle.std.proofs.Math.Seq.{take-append-add}
 use Rattle.bac_record.specs.Digits.{digit, hexadecimal, two, four}
 
 -- ---- words
@@ -62,6 +64,40 @@ pub four_digits : (n : ℕ) → 1000 ≤ n → n < 10000 → four n ≡ decimal 
 four_digits n least few =
     ap (λ (l : List ℕ). l ++ two (n % 100)) (two_digits (n / 100) (48 + n / 100 / 10) (48 + n / 100 % 10) (omega arith) (omega arith) refl refl)
     ∙ two_more n (omega arith) (omega arith)
+
+-- four octets of a word, without the first
+four_alike : (a b c d x y z w : ℕ) → a ≡ x → b ≡ y → c ≡ z → d ≡ w → a ∷ b ∷ c ∷ d ∷ [] ≡ x ∷ y ∷ z ∷ w ∷ []
+four_alike a b c d x y z w p q r s = rw (p, q, r, s) refl
+
+pub without : (a b c d count word shifted : ℕ) → a < 256 → b < 256 → c < 256 → d < 256 → count ≤ 3 → word ≡ a + b * 256 + c * 65536 + d * 16777216 → shifted ≡ word / 2 ^ (8 * count)
+    → take (4 - count) (shifted % 256 ∷ shifted / 256 % 256 ∷ shifted / 65536 % 256 ∷ shifted / 16777216 % 256 ∷ []) ≡ drop count (a ∷ b ∷ c ∷ d ∷ [])
+without a b c d zero word shifted p q r s most is e = four_alike (shifted % 256) (shifted / 256 % 256) (shifted / 65536 % 256) (shifted / 16777216 % 256) a b c d (omega (arith, e, is)) (omega (arith, e, is)) (omega (arith, e, is)) (omega (arith, e, is))
+without a b c d (suc zero) word shifted p q r s most is e = ap (take 3) (four_alike (shifted % 256) (shifted / 256 % 256) (shifted / 65536 % 256) (shifted / 16777216 % 256) b c d 0 (omega (arith, e, is)) (omega (arith, e, is)) (omega (arith, e, is)) (omega (arith, e, is)))
+without a b c d (suc (suc zero)) word shifted p q r s most is e = ap (take 2) (four_alike (shifted % 256) (shifted / 256 % 256) (shifted / 65536 % 256) (shifted / 16777216 % 256) c d 0 0 (omega (arith, e, is)) (omega (arith, e, is)) (omega (arith, e, is)) (omega (arith, e, is)))
+without a b c d (suc (suc (suc zero))) word shifted p q r s most is e = ap (take 1) (four_alike (shifted % 256) (shifted / 256 % 256) (shifted / 65536 % 256) (shifted / 16777216 % 256) d 0 0 0 (omega (arith, e, is)) (omega (arith, e, is)) (omega (arith, e, is)) (omega (arith, e, is)))
+without a b c d (suc (suc (suc (suc n)))) word shifted p q r s most is e = absurd (omega (arith, most))
+
+-- the four digits of a number below 10,000, without those that are leading zeros
+pub few_digits : (n skipped a b c d : ℕ) → n < 10000 → a ≡ 48 + n / 100 / 10 → b ≡ 48 + n / 100 % 10 → c ≡ 48 + n % 100 / 10 → d ≡ 48 + n % 100 % 10
+    → (n < 10 → skipped ≡ 3) → (10 ≤ n → n < 100 → skipped ≡ 2) → (100 ≤ n → n < 1000 → skipped ≡ 1) → (1000 ≤ n → skipped ≡ 0) → drop skipped (a ∷ b ∷ c ∷ d ∷ []) ≡ decimal n
+few_digits n skipped a b c d few p q r s one two three four = elim (cases_lt n 10) [
+  | inl lt ↦ rw (one lt) (one_digit n d lt (omega (arith, s)))
+  | inr ge ↦ elim (cases_lt n 100) [
+    | inl lt ↦ rw (two ge lt) (two_digits n c d ge lt (omega (arith, r)) (omega (arith, s)))
+    | inr ge ↦ elim (cases_lt n 1000) [
+      | inl lt ↦ rw (three ge lt) (ap (λ (x : ℕ). b ∷ x ∷ d ∷ []) r ∙ ap (λ (x : ℕ). b ∷ (48 + n % 100 / 10) ∷ x ∷ []) s ∙ three_digits n b ge lt (omega (arith, q)))
+      | inr ge ↦ rw (four ge) (ap (λ (x : ℕ). x ∷ b ∷ c ∷ d ∷ []) p ∙ ap (λ (x : ℕ). (48 + n / 100 / 10) ∷ x ∷ c ∷ d ∷ []) q ∙ ap (λ (x : ℕ). (48 + n / 100 / 10) ∷ (48 + n / 100 % 10) ∷ x ∷ d ∷ []) r
+          ∙ ap (λ (x : ℕ). (48 + n / 100 / 10) ∷ (48 + n / 100 % 10) ∷ (48 + n % 100 / 10) ∷ x ∷ []) s ∙ four_digits n ge few)
+    ]
+  ]
+]
+
+-- octets that were put at a place, without the last
+pub cut_behind : (new old octets : List ℕ) (at skipped end : ℕ) → skipped ≤ 4 → at ≤ length old → end ≡ at + 4 → take end new ≡ take at old ++ octets → take (at + 4 - skipped) new ≡ take at old ++ take (4 - skipped) octets
+cut_behind new old octets at skipped end most inside e put =
+    let long : length (take at old) ≡ at = length-take-le at old inside in
+    let sum : at + 4 - skipped ≡ length (take at old) + (4 - skipped) = omega (arith, long) in
+    sym (take-take (at + 4 - skipped) end new (omega (arith, e))) ∙ ap (take (at + 4 - skipped)) put ∙ ap (λ (k : ℕ). take k (take at old ++ octets)) sum ∙ take-append-add (take at old) octets (4 - skipped)
 
 -- behind a front of the myriads
 pub four_behind : (old out new : List ℕ) (n : ℕ) → 10000 ≤ n → n < 2 ^ 64 → out ≡ old ++ decimal (n / 10000) → new ≡ out ++ four (n % 10000) → new ≡ old ++ decimal n

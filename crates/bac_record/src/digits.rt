@@ -1,6 +1,6 @@
 //! Numbers and octets as digits.
 
-ghost use Rattle.std.specs.Prelude.{◌≡◌, ◌<◌, ◌≤◌, ◌+◌, ◌*◌, ◌/◌, ◌%◌, ◌^◌, ◌∷◌, ◌++◌, [], IfOk, OnOk, OnErr, length, take};
+ghost use Rattle.std.specs.Prelude.{◌≡◌, ◌<◌, ◌≤◌, ◌+◌, ◌*◌, ◌/◌, ◌%◌, ◌^◌, ◌∷◌, ◌++◌, ◌-◌, [], IfOk, OnOk, OnErr, length, take, drop};
 ghost use Rattle.std.specs.Fmt.{decimal, signed_decimal};
 ghost use Rattle.bac_tag.specs.Octets.{Extends};
 ghost use Rattle.bac_record.specs.Digits.{digit as hexadecimal_digit, hexadecimal, two, four};
@@ -91,6 +91,27 @@ fn put_four(room: &mut [u8], at: usize, number: u64)
     put_two(room, at + 2, number % 100);
 }
 
+/// How many of the four digits of a number below 10,000 are leading zeros.
+#[inline(always)]
+fn leading_zeros(number: u64) -> usize
+    ensures most { result ≤ 3 }
+    ensures one { number < 10 → result ≡ 3 }
+    ensures two { 10 ≤ number → number < 100 → result ≡ 2 }
+    ensures three { 100 ≤ number → number < 1000 → result ≡ 1 }
+    ensures four { 1000 ≤ number → result ≡ 0 }
+{
+    usize::from(number < 10) + usize::from(number < 100) + usize::from(number < 1_000)
+}
+
+/// Four octets without the first, of which so many are left out, at most three. Zeros stand behind the others.
+#[inline(always)]
+fn without_first(a: u8, b: u8, c: u8, d: u8, count: usize) -> [u8; 4]
+    requires { count ≤ 3 }
+    ensures { take (4 - count) result ≡ drop count (a ∷ b ∷ c ∷ d ∷ []) }
+{
+    (u32::from_le_bytes([a, b, c, d]) >> (8 * count as u32)).to_le_bytes()
+}
+
 /// Writes the digits of a number below 10,000 without leading zeros, and returns where they end.
 #[inline(always)]
 fn put_front(room: &mut [u8], at: usize, number: u64) -> usize
@@ -100,21 +121,13 @@ fn put_front(room: &mut [u8], at: usize, number: u64) -> usize
     ensures most { result ≤ at + 4 }
     ensures two { number < 100 → result ≤ at + 2 }
 {
-    if number < 10 {
-        room[at] = digit(number);
-        at + 1
-    } else if number < 100 {
-        put_two(room, at, number);
-        at + 2
-    } else if number < 1_000 {
-        let hundreds = number / 100;
-        room[at] = digit(hundreds);
-        put_two(room, at + 1, number - 100 * hundreds);
-        at + 3
-    } else {
-        put_four(room, at, number);
-        at + 4
-    }
+    // How many digits there are is told without a branch: the numbers of one text have now two, now three or four.
+    let (thousands, hundreds) = pair(number / 100);
+    let (tens, ones) = pair(number % 100);
+    let zeros = leading_zeros(number);
+    let digits = without_first(thousands, hundreds, tens, ones, zeros);
+    put_octets(room, at, &digits);
+    at + 4 - zeros
 }
 
 /// Writes the digits of a number below 100,000,000 without leading zeros, and returns where they end.
