@@ -1,6 +1,6 @@
 //! What each primitive type can do.
 
-ghost use Rattle.std.specs.Prelude.{◌≡◌, ◌≢◌, ℕ, Bool, IsTrue, ◌≤◌, ◌++◌, List, [], IfSome, IfNone, length, IfOk, IfErr, OnOk, OnErr};
+ghost use Rattle.std.specs.Prelude.{◌≡◌, ◌≢◌, ℕ, Bool, IsTrue, ◌≤◌, ◌++◌, List, [], IfSome, IfNone, length, take, IfOk, IfErr, OnOk, OnErr};
 ghost use Rattle.bac_tag.specs.Octets.{NoGreater, FirstDifference};
 ghost use Rattle.bac_value.specs.Primitives.{IsBegun, IsHopelessAt, IsContentsReason};
 
@@ -52,6 +52,17 @@ pub trait Primitive: Sized + Drop {
         ensures reasons { IfErr result (λ refusal. IsContentsReason refusal.why) }
         ensures length { IfErr result (λ refusal. refusal.why ≡ Why.Length → (refusal.place ≡ 0) × (IsBegun contents [] (length octets.now) → ⊥)) }
         ensures content { IfErr result (λ refusal. refusal.why ≡ Why.Content → IsHopelessAt contents octets.now (length octets.now) refusal.place) };
+
+    /// The value whose contents so many octets at the front are, if one is found at once. None tells nothing of the octets.
+    /// Others may stand behind them: four octets of a number are read with no branch on how many are its own.
+    #[inline(always)]
+    fn find(alloc: Global, octets: &[u8], size: usize) -> Option<Self>
+        requires { size ≤ length octets.now }
+        ensures value { IfSome result is_value }
+        ensures found { IfSome result (λ value. contents value (take size octets.now)) }
+    {
+        Self::read(alloc, &octets[..size]).ok()
+    }
 
     /// The first place at which the octets in front no longer begin contents of that size, and none where
     /// they do.

@@ -1,7 +1,8 @@
 //! Numbers within a range as contents: 1 to 8 octets, the most significant octet first (clauses 20.2.4 and
 //! 20.2.11).
 
-ghost use Rattle.std.specs.Prelude.{◌≡◌, ◌<◌, ◌≤◌, ◌+◌, ◌++◌, ℕ, length, slice_index, IfOk, IfErr, OnOk, OnErr, IfSome, IfNone, ◌^◌};
+ghost use Rattle.std.specs.Prelude.{◌≡◌, ◌<◌, ◌≤◌, ◌+◌, ◌-◌, ◌++◌, ℕ, length, take, drop, slice_index, IfOk, IfErr, OnOk, OnErr, IfSome, IfNone, ◌^◌};
+ghost use Rattle.std.specs.Int.{w32, to_be_bytes};
 ghost use Rattle.bac_tag.specs.Octets.{FirstDifference};
 ghost use Rattle.bac_tag.specs.Number.{number, BeginsNumber, MissesAt};
 ghost use Rattle.bac_value.specs.Numbers.{NumberContents, HasNumberLength, least_number, IsNumberReason};
@@ -62,6 +63,36 @@ pub fn read_number(octets: &[u8], low: u64, high: u64) -> Result<u64, Refusal>
     }
 }
 
+/// The number of so many octets at the front, one to four of them, where there are four.
+#[inline(always)]
+fn front_number(octets: &[u8], size: usize) -> Option<u64>
+    ensures number { IfSome result (λ n. n ≡ number (take size octets.now)) }
+    ensures few { IfSome result (λ _. HasNumberLength (length (take size octets.now))) }
+{
+    let [a, b, c, d, ..] = octets else {
+        return None;
+    };
+    if size == 0 || size > 4 {
+        return None;
+    }
+    let word = u32::from_be_bytes([*a, *b, *c, *d]);
+    Some(u64::from(word >> (32 - 8 * size as u32)))
+}
+
+/// The number between `low` and `high` whose contents so many octets at the front are, if one is found at once.
+#[inline(always)]
+pub(crate) fn find_number(octets: &[u8], size: usize, low: u64, high: u64) -> Option<u64>
+    requires size { size ≤ length octets.now }
+    requires range { low ≤ high }
+    requires room { low < 256 }
+    ensures { IfSome result (λ n. NumberContents low high n (take size octets.now)) }
+{
+    match front_number(octets, size) {
+        Some(number) if low <= number && number <= high => Some(number),
+        _ => read_number(&octets[..size], low, high).ok(),
+    }
+}
+
 /// The first place at which the octets in front no longer begin contents of that size of a number between
 /// `low` and `high`, and none where they do.
 #[inline]
@@ -117,18 +148,29 @@ pub(crate) fn significant_of_four(octets: &[u8]) -> &[u8]
     significant(&octets[octets.len().saturating_sub(4)..])
 }
 
+/// How many octets are written of a number below 2^32. This is told without a branch: the numbers of one message have now
+/// one octet, now two to four.
+#[inline(always)]
+fn len_of_word(number: u32) -> usize
+    ensures some { 1 ≤ result }
+    ensures most { result ≤ 4 }
+    ensures one { number < 2 ^ 8 → result ≡ 1 }
+    ensures two { 2 ^ 8 ≤ number → number < 2 ^ 16 → result ≡ 2 }
+    ensures three { 2 ^ 16 ≤ number → number < 2 ^ 24 → result ≡ 3 }
+    ensures four { 2 ^ 24 ≤ number → result ≡ 4 }
+{
+    1 + usize::from(number > 0xFF) + usize::from(number > 0xFFFF) + usize::from(number > 0xFF_FFFF)
+}
+
 /// How many octets are written of a number.
 #[inline]
 pub fn written_number_len(number: u64) -> usize
     ensures { result ≡ length (least_number number) }
 {
     // Few numbers have more than four octets.
-    match number {
-        0..=0xFF => 1,
-        0x100..=0xFFFF => 2,
-        0x1_0000..=0xFF_FFFF => 3,
-        0x100_0000..=0xFFFF_FFFF => 4,
-        _ => significant(&number.to_be_bytes()).len(),
+    match u32::try_from(number) {
+        Ok(word) => len_of_word(word),
+        Err(_) => significant(&number.to_be_bytes()).len(),
     }
 }
 
@@ -182,22 +224,43 @@ pub(crate) fn mark_read_number(read: u64, octets: &[u8]) -> Option<usize>
     mark_zeros(octets)
 }
 
-/// Appends the fewest octets that spell a number of more than one octet. Where memory is refused `out` stays as it was.
-fn write_several(number: u64, out: &mut Vec<u8>) -> Result<(), OutOfMemory>
+/// Appends the fewest octets that spell a number of more than four octets. Where memory is refused `out` stays as it was.
+#[inline(never)]
+fn write_long(number: u64, out: &mut Vec<u8>) -> Result<(), OutOfMemory>
     ensures ok { OnOk result (out.new.items ≡ out.old.items ++ least_number number) }
     ensures err { OnErr result (out.new.items ≡ out.old.items) }
 {
-    // Copied without a call where they are few.
+    out.extend_from_slice(significant(&number.to_be_bytes()))?;
+    Ok(())
+}
+
+/// What [`write_number`] does where there is no room for four octets: a new vector is not to grow for those that are cut
+/// off again.
+#[inline(never)]
+fn write_closely(number: u32, out: &mut Vec<u8>) -> Result<(), OutOfMemory>
+    ensures ok { OnOk result (out.new.items ≡ out.old.items ++ least_number number) }
+    ensures err { OnErr result (out.new.items ≡ out.old.items) }
+{
     match number {
+        0..=0xFF => out.push(number as u8)?,
         0x100..=0xFFFF => out.extend_from_slice(&(number as u16).to_be_bytes())?,
         0x1_0000..=0xFF_FFFF => {
-            let [_, a, b, c] = (number as u32).to_be_bytes();
+            let [_, a, b, c] = number.to_be_bytes();
             out.extend_from_slice(&[a, b, c])?;
         }
-        0x100_0000..=0xFFFF_FFFF => out.extend_from_slice(&(number as u32).to_be_bytes())?,
-        _ => out.extend_from_slice(significant(&number.to_be_bytes()))?,
+        _ => out.extend_from_slice(&number.to_be_bytes())?,
     }
     Ok(())
+}
+
+/// The last octets of a number's four, which are to be so many, one at least. Zeros stand behind them.
+#[inline(always)]
+fn last_of_word(number: u32, count: usize) -> [u8; 4]
+    requires some { 1 ≤ count }
+    requires most { count ≤ 4 }
+    ensures { take count result ≡ drop (4 - count) (to_be_bytes w32 number) }
+{
+    (number << (32 - 8 * count as u32)).to_be_bytes()
 }
 
 /// Appends the fewest octets that spell a number. Where memory is refused `out` stays as it was.
@@ -206,10 +269,16 @@ pub fn write_number(number: u64, out: &mut Vec<u8>) -> Result<(), OutOfMemory>
     ensures ok { OnOk result (out.new.items ≡ out.old.items ++ least_number number) }
     ensures err { OnErr result (out.new.items ≡ out.old.items) }
 {
-    // Most numbers have one octet.
-    if number < 256 {
-        out.push(number as u8)?;
-        return Ok(());
+    let Ok(word) = u32::try_from(number) else {
+        return write_long(number, out);
+    };
+    if out.capacity() - out.len() < 4 {
+        return write_closely(word, out);
     }
-    write_several(number, out)
+    // Four octets are appended, and those of them cut off again that are too many.
+    let count = len_of_word(word);
+    let end = out.len() + count;
+    out.extend_from_slice(&last_of_word(word, count))?;
+    out.truncate(end);
+    Ok(())
 }

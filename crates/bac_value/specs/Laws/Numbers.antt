@@ -1,5 +1,5 @@
 -- Laws on numbers as contents.
-use Rattle.std.proofs.Common.{◌≡◌, ℕ, zero, suc, ◌<◌, ◌≤◌, ◌^◌, ◌+◌, ◌*◌, ◌-◌, List, [], ◌∷◌, ◌++◌, length, take, drop, arith, sym, ◌∙◌, ap, refl, inl, inr, get_or, add-zero, append-nil, take-append-drop, length-drop}
+use Rattle.std.proofs.Common.{◌≡◌, ℕ, zero, suc, ◌<◌, ◌≤◌, ◌^◌, ◌+◌, ◌*◌, ◌-◌, ◌/◌, ◌%◌, List, [], ◌∷◌, ◌++◌, length, take, drop, arith, sym, ◌∙◌, ap, refl, inl, inr, get_or, add-zero, append-nil, take-append-drop, length-drop}
 use Rattle.std.proofs.lemmas.Bool.{cases_lt}
 use Rattle.std.specs.Int.{w16, w32, w64, to_be_bytes}
 use Rattle.std.specs.Int.Digits.{number_from_digits_after}
@@ -212,3 +212,48 @@ written_in_four n least most = written_if n (to_be_bytes w32 n) (omega arith, (o
 
 pub written_in_three : (n : ℕ) → 2 ^ 16 ≤ n → n < 2 ^ 24 → drop 1 (to_be_bytes w32 n) ≡ least_number n
 written_in_three n least most = written_if n (drop 1 (to_be_bytes w32 n)) (omega arith, (omega arith, (omega arith, tt))) (omega arith, omega arith) (omega (arith, from_be_bytes-to_be_bytes_4 n (omega arith))) (λ two. omega arith)
+
+-- how many are written
+pub long_in_word : (n k : ℕ) → k ≤ 4 → drop (4 - k) (to_be_bytes w32 n) ≡ least_number n → k ≡ length (least_number n)
+long_in_word n k most e = omega (arith, most, ap length e, length-drop (4 - k) (to_be_bytes w32 n))
+
+-- the last octets of the four, so many as are written
+pub written_in_word : (n k : ℕ) → n < 2 ^ 32 → (n < 2 ^ 8 → k ≡ 1) → (2 ^ 8 ≤ n → n < 2 ^ 16 → k ≡ 2) → (2 ^ 16 ≤ n → n < 2 ^ 24 → k ≡ 3) → (2 ^ 24 ≤ n → k ≡ 4) → drop (4 - k) (to_be_bytes w32 n) ≡ least_number n
+written_in_word n k most one two three four = elim (cases_lt n (2 ^ 8)) [
+  | inl lt ↦ rw (one lt) (ap (λ (o : ℕ). o ∷ []) (omega arith) ∙ sym (written_in_one n lt))
+  | inr ge ↦ elim (cases_lt n (2 ^ 16)) [
+    | inl lt ↦ rw (two ge lt) (written_in_two n ge lt)
+    | inr ge ↦ elim (cases_lt n (2 ^ 24)) [
+      | inl lt ↦ rw (three ge lt) (written_in_three n ge lt)
+      | inr ge ↦ rw (four ge) (written_in_four n ge most)
+    ]
+  ]
+]
+
+-- the four octets moved to the front, so that so many of them are left
+four_alike : (a b c d x y z w : ℕ) → a ≡ x → b ≡ y → c ≡ z → d ≡ w → a ∷ b ∷ c ∷ d ∷ [] ≡ x ∷ y ∷ z ∷ w ∷ []
+four_alike a b c d x y z w p q r s = rw (p, q, r, s) refl
+
+pub front_of_word : (n k moved : ℕ) → n < 2 ^ 32 → 1 ≤ k → k ≤ 4 → moved ≡ n * 2 ^ (32 - 8 * k) % 2 ^ 32 → take k (to_be_bytes w32 moved) ≡ drop (4 - k) (to_be_bytes w32 n)
+front_of_word n zero moved below some most e = absurd (omega (arith, some))
+front_of_word n (suc zero) moved below some most e = ap (take 1) (four_alike (moved / 16777216 % 256) (moved / 65536 % 256) (moved / 256 % 256) (moved % 256) (n % 256) 0 0 0 (omega (arith, e, below)) (omega (arith, e, below)) (omega (arith, e, below)) (omega (arith, e, below)))
+front_of_word n (suc (suc zero)) moved below some most e = ap (take 2) (four_alike (moved / 16777216 % 256) (moved / 65536 % 256) (moved / 256 % 256) (moved % 256) (n / 256 % 256) (n % 256) 0 0 (omega (arith, e, below)) (omega (arith, e, below)) (omega (arith, e, below)) (omega (arith, e, below)))
+front_of_word n (suc (suc (suc zero))) moved below some most e = ap (take 3) (four_alike (moved / 16777216 % 256) (moved / 65536 % 256) (moved / 256 % 256) (moved % 256) (n / 65536 % 256) (n / 256 % 256) (n % 256) 0 (omega (arith, e, below)) (omega (arith, e, below)) (omega (arith, e, below)) (omega (arith, e, below)))
+front_of_word n (suc (suc (suc (suc zero)))) moved below some most e = four_alike (moved / 16777216 % 256) (moved / 65536 % 256) (moved / 256 % 256) (moved % 256) (n / 16777216 % 256) (n / 65536 % 256) (n / 256 % 256) (n % 256) (omega (arith, e, below)) (omega (arith, e, below)) (omega (arith, e, below)) (omega (arith, e, below))
+front_of_word n (suc (suc (suc (suc (suc k))))) moved below some most e = absurd (omega (arith, most))
+
+-- ---- numbers at the front of octets
+
+-- of so many octets, by the first four
+pub number_front : (octets : List ℕ) (size word n : ℕ) → 4 ≤ length octets → 1 ≤ size → size ≤ 4 → ((i : ℕ) → get_or octets i 0 < 256)
+    → word ≡ get_or octets 0 0 * 16777216 + get_or octets 1 0 * 65536 + get_or octets 2 0 * 256 + get_or octets 3 0 → n ≡ word / 2 ^ (32 - 8 * size) → n ≡ number (take size octets)
+number_front (a ∷ b ∷ c ∷ d ∷ rest) zero word n long some most are e f = absurd (omega (arith, some))
+number_front (a ∷ b ∷ c ∷ d ∷ rest) (suc zero) word n long some most are e f = omega (arith, e, f, are 0, are 1, are 2, are 3)
+number_front (a ∷ b ∷ c ∷ d ∷ rest) (suc (suc zero)) word n long some most are e f = omega (arith, e, f, are 0, are 1, are 2, are 3)
+number_front (a ∷ b ∷ c ∷ d ∷ rest) (suc (suc (suc zero))) word n long some most are e f = omega (arith, e, f, are 0, are 1, are 2, are 3)
+number_front (a ∷ b ∷ c ∷ d ∷ rest) (suc (suc (suc (suc zero)))) word n long some most are e f = omega (arith, e, f, are 0, are 1, are 2, are 3)
+number_front (a ∷ b ∷ c ∷ d ∷ rest) (suc (suc (suc (suc (suc k))))) word n long some most are e f = absurd (omega (arith, most))
+number_front (a ∷ b ∷ c ∷ []) size word n long some most are e f = absurd (omega (arith, long))
+number_front (a ∷ b ∷ []) size word n long some most are e f = absurd (omega (arith, long))
+number_front (a ∷ []) size word n long some most are e f = absurd (omega (arith, long))
+number_front [] size word n long some most are e f = absurd (omega (arith, long))

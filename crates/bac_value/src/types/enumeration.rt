@@ -8,7 +8,8 @@ ghost use Rattle.bac_value.specs.Laws.Enumerated.{one_enumerated, enumerated_eac
 
 use crate::primitives::Primitive;
 use crate::ranged_numbers::{
-    first_other_than_zero, mark_read_number, read_number, write_number, written_number_len,
+    find_number, first_other_than_zero, mark_read_number, read_number, write_number,
+    written_number_len,
 };
 use bac_tag::{OutOfMemory, Refusal};
 use std::alloc::Global;
@@ -51,6 +52,11 @@ impl Primitive for Enumerated {
     #[inline(always)]
     fn read(_alloc: Global, octets: &[u8]) -> Result<Enumerated, Refusal> {
         Ok(Enumerated(read_number(octets, 0, MOST)? as u32))
+    }
+
+    #[inline(always)]
+    fn find(_alloc: Global, octets: &[u8], size: usize) -> Option<Enumerated> {
+        Some(Enumerated(find_number(octets, size, 0, MOST)? as u32))
     }
 
     /// Octets in front of the last four have to be zeros; those four are not looked at.

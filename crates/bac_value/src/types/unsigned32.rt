@@ -8,7 +8,7 @@ ghost use Rattle.bac_value.specs.Laws.Bounded.{unsigned32_number, unsigned32_of,
 
 use crate::primitives::Primitive;
 use crate::ranged_numbers::{
-    hopeless_number, mark_read_number, read_number, write_number, written_number_len,
+    find_number, hopeless_number, mark_read_number, read_number, write_number, written_number_len,
 };
 use bac_tag::{OutOfMemory, Refusal};
 use std::alloc::Global;
@@ -51,6 +51,11 @@ impl Primitive for Unsigned32 {
     #[inline(always)]
     fn read(_alloc: Global, octets: &[u8]) -> Result<Unsigned32, Refusal> {
         Ok(Unsigned32(read_number(octets, 0, MOST)? as u32))
+    }
+
+    #[inline(always)]
+    fn find(_alloc: Global, octets: &[u8], size: usize) -> Option<Unsigned32> {
+        Some(Unsigned32(find_number(octets, size, 0, MOST)? as u32))
     }
 
     fn hopeless(front: &[u8], size: usize) -> Option<usize> {

@@ -7,7 +7,9 @@ ghost use Rattle.bac_value.specs.Laws.Numbers.{number_range, number_written, num
 ghost use Rattle.bac_value.specs.Laws.Unsigned.{one_unsigned, unsigned_each_length};
 
 use crate::primitives::Primitive;
-use crate::ranged_numbers::{mark_number, read_number, write_number, written_number_len};
+use crate::ranged_numbers::{
+    find_number, mark_number, read_number, write_number, written_number_len,
+};
 use bac_tag::{OutOfMemory, Refusal};
 use std::alloc::Global;
 
@@ -44,6 +46,11 @@ impl Primitive for Unsigned {
 
     fn read(_alloc: Global, octets: &[u8]) -> Result<Unsigned, Refusal> {
         Ok(Unsigned(read_number(octets, 0, u64::MAX)?))
+    }
+
+    #[inline(always)]
+    fn find(_alloc: Global, octets: &[u8], size: usize) -> Option<Unsigned> {
+        Some(Unsigned(find_number(octets, size, 0, u64::MAX)?))
     }
 
     fn hopeless(_front: &[u8], _size: usize) -> Option<usize> {
