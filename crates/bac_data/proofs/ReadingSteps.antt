@@ -51,12 +51,7 @@ none_then (Some place) P h e = absurd (let u : Some place ≡ None = e in cc)
 pub appended_behind : (old more new read : List ℕ) (start : ℕ) → start ≡ length old → read ≡ new → new ≡ old ++ more → drop start read ≡ more
 appended_behind old more new read start s r n = rw (s, r, n) (drop-append_seam old more)
 
--- nothing is kept behind an item that is canonical as those in front of it are
-pub kept_none : (before : Option ℕ) (es : List Event) (e : Event) (place : ℕ) (kept : List ℕ) → is_some before ≡ false → Keeps before es kept → Keeps (joined_mark before place None) (es ++ e ∷ []) kept
-kept_none None es e place kept i k = k
-kept_none (Some p) es e place kept i k = absurd (let u : true ≡ false = i in cc)
-
--- behind one that is not, or that stands behind such a one, the mark is a place
+-- behind an item that is not canonical, or that stands behind such a one, the mark is a place
 pub marked_behind : (before own : Option ℕ) (place : ℕ) → (before ≡ None → own ≡ None → ⊥) → joined_mark before place own ≡ None → ⊥
 marked_behind None None place f e = f refl refl
 marked_behind None (Some k) place f e = let u : Some (place + k) ≡ None = e in cc
