@@ -91,8 +91,8 @@ pub(crate) fn joined_same(first: usize, taken: usize, second: usize) -> usize
     if first < taken { first } else { taken + second }
 }
 
-/// Whether it is wanted how many octets of a part are canonical that stands behind so many octets, where that is wanted of
-/// the whole: not behind one that is not.
+/// Whether the mark of a part is wanted that stands behind `taken` octets: where it is wanted of the whole, and all of
+/// these are canonical.
 #[inline(always)]
 pub(crate) fn is_wanted_behind(wanted: bool, same: usize, taken: usize) -> bool
     ensures { IsTrue result ↔ (IsTrue wanted × (same ≡ taken)) }
@@ -171,7 +171,7 @@ pub(crate) trait Production: Drop {
     ghost wants_memory: { Bool };
 
     /// Reads a front of the octets that spells a value, if one is found at once. None tells nothing of the octets. How many
-    /// octets are canonical is told where that is wanted: behind the first that is not, nobody asks.
+    /// of them are canonical is told only where `wanted` asks for it.
     ///
     /// Nothing is kept for a refusal, so this is the fast way where the octets spell a value; [`Production::read`] tells
     /// why they spell none.

@@ -208,9 +208,7 @@ fn read_short_field<T: Primitive>(
         return None;
     }
     let contents = &rest[..size];
-    let Ok(value) = T::read(alloc, contents) else {
-        return None;
-    };
+    let value = T::find(alloc, rest, size)?;
     let mark = if wanted {
         mark_of_short(&octets[..1], &value, context, contents)
     } else {
@@ -305,9 +303,7 @@ fn find_field<T: Primitive>(
         return None;
     }
     let contents = &rest[..size];
-    let Ok(value) = T::read(alloc, contents) else {
-        return None;
-    };
+    let value = T::find(alloc, rest, size)?;
     let mark = if wanted {
         mark_of_long(&octets[..start], &value, context, contents)
     } else {

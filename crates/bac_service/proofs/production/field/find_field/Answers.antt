@@ -16,9 +16,9 @@ returns-clause-found g c =
     let size = c.size-size.result in
     let head : Takes (λ (len : ℕ). Heads (heading c.args.context g.T.Primitive.APP len)) c.args.octets.now (size, start) = rw (c.size-size.ensures, c.taken-start.ensures) c.in_ok-head.ensures in
     let within : size ≤ length (drop start c.args.octets.now) = omega (arith, c.if-size-rest.false, length-drop start c.args.octets.now) in
-    field_taken g.T.Primitive.contents c.args.context g.T.Primitive.APP _ _ (record { lengths = g.met.T.Primitive.lengths; each_length = g.met.T.Primitive.each_length }) size c.args.octets.now start c.in-Ok.value
+    field_taken g.T.Primitive.contents c.args.context g.T.Primitive.APP _ _ (record { lengths = g.met.T.Primitive.lengths; each_length = g.met.T.Primitive.each_length }) size c.args.octets.now start c.in_ok-value.value
     head.within head.spelled
-    (record { within = within; spelled = record { spelled = rw take_rest at c.in-Ok.ensures.found; sized = length-take-le size (drop start c.args.octets.now) within } })
+    (record { within = within; spelled = record { spelled = rw take_rest at c.in_ok-value.ensures.found; sized = length-take-le size (drop start c.args.octets.now) within } })
 
 pub returns-clause-mark : goal.returns-clause-mark
 returns-clause-mark g c = λ w.
@@ -27,7 +27,7 @@ returns-clause-mark g c = λ w.
     let head : Takes (λ (len : ℕ). Heads (heading c.args.context g.T.Primitive.APP len)) c.args.octets.now (size, start) = rw (c.size-size.ensures, c.taken-start.ensures) c.in_ok-head.ensures in
     let within : size ≤ length (drop start c.args.octets.now) = omega (arith, c.if-size-rest.false, length-drop start c.args.octets.now) in
     let whole = take_add start size c.args.octets.now head.within in
-    let marked = subst (λ (l : List ℕ). HasMark (IsField (heading c.args.context g.T.Primitive.APP) g.T.Primitive.contents c.in-Ok.value) l c.if-wanted.mark) (sym whole)
+    let marked = subst (λ (l : List ℕ). HasMark (IsField (heading c.args.context g.T.Primitive.APP) g.T.Primitive.contents c.in_ok-value.value) l c.if-wanted.mark) (sym whole)
     (elim c.if-wanted.branch [
       | then-wanted v ↦ rw v.mark-is (rw take_rest at v.mark_of_long-mark.ensures)
       | else-wanted v ↦ absurd (let i : false ≡ true = sym v.if-wanted.false ∙ w in cc)
@@ -50,7 +50,7 @@ returns-clause-same g c =
     let inside : IfSome c.if-wanted.mark (λ place. place < start + size) =
     (elim c.if-wanted.branch [
       | then-wanted v ↦ rw v.mark-is (mark_place c.args.octets.now (start + size) v.mark_of_long-mark.result (omega (arith, within, head.within, length-drop start c.args.octets.now))
-          (subst (λ (l : List ℕ). HasMark (IsField (heading c.args.context g.T.Primitive.APP) g.T.Primitive.contents c.in-Ok.value) l v.mark_of_long-mark.result) (sym whole) (rw take_rest at v.mark_of_long-mark.ensures)))
+          (subst (λ (l : List ℕ). HasMark (IsField (heading c.args.context g.T.Primitive.APP) g.T.Primitive.contents c.in_ok-value.value) l v.mark_of_long-mark.result) (sym whole) (rw take_rest at v.mark_of_long-mark.ensures)))
       | else-wanted v ↦ rw v.mark-is tt
     ]) in
     same_below (start + size) c.if-wanted.mark c.same_octets.result inside c.same_octets.ensures.all c.same_octets.ensures.some
