@@ -9,6 +9,8 @@ mod prim;
 mod sizes;
 mod strings;
 
+ghost use Rattle.std.specs.Prelude.{◌≤◌, length};
+
 use crate::expectations::assert_same_of;
 use bac_tables::{Outcome, octets_of, rows_of};
 use bac_value::{Primitive, laws};
@@ -69,11 +71,38 @@ fn comes_to<T: Primitive>(
         Err(refusal) => Err((refusal.why.name(), refusal.place)),
     };
     assert_same_of(rt, found, wanted, octets);
-    let refused = match wanted {
-        Err((_, place)) => Some(place),
-        Ok(_) => None,
+    let (written, refused) = match wanted {
+        Err((_, place)) => (None, Some(place)),
+        Ok((written, _)) => (Some(written), None),
     };
     foresee::<T>(rt, octets, refused);
+    is_found::<T>(rt, alloc, octets, octets.len(), written);
+    let mut longer = Vec::new(alloc);
+    longer.extend_from_slice(octets).expect(rt, "memory");
+    longer.extend_from_slice(&[0xFF; 4]).expect(rt, "memory");
+    is_found::<T>(rt, alloc, &longer, octets.len(), written);
+}
+
+/// By the bound alone: so many octets at the front are found to be contents of a value of which these are written, or of
+/// none.
+fn is_found<T: Primitive>(
+    rt: &impl Abort,
+    alloc: Global,
+    octets: &[u8],
+    size: usize,
+    wanted: Option<&[u8]>,
+)
+    requires { size ≤ length octets.now }
+{
+    let mut out = Vec::new(alloc);
+    let found = match T::find(alloc, octets, size) {
+        Some(value) => {
+            value.write(&mut out).expect(rt, "memory");
+            Some(out.as_slice())
+        }
+        None => None,
+    };
+    assert_same_of(rt, found, wanted, (size, octets));
 }
 
 /// By the bound alone: the fronts of contents are hopeless behind the octet that is refused, and only there.
