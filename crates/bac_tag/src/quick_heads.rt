@@ -1,6 +1,6 @@
 //! Heads that are found at once.
 
-ghost use Rattle.std.specs.Prelude.{◌≡◌, ◌<◌, ◌≤◌, IsTrue, IfSome, length, take, drop};
+ghost use Rattle.std.specs.Prelude.{◌≡◌, ◌↔◌, ◌<◌, ◌≤◌, IsTrue, IfSome, length, take, drop};
 ghost use Rattle.bac_tag.specs.Spelling.{Takes};
 ghost use Rattle.bac_tag.specs.Heads.{Heads, IsValid, Opening, LengthIn, class_bit};
 ghost use Rattle.bac_tag.specs.Short.{headed, BeginsLong};
@@ -73,7 +73,7 @@ fn find_wide_length(octets: &[u8], start: usize) -> Option<(u32, usize)>
 /// length to those (clauses 20.2.1.2 and 20.2.1.3.1).
 #[inline(always)]
 pub fn begins_long(octets: &[u8], context: bool, number: u8) -> bool
-    ensures { IsTrue result → BeginsLong (class_bit context) number octets.now }
+    ensures { IsTrue result ↔ BeginsLong (class_bit context) number octets.now }
 {
     let [initial, ..] = octets else {
         return false;
