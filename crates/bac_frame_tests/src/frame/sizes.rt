@@ -1,6 +1,7 @@
 //! Frames of many octets.
 
-use super::is_canonical;
+use super::Frames;
+use crate::judging::is_canonical;
 use bac_tables::{enclosed, mixed};
 use std::alloc::Global;
 use std::process::Abort;
@@ -9,7 +10,7 @@ use std::process::Abort;
 fn are_kept(rt: &impl Abort, alloc: Global, head: &[u8], octets: &[u8], count: usize) {
     let behind = octets.get(..count).expect(rt, "so many octets");
     let frame = enclosed(alloc, head, behind, &[], &[]).expect(rt, "memory");
-    is_canonical(rt, alloc, &frame);
+    is_canonical::<Frames>(rt, alloc, &frame);
 }
 
 // Of example 67 of docs/EXAMPLES.md, and longer ones.

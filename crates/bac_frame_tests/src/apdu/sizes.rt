@@ -1,7 +1,8 @@
 //! APDUs of many octets.
 
-use super::{encoded, is_canonical};
+use super::{Apdus, encoded};
 use crate::expectations::assert_holds;
+use crate::judging::is_canonical;
 use bac_apdu::decode_apdu;
 use bac_tables::{enclosed, mixed};
 use std::alloc::Global;
@@ -10,7 +11,7 @@ use std::process::Abort;
 /// Behind the head the octets are kept, also where no mark is asked for.
 fn are_kept(rt: &impl Abort, alloc: Global, head: &[u8], octets: &[u8]) {
     let apdu = enclosed(alloc, head, octets, &[], &[]).expect(rt, "memory");
-    is_canonical(rt, alloc, &apdu);
+    is_canonical::<Apdus>(rt, alloc, &apdu);
     let found = decode_apdu(alloc, &apdu).expect(rt, "an APDU");
     let written = encoded(rt, alloc, &found);
     assert_holds(rt, written.as_slice() == apdu.as_slice(), head);

@@ -9,8 +9,8 @@ mod sizes;
 mod windows;
 
 use crate::expectations::{assert_holds, assert_same, assert_same_of};
+use crate::judging::Reading;
 use bac_apdu::{Apdu, append_apdu, decode_apdu_marked, encode_apdu};
-use bac_tables::{Outcome, octets_of, places_of, rows_of};
 use bac_tag::{OutOfMemory, Refusal, Why};
 use std::alloc::Global;
 use std::process::Abort;
@@ -65,67 +65,27 @@ fn is_equal_to_its_like(rt: &impl Abort, alloc: Global, apdu: &Apdu, canonical: 
     assert_holds(rt, are_equal(&copy, apdu), canonical);
 }
 
-/// The octets come to that. What is read is equal to what its canonical octets are, and to its copy.
-fn comes_to(
-    rt: &impl Abort,
-    alloc: Global,
-    octets: &[u8],
-    wanted: Result<(&[u8], Option<usize>), (&str, usize)>,
-) {
-    match decoded(rt, alloc, octets) {
-        Ok((found, mark)) => {
-            let written = encoded(rt, alloc, &found);
-            assert_same_of(rt, Ok((written.as_slice(), mark)), wanted, octets);
-            is_equal_to_its_like(rt, alloc, &found, &written);
-        }
-        Err(refusal) => {
-            let told = (refusal.why.name(), refusal.place);
-            assert_same_of(rt, Err(told), wanted, octets);
-        }
-    }
-}
+/// APDUs.
+pub struct Apdus;
 
-/// The octets are canonical.
-fn is_canonical(rt: &impl Abort, alloc: Global, octets: &[u8]) {
-    comes_to(rt, alloc, octets, Ok((octets, None)));
-}
-
-/// The octets are refused there, for the reason with this name.
-fn refuses(rt: &impl Abort, alloc: Global, octets: &[u8], reason: &str, place: usize) {
-    comes_to(rt, alloc, octets, Err((reason, place)));
-}
-
-/// Each row of the table is as it says.
-fn judge(rt: &impl Abort, alloc: Global, table: &str) {
-    for row in rows_of(table).expect(rt, "rows").iter() {
-        let octets = octets_of(row.octets).expect(rt, "octets");
-        judge_row(rt, alloc, &octets, row.outcome().expect(rt, "an outcome"));
-    }
-}
-
-/// The octets come to this.
-fn judge_row(rt: &impl Abort, alloc: Global, octets: &[u8], outcome: Outcome) {
-    match outcome {
-        Outcome::Itself => is_canonical(rt, alloc, octets),
-        Outcome::Written(written, mark) => {
-            let written = octets_of(written).expect(rt, "octets");
-            comes_to(rt, alloc, octets, Ok((&written, Some(mark))));
-        }
-        Outcome::Refused(reason, place) => refuses(rt, alloc, octets, reason, place),
-    }
-}
-
-/// Of canonical octets each front is one of these lengths and canonical, or it is Short.
-fn fronts(rt: &impl Abort, alloc: Global, octets: &str, wholes: &str) {
-    let octets = octets_of(octets).expect(rt, "octets");
-    let wholes = places_of(wholes).expect(rt, "places");
-    is_canonical(rt, alloc, &octets);
-    for length in 0..octets.len() {
-        let front = &octets[..length];
-        if wholes.contains(&length) {
-            is_canonical(rt, alloc, front);
-        } else {
-            refuses(rt, alloc, front, "Short", length);
+impl Reading for Apdus {
+    /// The octets come to that. What is read is equal to what its canonical octets are, and to its copy.
+    fn comes_to(
+        rt: &impl Abort,
+        alloc: Global,
+        octets: &[u8],
+        wanted: Result<(&[u8], Option<usize>), (&str, usize)>,
+    ) {
+        match decoded(rt, alloc, octets) {
+            Ok((found, mark)) => {
+                let written = encoded(rt, alloc, &found);
+                assert_same_of(rt, Ok((written.as_slice(), mark)), wanted, octets);
+                is_equal_to_its_like(rt, alloc, &found, &written);
+            }
+            Err(refusal) => {
+                let told = (refusal.why.name(), refusal.place);
+                assert_same_of(rt, Err(told), wanted, octets);
+            }
         }
     }
 }

@@ -1,6 +1,7 @@
 //! Addresses of 0, 1, 7, 8 and 255 octets.
 
-use super::{is_canonical, refuses};
+use super::Frames;
+use crate::judging::{is_canonical, refuses};
 use bac_tables::{enclosed, mixed};
 use std::alloc::Global;
 use std::process::Abort;
@@ -16,10 +17,10 @@ fn addressed(rt: &impl Abort, alloc: Global, count: u8) -> Vec<u8> {
 /// Such a frame is read and written, and refused Short where an octet of its address is missing.
 fn is_read(rt: &impl Abort, alloc: Global, count: u8) {
     let octets = addressed(rt, alloc, count);
-    is_canonical(rt, alloc, &octets);
+    is_canonical::<Frames>(rt, alloc, &octets);
     let cut = 5 + usize::from(count) - 1;
     let front = octets.get(..cut).expect(rt, "the front of its address");
-    refuses(rt, alloc, front, "Short", cut);
+    refuses::<Frames>(rt, alloc, front, "Short", cut);
 }
 
 #[test]
@@ -28,7 +29,7 @@ fn lengths_are_kept(rt: HostRuntime) {
     is_read(&rt, rt.alloc(), 7);
     is_read(&rt, rt.alloc(), 8);
     is_read(&rt, rt.alloc(), 255);
-    is_canonical(&rt, rt.alloc(), &[1, 0x20, 0, 5, 0, 255, 0x10, 9]);
+    is_canonical::<Frames>(&rt, rt.alloc(), &[1, 0x20, 0, 5, 0, 255, 0x10, 9]);
     let octets = addressed(&rt, rt.alloc(), 0);
-    refuses(&rt, rt.alloc(), &octets, "Address", 7);
+    refuses::<Frames>(&rt, rt.alloc(), &octets, "Address", 7);
 }

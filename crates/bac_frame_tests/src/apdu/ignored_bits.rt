@@ -1,6 +1,7 @@
 //! Bits that are ignored, and 0 in canonical form (clause 20.1).
 
-use super::judge;
+use super::Apdus;
+use crate::judging::judge;
 
 #[test]
 fn those_of_requests_are_ignored(rt: HostRuntime) {
@@ -20,7 +21,7 @@ fn those_of_requests_are_ignored(rt: HostRuntime) {
         0F F5 01 00 04 06 -> 0E 75 01 00 04 06, differs at 0
         09 85 01 00 04 06 -> 08 05 01 00 04 06, differs at 0
     ";
-    judge(&rt, rt.alloc(), rows);
+    judge::<Apdus>(&rt, rt.alloc(), rows);
 }
 
 #[test]
@@ -57,5 +58,5 @@ fn those_of_answers_are_ignored(rt: HostRuntime) {
         78 03 04       -> 70 03 04, differs at 0
         7F 03 04       -> 71 03 04, differs at 0
     ";
-    judge(&rt, rt.alloc(), rows);
+    judge::<Apdus>(&rt, rt.alloc(), rows);
 }

@@ -1,7 +1,8 @@
 //! The APDUs of the worked examples.
 
-use super::{appended, decoded, judge};
+use super::{Apdus, appended, decoded};
 use crate::expectations::assert_same;
+use crate::judging::judge;
 use bac_tables::octets_of;
 use std::alloc::Global;
 use std::process::Abort;
@@ -29,7 +30,7 @@ fn requests_and_answers_are_read(rt: HostRuntime) {
         80                                                 -> PduType at 0
         3C 01 00 00 0C                                     -> Window at 3
     ";
-    judge(&rt, rt.alloc(), rows);
+    judge::<Apdus>(&rt, rt.alloc(), rows);
 }
 
 // Of examples 17 to 21, 24, 51, 52, 64 and 74 to 81 of docs/EXAMPLES.md.
@@ -62,7 +63,7 @@ fn other_services_are_read(rt: HostRuntime) {
         00 05 01 0C 0C 00 00 00 05 1D 05 01 00 00 00 00                                    -> Content at 11
         10 00 C4 02 00 00 01 22 01 E0 91 03 23 01 00 00                                    -> Content at 13
     ";
-    judge(&rt, rt.alloc(), rows);
+    judge::<Apdus>(&rt, rt.alloc(), rows);
 }
 
 /// With each allocation refused in turn the octets are read and written when memory is asked for again, and what stood

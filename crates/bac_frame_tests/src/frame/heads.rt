@@ -1,12 +1,13 @@
 //! Heads that end early, ignored bits, and versions.
 
-use super::{fronts, judge, refuses};
+use super::Frames;
+use crate::judging::{fronts, judge, refuses};
 
 #[test]
 fn versions_but_1_are_refused(rt: HostRuntime) {
     for version in 0..=255 {
         if version != 1 {
-            refuses(&rt, rt.alloc(), &[version, 0, 0x10, 9], "Version", 0);
+            refuses::<Frames>(&rt, rt.alloc(), &[version, 0, 0x10, 9], "Version", 0);
         }
     }
 }
@@ -15,17 +16,17 @@ fn versions_but_1_are_refused(rt: HostRuntime) {
 #[test]
 fn octets_are_missing(rt: HostRuntime) {
     let alloc = rt.alloc();
-    fronts(&rt, alloc, "01 00 10 09 AA", "4");
-    fronts(&rt, alloc, "01 20 00 05 01 0A FF 10 09 AA", "9");
-    fronts(&rt, alloc, "01 20 FF FF 00 FF 10 09", "none");
-    fronts(&rt, alloc, "01 08 00 07 02 01 02 10 09", "none");
-    fronts(
+    fronts::<Frames>(&rt, alloc, "01 00 10 09 AA", "4");
+    fronts::<Frames>(&rt, alloc, "01 20 00 05 01 0A FF 10 09 AA", "9");
+    fronts::<Frames>(&rt, alloc, "01 20 FF FF 00 FF 10 09", "none");
+    fronts::<Frames>(&rt, alloc, "01 08 00 07 02 01 02 10 09", "none");
+    fronts::<Frames>(
         &rt,
         alloc,
         "01 28 00 05 01 0A 00 07 02 01 02 FF 10 09",
         "none",
     );
-    fronts(&rt, alloc, "01 A8 00 05 01 0A 00 07 02 01 02 FF 12", "none");
+    fronts::<Frames>(&rt, alloc, "01 A8 00 05 01 0A 00 07 02 01 02 FF 12", "none");
 }
 
 #[test]
@@ -47,5 +48,5 @@ fn reserved_bits_are_ignored(rt: HostRuntime) {
         01 68 00 05 01 07 00 06 02 08 09 FF F0  -> PduType at 12
         01 08 00 06 01 08 3C 01 00 00 0C        -> Window at 9
     ";
-    judge(&rt, rt.alloc(), rows);
+    judge::<Frames>(&rt, rt.alloc(), rows);
 }

@@ -1,7 +1,8 @@
 //! The frames of the worked examples.
 
-use super::{appended, decoded, judge};
+use super::{Frames, appended, decoded};
 use crate::expectations::assert_same;
+use crate::judging::judge;
 use bac_tables::octets_of;
 use std::alloc::Global;
 use std::process::Abort;
@@ -35,7 +36,7 @@ fn requests_and_answers_are_read(rt: HostRuntime) {
         01 04 04 05 01 0C 0C 00 00 00 05 19 55                      -> 01 04 00 05 01 0C 0C 00 00 00 05 19 55, differs at 2
         01 04 00 05 01 0C 0D FF FF FF FF FF 19 55                   -> Length at 8
     ";
-    judge(&rt, rt.alloc(), rows);
+    judge::<Frames>(&rt, rt.alloc(), rows);
 }
 
 // Of examples 17 to 22, 24, 54 to 56 and 74 to 81 of docs/EXAMPLES.md.
@@ -63,7 +64,7 @@ fn other_services_and_messages_are_read(rt: HostRuntime) {
         01 80 06 01 00 02 01 00                                     -> itself
         01 80 06 02 00 02 01 00                                     -> Short at 8
     ";
-    judge(&rt, rt.alloc(), rows);
+    judge::<Frames>(&rt, rt.alloc(), rows);
 }
 
 /// The canonical octets of the frame stand behind others.

@@ -1,14 +1,15 @@
 //! Each octet for a window: 1 to 127 are one, others are refused where they stand.
 
-use super::{is_canonical, refuses};
+use super::Apdus;
+use crate::judging::{is_canonical, refuses};
 use std::alloc::Global;
 use std::process::Abort;
 
 /// The octet at the place is taken as a window or refused.
 fn is_judged(rt: &impl Abort, alloc: Global, octets: &[u8], place: usize) {
     match octets.get(place).expect(rt, "an octet") {
-        1..=127 => is_canonical(rt, alloc, octets),
-        _ => refuses(rt, alloc, octets, "Window", place),
+        1..=127 => is_canonical::<Apdus>(rt, alloc, octets),
+        _ => refuses::<Apdus>(rt, alloc, octets, "Window", place),
     }
 }
 

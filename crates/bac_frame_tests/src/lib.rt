@@ -1,0 +1,19 @@
+//! Tests of bac_apdu, bac_segment, bac_npdu and bac_text: what no clause says, values from outside, that the calls
+//! succeed, and the lines of the worked examples. They stand in a crate of their own, over public calls alone, since a
+//! crate with tests is proved twice.
+#![tactic(auto)]
+
+#[cfg(test)]
+mod apdu;
+#[cfg(test)]
+mod examples;
+#[cfg(test)]
+mod expectations;
+#[cfg(test)]
+mod frame;
+#[cfg(test)]
+mod judging;
+#[cfg(test)]
+mod segment;
+#[cfg(test)]
+mod text;

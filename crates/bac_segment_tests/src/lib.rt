@@ -1,8 +1,0 @@
-//! Tests of bac_segment: what no clause says, values from outside, and that the calls succeed. They stand in a crate of
-//! their own, over public calls alone, since a crate with tests is proved twice.
-#![tactic(auto)]
-
-#[cfg(test)]
-mod expectations;
-#[cfg(test)]
-mod segment;
