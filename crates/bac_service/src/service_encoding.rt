@@ -12,6 +12,9 @@ use crate::service::Service;
 use bac_tag::OutOfMemory;
 use std::alloc::Global;
 
+/// For how many octets there is room at first, as most services want.
+const FIRST_ROOM: usize = 64;
+
 /// Appends the least spelling of a service. Where memory is refused some octets may be there.
 fn append_production(service: &Service, out: &mut Vec<u8>) -> Result<(), OutOfMemory>
     ensures placed { IsPlaced (value_of service.now) }
@@ -82,7 +85,7 @@ pub fn append_service(service: &Service, out: &mut Vec<u8>) -> Result<(), OutOfM
 pub fn encode_service(alloc: Global, service: &Service) -> Result<Vec<u8>, OutOfMemory>
     ensures { IfOk result (λ out. IsLeast (SpellsService true 32 (value_of service.now).kind (value_of service.now).choice (value_of service.now)) out.items) }
 {
-    let mut out = Vec::new(alloc);
+    let mut out = Vec::with_capacity(alloc, FIRST_ROOM)?;
     append_service(service, &mut out)?;
     Ok(out)
 }
