@@ -8,6 +8,9 @@ use crate::apdu::Apdu;
 use bac_tag::OutOfMemory;
 use std::alloc::Global;
 
+/// For how many octets there is room at first, as most APDUs want.
+const FIRST_ROOM: usize = 64;
+
 /// Appends the canonical octets of an APDU, its least spelling, behind what stands in `out`.
 ///
 /// # Errors
@@ -36,7 +39,7 @@ pub fn append_apdu(apdu: &Apdu, out: &mut Vec<u8>) -> Result<(), OutOfMemory>
 pub fn encode_apdu(alloc: Global, apdu: &Apdu) -> Result<Vec<u8>, OutOfMemory>
     ensures { IfOk result (λ out. IsLeast (SpellsApdu (value_of apdu.now)) out.items) }
 {
-    let mut out = Vec::new(alloc);
+    let mut out = Vec::with_capacity(alloc, FIRST_ROOM)?;
     append_apdu(apdu, &mut out)?;
     Ok(out)
 }
