@@ -1,6 +1,7 @@
 //! The program `bac_bench`: how long reading, marking and writing values takes, beside a plain copy of the same
-//! octets in the same run, how many services are decoded, marked and encoded in a second, how many APDUs and frames, and
-//! how long a message of many segments takes to be cut and joined, and a stream of records to be taken in.
+//! octets in the same run, how many services are decoded, marked and encoded in a second, how many APDUs and frames, how
+//! long a value of a mebibyte takes in each of these, how long a message of many segments takes to be cut and joined, and
+//! a stream of records to be taken in.
 //!
 //! Without a word it does each piece of work once and prints what is the same in every run; with the word
 //! `time` it measures, and prints a table.
@@ -13,6 +14,7 @@ mod cases;
 mod faults;
 mod frames;
 mod intakes;
+mod large;
 mod layers;
 mod modes;
 mod rounds;
@@ -65,6 +67,7 @@ fn run_all(rt: &(impl Print + AllocGlobal + Clock), mode: Mode) -> Result<(), Be
     run_services(rt, mode)?;
     run_apdus(rt, mode)?;
     run_frames(rt, mode)?;
+    run_large_value(rt, mode)?;
     segments::run(rt, mode, &contents(rt.alloc(), MESSAGE)?)?;
     intakes::run(rt, mode)
 }
@@ -238,6 +241,12 @@ fn run_frames(rt: &(impl Print + AllocGlobal + Clock), mode: Mode) -> Result<(),
         head: 6,
     };
     frames::add(rt, mode, &answer)
+}
+
+/// A WriteProperty with a value of one string.
+fn run_large_value(rt: &(impl Print + AllocGlobal + Clock), mode: Mode) -> Result<(), BenchFault> {
+    let string = contents(rt.alloc(), LARGEST)?;
+    large::run(rt, mode, &one_octet_string(rt.alloc(), &string)?)
 }
 
 /// A ReadPropertyMultiple-ACK of one object with twenty results, a Real each.
