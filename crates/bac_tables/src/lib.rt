@@ -1,5 +1,5 @@
 //! Octets for the tests of the library: tables of them, written as texts, by which tests are short and quick to prove,
-//! and values of many octets. The tests stand in two crates, which share this one.
+//! and values of many octets. The crates of tests share this one.
 #![tactic(auto)]
 
 mod sizes;
