@@ -1,12 +1,12 @@
 # The commands of this repository, one line each:
 #   make         proves and builds the program, and leaves it in bin/bactool
-#   make test    the checks of the documents, then the merge gate: every proof from nothing, every test, and the
-#                examples in C, Python and Rust on the library of what was proved
+#   make test    the checks of the documents, then the merge gate: every proof from nothing, every test, the program on
+#                the files of examples, and the examples in C, Python and Rust on the library of what was proved
 #   make check   proves what changed since the last check, while editing
 #   make bench   measures the program on a million records, the calls from C on the same, and values, services, APDUs
 #                and frames of the library
-#   make memory  runs the library's tests and the program with each allocation refused in turn (by hand: it takes
-#                three quarters of an hour)
+#   make memory  runs tests of the library with each of the first twelve allocations refused in turn, and the program
+#                with each of the first sixty (by hand: it takes three quarters of an hour)
 #   make wrong-bodies  tries the wrong bodies that the gate leaves out (by hand: it takes an hour and more)
 #   make lib     proves and builds the library for C, and leaves it in lib/libbactool.a and lib/libbactool.so
 #   make try-library  runs it from C, Python and Rust on the examples, and then tries hostile use of it (some seconds)
@@ -25,6 +25,7 @@ build: need-rt
 test: need-rt
 	@.ci/docs
 	@rt ci
+	@scripts/try-program
 	@scripts/gate-library
 
 check: need-rt
