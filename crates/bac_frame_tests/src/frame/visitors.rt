@@ -5,6 +5,7 @@ use bac_npdu::{Body, FrameHead, FrameVisitor, append_frame, visit_frame};
 use bac_tables::octets_of;
 use bac_tag::{OutOfMemory, Refusal, Why};
 use std::alloc::Global;
+use std::process::Abort;
 use std::test::Fail;
 
 /// Appends the canonical octets.
@@ -97,6 +98,18 @@ impl FrameVisitor for Tell {
     }
 }
 
+/// What the head says, and the octets of the frame that is kept, at the latest when memory is asked for again.
+pub(super) fn told(rt: &impl Abort, alloc: Global, octets: &[u8]) -> Vec<u8> {
+    let mut out = Vec::new(alloc);
+    let made = visit_frame(alloc, octets, Tell { alloc }, &mut out).expect(rt, "a frame");
+    if made.is_err() {
+        out.clear();
+        let made = visit_frame(alloc, octets, Tell { alloc }, &mut out).expect(rt, "a frame");
+        made.expect(rt, "memory");
+    }
+    out
+}
+
 // Of example 54 of docs/EXAMPLES.md and others; the last address wants memory.
 #[test]
 fn heads_say_what_stands_in_front(rt: HostRuntime) -> Result<(), Fail> {
@@ -112,17 +125,12 @@ fn heads_say_what_stands_in_front(rt: HostRuntime) -> Result<(), Fail> {
             "00 00 00 09 01 02 03 04 05 06 07 08",
         ),
     ];
-    for (octets, told) in rows {
+    for (octets, wanted) in rows {
         let octets = octets_of(octets)?;
-        let told = octets_of(told)?;
-        let alloc = rt.alloc();
-        let mut out = Vec::new(alloc);
-        if visit_frame(alloc, &octets, Tell { alloc }, &mut out)?.is_err() {
-            out.clear();
-            visit_frame(alloc, &octets, Tell { alloc }, &mut out)??;
-        }
-        let (head, frame) = out.split_at_checked(told.len()).ok_or("what is told")?;
-        assert_same(&rt, head, told.as_slice());
+        let wanted = octets_of(wanted)?;
+        let out = told(&rt, rt.alloc(), &octets);
+        let (head, frame) = out.split_at_checked(wanted.len()).ok_or("what is told")?;
+        assert_same(&rt, head, wanted.as_slice());
         assert_same(&rt, frame, octets.as_slice());
     }
     Ok(())
