@@ -263,6 +263,34 @@ fn records_of_each_size_are_dealt_with(rt: HostRuntime) {
     }
 }
 
+/// The run over the octets, as the one record of a file, tolerates it and writes this.
+fn tolerates(rt: &impl Abort, alloc: Global, run: Run, octets: &[u8], output: &[u8]) {
+    let want = Summary {
+        records: 1,
+        canonical: 0,
+        refused: 0,
+    };
+    let file = record_of(rt, alloc, octets);
+    let (answer, written) = made(alloc, run, Mode::Tolerant, &file);
+    assert_same_of(rt, answer, Ok(want), (run, octets.len()));
+    assert_holds(rt, written.as_slice() == output, (run, octets.len()));
+}
+
+// A reserved bit stands in front of opaque octets of a service.
+#[test]
+fn long_records_are_tolerated(rt: HostRuntime) {
+    let alloc = rt.alloc();
+    let behind = vec![in alloc; 0xAA; 64_996].expect(&rt, "memory");
+    let octets = enclosed(alloc, &[1, 0x40, 0x10, 9], &behind, &[], &[]).expect(&rt, "memory");
+    let canonical = record_of(&rt, alloc, &opaque(&rt, alloc, 65_000));
+    tolerates(&rt, alloc, Run::Normalise, &octets, &canonical);
+    let front = b"1 prio=0 reply=0 unconf opaque choice=9 octets=";
+    let digits = vec![in alloc; b'A'; 2 * 64_996].expect(&rt, "memory");
+    let line = enclosed(alloc, front, &digits, b"\n", &[]).expect(&rt, "memory");
+    tolerates(&rt, alloc, Run::Show, &octets, &line);
+    tolerates(&rt, alloc, Run::Check, &octets, b"1 tolerated at 1\n");
+}
+
 /// How many octets the writer of the next test has room for.
 const ROOM: usize = 1_024;
 

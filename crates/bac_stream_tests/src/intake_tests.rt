@@ -5,7 +5,7 @@ ghost use Rattle.std.specs.Prelude.{◌≤◌};
 use crate::expectations::{assert_holds, assert_same, assert_same_of};
 use bac_npdu::{Frame, encode_frame};
 use bac_stream::{FeedFault, Intake, Mode};
-use bac_tables::{enclosed, octets_of, rows_of};
+use bac_tables::{enclosed, mixed, octets_of, rows_of};
 use bac_tag::Refusal;
 use std::alloc::{AllocError, Global};
 use std::process::Abort;
@@ -341,6 +341,20 @@ fn canonical_in_pieces(rt: &impl Abort, alloc: Global, stream: &[u8], size: usiz
         }
     }
     canonical
+}
+
+// The longest record, where a reserved bit stands in front of opaque octets of a service.
+#[test]
+fn long_tolerated_records_come_in_pieces(rt: HostRuntime) {
+    let alloc = rt.alloc();
+    let behind = mixed(alloc, 65_531).expect(&rt, "memory");
+    let front = [0xFF, 0xFF, 1, 0x40, 0x10, 9];
+    let stream = enclosed(alloc, &front, &behind, &[], &[]).expect(&rt, "memory");
+    let wanted = enclosed(alloc, &[1, 0, 0x10, 9], &behind, &[], &[]).expect(&rt, "memory");
+    for size in [1_000, 65_536, 65_537] {
+        let found = canonical_in_pieces(&rt, alloc, &stream, size);
+        assert_holds(&rt, found == wanted, size);
+    }
 }
 
 /// A record of each line of the table.

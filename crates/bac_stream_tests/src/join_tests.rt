@@ -1,11 +1,11 @@
-//! Frames with segments, joined to services: worked examples of docs/EXAMPLES.md.
+//! Frames with segments, joined to services: worked examples of docs/EXAMPLES.md, and long messages.
 
-use crate::expectations::{assert_same, assert_same_of};
+use crate::expectations::{assert_holds, assert_same, assert_same_of};
 use bac_npdu::{Frame, decode_frame};
 use bac_segment::{Desk, Key, TakeFault};
 use bac_service::encode_service;
 use bac_stream::{JoinFault, Joined, join};
-use bac_tables::octets_of;
+use bac_tables::{enclosed, mixed, octets_of};
 use bac_tag::Why;
 use std::alloc::{AllocError, Global};
 use std::process::Abort;
@@ -159,6 +159,43 @@ fn requests_are_joined_as_requests(rt: HostRuntime) {
     let second = "01 04 08 05 07 01 04 0C 05 19 55";
     tells(&rt, alloc, &mut desk, 3, first, "kept");
     tells_message(&rt, alloc, &mut desk, 3, second, "0C 00 00 00 05 19 55");
+}
+
+/// How many octets each of the 250 segments of a long message has.
+const PIECE: usize = 240;
+
+/// The segment of a long answer with this choice and number. More are to come unless it is the last.
+fn segment_of(rt: &impl Abort, alloc: Global, choice: u8, number: u8, octets: &[u8]) -> Frame {
+    let start = PIECE * usize::from(number);
+    let piece = octets.get(start..start + PIECE).expect(rt, "a piece");
+    let kind = if number < 249 { 0x3C } else { 0x38 };
+    let head = [1, 0, kind, 1, number, 4, choice];
+    let octets = enclosed(alloc, &head, piece, &[], &[]).expect(rt, "memory");
+    decode_frame(alloc, &octets).expect(rt, "a frame")
+}
+
+/// The segments of the octets of a service are joined to it.
+fn is_joined(rt: &impl Abort, alloc: Global, choice: u8, octets: &[u8]) {
+    let mut desk = Desk::new(alloc).expect(rt, "memory");
+    let whole = message_of(alloc, octets).expect(rt, "memory");
+    for number in 0..=249 {
+        let frame = segment_of(rt, alloc, choice, number, octets);
+        let text = told(rt, alloc, &mut desk, 1, &frame).expect(rt, "memory");
+        let want = if number < 249 { "kept" } else { &whole };
+        assert_holds(rt, text.as_str() == want, number);
+    }
+}
+
+// Of 60,000 octets: opaque ones, and an answer whose value is an octet string of 59,987.
+#[test]
+fn long_messages_are_joined(rt: HostRuntime) {
+    let alloc = rt.alloc();
+    let octets = mixed(alloc, 60_000).expect(&rt, "memory");
+    is_joined(&rt, alloc, 6, &octets);
+    let front = octets_of("0C 00 00 00 05 19 55 3E 65 FE EA 53").expect(&rt, "octets");
+    let contents = mixed(alloc, 59_987).expect(&rt, "memory");
+    let answer = enclosed(alloc, &front, &contents, &[0x3F], &[]).expect(&rt, "memory");
+    is_joined(&rt, alloc, 12, &answer);
 }
 
 /// Joins the frame, where memory is refused for it a second time: the desk has not changed then. Tells whether the
