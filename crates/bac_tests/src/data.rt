@@ -1,6 +1,8 @@
 //! Of open values.
 
 mod building;
+mod copies;
+mod long_tolerated;
 mod marking;
 mod reading;
 mod sizes;

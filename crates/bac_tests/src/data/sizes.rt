@@ -10,7 +10,7 @@ use std::alloc::Global;
 use std::process::Abort;
 
 /// Numbers of octets of contents, and the octets of a head that tell them (clause 20.2.1.3.1).
-const SIZES: [(usize, &[u8]); 3] = [
+pub(super) const SIZES: [(usize, &[u8]); 3] = [
     (1_497, &[0xFE, 5, 0xD9]),
     (65_535, &[0xFE, 0xFF, 0xFF]),
     (1_048_576, &[0xFF, 0, 0x10, 0, 0]),
@@ -20,7 +20,7 @@ const SIZES: [(usize, &[u8]); 3] = [
 const NUMBERS: std::ops::Range<u16> = 1_000..11_000;
 
 /// With number 3 the value is written as these octets, behind others.
-fn is_written(rt: &impl Abort, alloc: Global, value: &Any, octets: &[u8]) {
+pub(super) fn is_written(rt: &impl Abort, alloc: Global, value: &Any, octets: &[u8]) {
     let front = vec![in alloc; 0xAA; 65_535].expect(rt, "memory");
     let mut out = Vec::from_slice(alloc, &front).expect(rt, "memory");
     write_any(value, 3, &mut out).expect(rt, "memory");
