@@ -1,8 +1,11 @@
 //! Of services. Where memory is refused a call is made again, so that the tests can be run with each allocation
 //! refused in turn (`rt try --test --fail-alloc N`).
 
+mod appending;
+mod copies;
 mod cov_notification;
 mod i_am;
+mod long_tolerated;
 mod opaque;
 mod read_property;
 mod read_property_ack;

@@ -18,14 +18,14 @@ use std::alloc::Global;
 use std::process::Abort;
 
 /// Numbers of octets of contents, and the octets of a head that tell them (clause 20.2.1.3.1).
-const SIZES: [(usize, &[u8]); 3] = [
+pub(super) const SIZES: [(usize, &[u8]); 3] = [
     (1_497, &[0xFE, 5, 0xD9]),
     (65_535, &[0xFE, 0xFF, 0xFF]),
     (1_048_576, &[0xFF, 0, 0x10, 0, 0]),
 ];
 
 /// The object 0:5 and its property 85, up to the length of an octet string.
-const PROPERTY: [u8; 9] = [0x0C, 0, 0, 0, 5, 0x19, 0x55, 0x3E, 0x65];
+pub(super) const PROPERTY: [u8; 9] = [0x0C, 0, 0, 0, 5, 0x19, 0x55, 0x3E, 0x65];
 
 /// The object 0:5, and the first result's property 85, up to the same.
 const RESULT: [u8; 10] = [0x0C, 0, 0, 0, 5, 0x1E, 0x29, 0x55, 0x4E, 0x65];
@@ -42,7 +42,7 @@ const WRITTEN: [u8; 10] = [0x0C, 0, 0x40, 0, 1, 0x1E, 9, 0x55, 0x2E, 0x65];
 const NUMBERS: std::ops::Range<u16> = 1_000..11_000;
 
 /// The service is encoded as these octets. It tells how many there are, since there may be a mebibyte of them.
-fn is_encoded(rt: &impl Abort, alloc: Global, service: &Service, octets: &[u8]) {
+pub(super) fn is_encoded(rt: &impl Abort, alloc: Global, service: &Service, octets: &[u8]) {
     let written = encode_service(alloc, service).expect(rt, "memory");
     assert_holds(rt, written.as_slice() == octets, octets.len());
 }
