@@ -68,6 +68,46 @@ fn values_of_every_size_are_decoded_behind_longer_heads(rt: HostRuntime) {
     }
 }
 
+/// An octet string in a list, behind these octets, has its number in an extra octet.
+fn listed_string_comes_to(
+    rt: &impl Abort,
+    alloc: Global,
+    service: (Kind, u8),
+    front: &[u8],
+    length: &[u8],
+    contents: &[u8],
+    behind: &[u8],
+) {
+    let string = enclosed(alloc, length, contents, behind, &[]).expect(rt, "memory");
+    let octets = enclosed(alloc, front, &[0xF5, 6], &string, &[]).expect(rt, "memory");
+    let canonical = enclosed(alloc, front, &[0x65], &string, &[]).expect(rt, "memory");
+    comes_to(rt, alloc, service, &octets, &canonical, front.len());
+}
+
+/// The values of examples 18, 20 and 74 of docs/EXAMPLES.md are such an octet string, alone in their lists.
+fn listed_strings_come_to(rt: &impl Abort, alloc: Global, length: &[u8], contents: &[u8]) {
+    let (service, behind) = ((Kind::ComplexAck, 14), [0x4F, 0x1F]);
+    let front = [0x0C, 0, 0, 0, 5, 0x1E, 0x29, 0x55, 0x4E];
+    listed_string_comes_to(rt, alloc, service, &front, length, contents, &behind);
+    let (service, behind) = ((Kind::Unconfirmed, 2), [0x2F, 0x4F]);
+    let front = [
+        9, 0x12, 0x1C, 2, 0, 0, 4, 0x2C, 0, 0, 0, 0x0A, 0x39, 0, 0x4E, 9, 0x55, 0x2E,
+    ];
+    listed_string_comes_to(rt, alloc, service, &front, length, contents, &behind);
+    let (service, behind) = ((Kind::Confirmed, 16), [0x2F, 0x1F]);
+    let front = [0x0C, 0, 0x40, 0, 1, 0x1E, 9, 0x55, 0x2E];
+    listed_string_comes_to(rt, alloc, service, &front, length, contents, &behind);
+}
+
+#[test]
+fn values_of_every_size_are_decoded_in_lists_behind_longer_heads(rt: HostRuntime) {
+    let alloc = rt.alloc();
+    for (size, length) in SIZES {
+        let contents = mixed(alloc, size).expect(&rt, "memory");
+        listed_strings_come_to(&rt, alloc, length, &contents);
+    }
+}
+
 /// The number of octets of a string is told in more octets than it needs, in an answer and in a request.
 fn wider_length_is_read(rt: &impl Abort, alloc: Global, size: usize, length: &[u8], wider: &[u8]) {
     let contents = mixed(alloc, size).expect(rt, "memory");
