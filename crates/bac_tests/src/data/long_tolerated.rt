@@ -35,7 +35,7 @@ fn string_comes_to(
     comes_to(rt, alloc, &octets, &canonical, mark);
 }
 
-/// The number of the opening tag, of the string or of the closing tag stands in an extra octet.
+/// The number of the opening tag, of the string, of the closing tag or of all three stands in an extra octet.
 #[test]
 fn strings_of_every_size_are_read_behind_longer_heads(rt: HostRuntime) {
     let alloc = rt.alloc();
@@ -53,6 +53,8 @@ fn strings_of_every_size_are_read_behind_longer_heads(rt: HostRuntime) {
             &[0xFF, 3],
             last,
         );
+        let all = [0xFE, 3, 0xF5, 6];
+        string_comes_to(&rt, alloc, &all, length, &contents, &[0xFF, 3], 0);
     }
 }
 
