@@ -5,8 +5,9 @@ ghost use Rattle.bac_segment.specs.Deliveries.{delivery, key_of, is_request, inv
 
 use bac_apdu::{SegHead, Segment};
 
-/// A sender, as the caller numbers them, and what the segments of one message have in common.
-#[derive(Clone, Copy, Debug, PartialEq, Eq)]
+/// A sender, as the caller numbers them, and what the segments of one message have in common. Keys are in order by their
+/// fields, the first field first; false comes before true.
+#[derive(Clone, Copy, Debug, PartialEq, Eq, PartialOrd, Ord, Hash)]
 pub struct Key {
     /// The number that the caller gives the sender.
     pub peer: u32,

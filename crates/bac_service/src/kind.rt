@@ -6,8 +6,8 @@ ghost use Rattle.std.specs.Option.{is_some};
 ghost use Rattle.bac_service.specs.declared.kind.Kind.TheVariants.{Error};
 ghost use Rattle.bac_service.specs.ServiceTable.{service_error, rows, production_of};
 
-/// The APDUs that carry a service (clause 20.1).
-#[derive(Clone, Copy, Debug, PartialEq, Eq, Hash)]
+/// The APDUs that carry a service (clause 20.1). The kinds are in order as they stand here.
+#[derive(Clone, Copy, Debug, PartialEq, Eq, PartialOrd, Ord, Hash)]
 pub enum Kind {
     /// A request that wants an answer (clause 20.1.2).
     Confirmed,

@@ -65,6 +65,8 @@ impl Display for Why {
     }
 }
 
+impl Error for Why {}
+
 /// Where and why an input is refused.
 ///
 /// # Examples

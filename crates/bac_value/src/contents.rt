@@ -12,7 +12,9 @@ use bac_tag::OutOfMemory;
 
 /// Appends what is written of the value whose contents these are, of the type with that application number
 /// (clause 20.2.1.4), at most 12.
-/// Where memory is refused `out` stays as it was.
+///
+/// # Errors
+/// `OutOfMemory` where memory is refused. `out` then stays as it was.
 pub fn append_written(number: u8, contents: &[u8], out: &mut Vec<u8>) -> Result<(), OutOfMemory>
     requires number { number ≤ 12 }
     requires contents { (prim : PrimitiveValue) × ContentsOf number prim contents.now }
@@ -22,8 +24,8 @@ pub fn append_written(number: u8, contents: &[u8], out: &mut Vec<u8>) -> Result<
     at_number!(number, append_variant(contents, out))
 }
 
-/// How many octets are written of the value whose contents these are, of the type with that application number,
-/// at most 12.
+/// Returns how many octets are written of the value whose contents these are, of the type with that application number
+/// (clause 20.2.1.4), at most 12.
 pub fn written_len_of(number: u8, contents: &[u8]) -> usize
     requires number { number ≤ 12 }
     requires contents { (prim : PrimitiveValue) × ContentsOf number prim contents.now }
@@ -32,8 +34,8 @@ pub fn written_len_of(number: u8, contents: &[u8]) -> usize
     at_number!(number, written_len_variant(contents))
 }
 
-/// The first place at which contents differ from those that are written of their value, of the type with that
-/// application number, at most 12, and none where they are those.
+/// Returns the first place, counted from 0, at which contents differ from those that are written of their value, or
+/// None where they are the same. `number` is the application number of the type (clause 20.2.1.4), at most 12.
 #[inline(always)]
 pub fn mark_contents(number: u8, contents: &[u8]) -> Option<usize>
     requires number { number ≤ 12 }
@@ -44,8 +46,8 @@ pub fn mark_contents(number: u8, contents: &[u8]) -> Option<usize>
     at_number!(number, mark_variant(contents))
 }
 
-/// Whether octets are those that are written of a value of the type with that application number (clause 20.2.1.4), at
-/// most 12.
+/// Whether the octets are the written contents of some value of the type with that application number (clause
+/// 20.2.1.4), at most 12.
 #[inline(always)]
 pub fn are_written(number: u8, octets: &[u8]) -> bool
     requires number { number ≤ 12 }

@@ -46,11 +46,16 @@ pub enum PrimitiveValue {
 }
 
 impl PrimitiveValue {
-    /// The value of the type with that application number whose contents are these octets. Those of a
-    /// Boolean are the ones of the context form.
+    /// The value of the type with that application number (clause 20.2.1.4), at most 12, whose contents are these
+    /// octets. Those of a Boolean are the ones of the context form (clause 20.2.3).
     ///
-    /// Length, where no value of the type has so many octets of contents; Content at the first octet that no
-    /// contents of that length can have there; OutOfMemory, where memory is wanted and refused.
+    /// # Errors
+    /// The place is counted from 0. The reason is one of these:
+    ///
+    /// - `Length` where no value of the type has so many octets of contents: the place is 0;
+    /// - `Content` at the first octet that no contents of that length can have there;
+    /// - `OutOfMemory` where memory is refused: the place is 0. It is told only of octet strings, character strings and
+    ///   bit strings, numbers 6 to 8.
     pub fn read(alloc: Global, number: u8, octets: &[u8]) -> Result<PrimitiveValue, Refusal>
         requires number { number ≤ 12 }
         ensures value { IfOk result IsPrim }
@@ -65,7 +70,8 @@ impl PrimitiveValue {
         at_number!(number, read_variant(alloc, octets))
     }
 
-    /// The least and the largest number of octets of contents of the type with that application number.
+    /// Returns the least and the largest number of octets of contents of the type with that application number, at most
+    /// 12. Each number between them is that of some contents.
     pub fn lengths(number: u8) -> (usize, usize)
         requires number { number ≤ 12 }
         ensures lengths { AreLengths (ContentsOf number) result.0 result.1 }
@@ -74,8 +80,9 @@ impl PrimitiveValue {
         at_number!(number, lengths_of())
     }
 
-    /// The first place at which the octets in front no longer begin contents of that size of the type with
-    /// that application number, and none where they do.
+    /// Returns the place, counted from 0, of the first octet of `front` with which no contents of `size` octets begin,
+    /// or None where such contents begin with all of `front`. `number` is the application number of the type, at most
+    /// 12; some contents of the type must have `size` octets, and `front` no more than these.
     pub fn hopeless(number: u8, front: &[u8], size: usize) -> Option<usize>
         requires number { number ≤ 12 }
         requires size { IsBegun (ContentsOf number) [] size }
@@ -93,7 +100,7 @@ impl PrimitiveValue {
         at_value!(self, value => application_number_of(value))
     }
 
-    /// How many octets of contents are written.
+    /// Returns how many octets of contents are written.
     pub fn written_len(&self) -> usize
         ensures value { IsPrim self.now }
         ensures len { result ≡ length (prim_written self.now) }
@@ -101,8 +108,8 @@ impl PrimitiveValue {
         at_value!(self, value => value.written_len())
     }
 
-    /// The first place at which contents of the value differ from those that are written, and none where they
-    /// are those.
+    /// Returns the first place, counted from 0, at which contents of the value differ from those that are written, or
+    /// None where they are the same.
     pub fn mark(&self, octets: &[u8]) -> Option<usize>
         requires { PrimContents self.now octets.now }
         ensures none { IfNone result (octets.now ≡ prim_written self.now) }
@@ -111,7 +118,10 @@ impl PrimitiveValue {
         at_value!(self, value => value.mark(octets))
     }
 
-    /// Appends the written contents. Where memory is refused `out` stays as it was.
+    /// Appends the contents that are written.
+    ///
+    /// # Errors
+    /// `OutOfMemory` where memory is refused. `out` then stays as it was.
     pub fn write(&self, out: &mut Vec<u8>) -> Result<(), OutOfMemory>
         ensures value { IsPrim self.now }
         ensures ok { OnOk result (out.new.items ≡ out.old.items ++ prim_written self.now) }

@@ -22,8 +22,8 @@ use crate::types::time_value::Time;
 use crate::types::unsigned_integer::Unsigned;
 use crate::variants::borrow_variant;
 
-/// A value of any primitive type, under the name of its type. The octets of the three strings are those of
-/// the one who holds them.
+/// A value of any primitive type (clauses 20.2.2 to 20.2.14), under the name of its type. The octets of the three
+/// strings are borrowed.
 #[derive(Clone, Copy, Debug, PartialEq, Eq)]
 pub enum PrimRef<'a> {
     Null(Null),

@@ -9,7 +9,7 @@ use std::alloc::Global;
 
 /// A primitive type: which contents spell a value, and which of them are written.
 ///
-/// Contents are the octets behind a tag head, all of them. Those of a Boolean are the ones of the context
+/// Contents are all the octets of an element behind its tag head. Those of a Boolean are the ones of the context
 /// form (clause 20.2.3).
 pub trait Primitive: Sized + Drop {
     /// The number of its application tag (clause 20.2.1.4).
@@ -41,8 +41,12 @@ pub trait Primitive: Sized + Drop {
 
     /// The value whose contents are these octets.
     ///
-    /// Length, where no value has so many octets of contents; Content at the first octet that no contents
-    /// of that length can have there; OutOfMemory, where memory is wanted and refused.
+    /// # Errors
+    /// The place is counted from 0. The reason is one of these:
+    ///
+    /// - `Length` where no value has so many octets of contents: the place is 0;
+    /// - `Content` at the first octet that no contents of that length can have there;
+    /// - `OutOfMemory` where memory is refused: the place is 0. It is told only of a type with `wants_memory`.
     fn read(alloc: Global, octets: &[u8]) -> Result<Self, Refusal>
         ensures value { IfOk result is_value }
         ensures found { IfOk result (λ value. contents value octets.now) }
@@ -53,8 +57,9 @@ pub trait Primitive: Sized + Drop {
         ensures length { IfErr result (λ refusal. refusal.why ≡ Why.Length → (refusal.place ≡ 0) × (IsBegun contents [] (length octets.now) → ⊥)) }
         ensures content { IfErr result (λ refusal. refusal.why ≡ Why.Content → IsHopelessAt contents octets.now (length octets.now) refusal.place) };
 
-    /// The value whose contents so many octets at the front are, if one is found at once. None tells nothing of the octets.
-    /// Others may stand behind them: four octets of a number are read with no branch on how many are its own.
+    /// Returns the value whose contents the first `size` octets are, or None, which tells nothing of them: ask
+    /// [`Primitive::read`] then. Octets behind the first `size` do not change the value. They make it possible to read
+    /// four octets of a number without a branch for each `size`.
     #[inline(always)]
     fn find(alloc: Global, octets: &[u8], size: usize) -> Option<Self>
         requires { size ≤ length octets.now }
@@ -64,27 +69,31 @@ pub trait Primitive: Sized + Drop {
         Self::read(alloc, &octets[..size]).ok()
     }
 
-    /// The first place at which the octets in front no longer begin contents of that size, and none where
-    /// they do.
+    /// Returns the place, counted from 0, of the first octet of `front` with which no contents of `size` octets begin,
+    /// or None where such contents begin with all of `front`. `size` must be from `SHORTEST` to `LONGEST`, and `front`
+    /// must have at most `size` octets.
     fn hopeless(front: &[u8], size: usize) -> Option<usize>
         requires size { (SHORTEST ≤ size) × (size ≤ LONGEST) }
         requires sized { length front.now ≤ size }
         ensures none { IfNone result (IsBegun contents front.now size) }
         ensures some { IfSome result (λ place. IsHopelessAt contents front.now size place) };
 
-    /// How many octets are written.
+    /// Returns how many octets of contents are written.
     fn written_len(&self) -> usize
         ensures value { is_value self.now }
         ensures len { result ≡ length (written self.now) };
 
-    /// The first place at which contents of the value differ from those that are written, and none where
-    /// they are those.
+    /// Returns the first place, counted from 0, at which contents of the value differ from those that are written, or
+    /// None where they are the same.
     fn mark(&self, octets: &[u8]) -> Option<usize>
         requires { contents self.now octets.now }
         ensures none { IfNone result (octets.now ≡ written self.now) }
         ensures some { IfSome result (FirstDifference octets.now (written self.now)) };
 
-    /// Appends the written contents. Where memory is refused `out` stays as it was.
+    /// Appends the contents that are written.
+    ///
+    /// # Errors
+    /// `OutOfMemory` where memory is refused. `out` then stays as it was.
     fn write(&self, out: &mut Vec<u8>) -> Result<(), OutOfMemory>
         ensures value { is_value self.now }
         ensures ok { OnOk result (out.new.items ≡ out.old.items ++ written self.now) }

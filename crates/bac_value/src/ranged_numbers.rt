@@ -10,7 +10,7 @@ ghost use Rattle.bac_value.specs.Numbers.{NumberContents, HasNumberLength, least
 use bac_tag::layers::{first_difference, first_hopeless, number_within};
 use bac_tag::{OutOfMemory, Refusal, Why};
 
-/// The number of one octet or two.
+/// Returns the number of one octet or two, or None of more or fewer.
 #[inline(always)]
 fn short_number(octets: &[u8]) -> Option<u64>
     ensures number { IfSome result (λ n. n ≡ number octets.now) }
@@ -24,6 +24,9 @@ fn short_number(octets: &[u8]) -> Option<u64>
 }
 
 /// What [`read_number`] returns, whatever the number of octets.
+///
+/// # Errors
+/// As those of [`read_number`].
 fn read_any_number(octets: &[u8], low: u64, high: u64) -> Result<u64, Refusal>
     requires range { low ≤ high }
     requires room { low < 256 }
@@ -42,10 +45,12 @@ fn read_any_number(octets: &[u8], low: u64, high: u64) -> Result<u64, Refusal>
     }
 }
 
-/// The number between `low` and `high` whose contents are these octets.
+/// The number from `low` to `high` whose contents are these octets, the most significant octet first. `low` must be no
+/// greater than `high`, and below 256.
 ///
-/// Length at 0, where they are not 1 to 8; Content at the first octet that no contents of that length can
-/// have there.
+/// # Errors
+/// `Length` at 0 where there are not 1 to 8 octets, else `Content` at the first octet that no contents of that length
+/// can have there, counted from 0.
 #[inline(always)]
 pub fn read_number(octets: &[u8], low: u64, high: u64) -> Result<u64, Refusal>
     requires range { low ≤ high }
@@ -63,7 +68,8 @@ pub fn read_number(octets: &[u8], low: u64, high: u64) -> Result<u64, Refusal>
     }
 }
 
-/// The number of so many octets at the front, one to four of them, where there are four.
+/// Returns the number that the first `size` octets spell, or None where `size` is not 1 to 4 or there are fewer than
+/// four octets.
 #[inline(always)]
 fn front_number(octets: &[u8], size: usize) -> Option<u64>
     ensures number { IfSome result (λ n. n ≡ number (take size octets.now)) }
@@ -79,7 +85,7 @@ fn front_number(octets: &[u8], size: usize) -> Option<u64>
     Some(u64::from(word >> (32 - 8 * size as u32)))
 }
 
-/// The number between `low` and `high` whose contents so many octets at the front are, if one is found at once.
+/// Returns the number from `low` to `high` whose contents the first `size` octets are, or None where there is none.
 #[inline(always)]
 pub(crate) fn find_number(octets: &[u8], size: usize, low: u64, high: u64) -> Option<u64>
     requires size { size ≤ length octets.now }
@@ -93,8 +99,9 @@ pub(crate) fn find_number(octets: &[u8], size: usize, low: u64, high: u64) -> Op
     }
 }
 
-/// The first place at which the octets in front no longer begin contents of that size of a number between
-/// `low` and `high`, and none where they do.
+/// Returns the place, counted from 0, of the first octet of `front` with which no contents of `size` octets of a
+/// number from `low` to `high` begin, or None where such contents begin with all of `front`. `size` must be 1 to 8,
+/// and `front` must have at most `size` octets; `low` must be no greater than `high`, and below 256.
 #[inline]
 pub fn hopeless_number(front: &[u8], size: usize, low: u64, high: u64) -> Option<usize>
     requires size { HasNumberLength size }
@@ -107,7 +114,7 @@ pub fn hopeless_number(front: &[u8], size: usize, low: u64, high: u64) -> Option
     first_hopeless(front, size, low, high)
 }
 
-/// The first octet that is not 0.
+/// Returns the place of the first octet that is not 0, or None where each is 0.
 #[inline]
 pub(crate) fn first_other_than_zero(octets: &[u8]) -> Option<usize>
     ensures none { IfNone result ((k : ℕ) → k < length octets.now → slice_index octets.now k ≡ 0) }
@@ -138,7 +145,8 @@ pub(crate) fn significant(octets: &[u8]) -> &[u8]
     &octets[zeros_in_front(octets)..]
 }
 
-/// The same of a number below 2^32. Octets in front of the last four are zeros, and not looked at.
+/// Returns what [`significant`] does, of a number below 2^32: the octets in front of the last four are zeros, and are
+/// not looked at.
 #[inline]
 pub(crate) fn significant_of_four(octets: &[u8]) -> &[u8]
     requires sized { HasNumberLength (length octets.now) }
@@ -148,8 +156,8 @@ pub(crate) fn significant_of_four(octets: &[u8]) -> &[u8]
     significant(&octets[octets.len().saturating_sub(4)..])
 }
 
-/// How many octets are written of a number below 2^32. This is told without a branch: the numbers of one message have now
-/// one octet, now two to four.
+/// Returns how many octets are written of a number below 2^32. There is no branch in it, since the numbers of one
+/// message differ in length.
 #[inline(always)]
 fn len_of_word(number: u32) -> usize
     ensures some { 1 ≤ result }
@@ -174,7 +182,7 @@ pub fn written_number_len(number: u64) -> usize
     }
 }
 
-/// What [`mark_number`] returns of octets in which a zero stands in front of others.
+/// What [`mark_number`] returns where the first octet is 0.
 #[inline(never)]
 fn mark_zeros(octets: &[u8]) -> Option<usize>
     requires sized { HasNumberLength (length octets.now) }
@@ -189,8 +197,8 @@ fn mark_zeros(octets: &[u8]) -> Option<usize>
     }
 }
 
-/// The first place at which the octets of a number, 1 to 8 of them, differ from the fewest that spell it (clauses 20.2.4
-/// and 20.2.11), and none where they are those.
+/// Returns the first place, counted from 0, at which the octets of a number, 1 to 8 of them, differ from the fewest
+/// octets that spell it (clauses 20.2.4 and 20.2.11), or None where they are the same.
 #[inline(always)]
 pub fn mark_number(octets: &[u8]) -> Option<usize>
     requires { HasNumberLength (length octets.now) }
@@ -205,7 +213,8 @@ pub fn mark_number(octets: &[u8]) -> Option<usize>
     }
 }
 
-/// What [`mark_number`] returns of the octets of a number that was read: they are not gone through for it.
+/// What [`mark_number`] returns of the octets of a number that was read from them. Since the number is known, octets
+/// behind the first are looked at only where it is 0.
 #[inline(always)]
 pub(crate) fn mark_read_number(read: u64, octets: &[u8]) -> Option<usize>
     requires sized { HasNumberLength (length octets.now) }
@@ -224,7 +233,10 @@ pub(crate) fn mark_read_number(read: u64, octets: &[u8]) -> Option<usize>
     mark_zeros(octets)
 }
 
-/// Appends the fewest octets that spell a number of more than four octets. Where memory is refused `out` stays as it was.
+/// What [`write_number`] does with a number of more than four octets.
+///
+/// # Errors
+/// As those of [`write_number`].
 #[inline(never)]
 fn write_long(number: u64, out: &mut Vec<u8>) -> Result<(), OutOfMemory>
     ensures ok { OnOk result (out.new.items ≡ out.old.items ++ least_number number) }
@@ -234,8 +246,11 @@ fn write_long(number: u64, out: &mut Vec<u8>) -> Result<(), OutOfMemory>
     Ok(())
 }
 
-/// What [`write_number`] does where there is no room for four octets: a new vector is not to grow for those that are cut
-/// off again.
+/// What [`write_number`] does where there is no room for four octets: only those that stay are appended, so that a new
+/// vector does not grow for others.
+///
+/// # Errors
+/// As those of [`write_number`].
 #[inline(never)]
 fn write_closely(number: u32, out: &mut Vec<u8>) -> Result<(), OutOfMemory>
     ensures ok { OnOk result (out.new.items ≡ out.old.items ++ least_number number) }
@@ -253,7 +268,7 @@ fn write_closely(number: u32, out: &mut Vec<u8>) -> Result<(), OutOfMemory>
     Ok(())
 }
 
-/// The last octets of a number's four, which are to be so many, one at least. Zeros stand behind them.
+/// Returns the last `count` of the four octets of a number, and zeros behind them. `count` must be 1 to 4.
 #[inline(always)]
 fn last_of_word(number: u32, count: usize) -> [u8; 4]
     requires some { 1 ≤ count }
@@ -263,7 +278,11 @@ fn last_of_word(number: u32, count: usize) -> [u8; 4]
     (number << (32 - 8 * count as u32)).to_be_bytes()
 }
 
-/// Appends the fewest octets that spell a number. Where memory is refused `out` stays as it was.
+/// Appends the fewest octets that spell a number, 1 to 8, the most significant octet first (clauses 20.2.4 and
+/// 20.2.11).
+///
+/// # Errors
+/// `OutOfMemory` where memory is refused. `out` then stays as it was.
 #[inline(always)]
 pub fn write_number(number: u64, out: &mut Vec<u8>) -> Result<(), OutOfMemory>
     ensures ok { OnOk result (out.new.items ≡ out.old.items ++ least_number number) }

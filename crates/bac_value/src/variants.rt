@@ -45,8 +45,10 @@ pub(crate) trait Variant: Primitive {
         ensures value { (value : Self) → Self.contents value octets.now → prim_of result ≡ wrapped value }
         ensures packed { IsPackedRef result };
 
-    /// Appends what is written of the value whose contents these are. Where memory is refused some octets may
-    /// be there.
+    /// Appends what is written of the value whose contents these are.
+    ///
+    /// # Errors
+    /// `OutOfMemory` where memory is refused. `out` then stays as it was.
     fn append_written(octets: &[u8], out: &mut Vec<u8>) -> Result<(), OutOfMemory>
         requires { (value : Self) × Self.contents value octets.now }
         ensures ok { OnOk result ((value : Self) → Self.contents value octets.now → out.new.items ≡ out.old.items ++ Self.written value) }
@@ -57,8 +59,8 @@ pub(crate) trait Variant: Primitive {
         requires { (value : Self) × Self.contents value octets.now }
         ensures { (value : Self) → Self.contents value octets.now → result ≡ length (Self.written value) };
 
-    /// The first place at which contents of a value differ from those that are written, and none where they
-    /// are those.
+    /// Returns the first place, counted from 0, at which contents of a value differ from those that are written, or
+    /// None where they are the same.
     fn mark_contents(octets: &[u8]) -> Option<usize>
         requires { (value : Self) × Self.contents value octets.now }
         ensures none { IfNone result ((value : Self) → Self.contents value octets.now → octets.now ≡ Self.written value) }
@@ -79,6 +81,9 @@ pub(crate) fn application_number_of<T: Primitive>(_value: &T) -> u8
 }
 
 /// The value of this type whose contents are these octets.
+///
+/// # Errors
+/// As those of [`Primitive::read`].
 pub(crate) fn read_variant<T: Variant>(
     alloc: Global,
     octets: &[u8],
@@ -104,6 +109,9 @@ pub(crate) fn borrow_variant<T: Variant>(octets: &[u8]) -> PrimRef<'_>
 }
 
 /// Appends what is written of the value of this type whose contents these are.
+///
+/// # Errors
+/// `OutOfMemory` where memory is refused. `out` then stays as it was.
 pub(crate) fn append_variant<T: Variant>(
     octets: &[u8],
     out: &mut Vec<u8>,
@@ -123,7 +131,8 @@ pub(crate) fn written_len_variant<T: Variant>(octets: &[u8]) -> usize
     T::written_len_of(octets)
 }
 
-/// The first place at which contents of this type differ from those that are written.
+/// Returns the first place, counted from 0, at which contents of a value of this type differ from those that are
+/// written, or None where they are the same.
 pub(crate) fn mark_variant<T: Variant>(octets: &[u8]) -> Option<usize>
     requires { (prim : PrimitiveValue) × ContentsOf T.APP prim octets.now }
     ensures none { IfNone result ((prim : PrimitiveValue) → ContentsOf T.APP prim octets.now → octets.now ≡ prim_written prim) }
@@ -140,7 +149,8 @@ pub(crate) fn lengths_of<T: Variant>() -> (usize, usize)
     (T::SHORTEST, T::LONGEST)
 }
 
-/// The first place at which the octets in front no longer begin contents of this type and that size.
+/// Returns the place, counted from 0, of the first octet of `front` with which no contents of this type of `size`
+/// octets begin, or None where such contents begin with all of `front`.
 pub(crate) fn hopeless_variant<T: Variant>(front: &[u8], size: usize) -> Option<usize>
     requires size { IsBegun (ContentsOf T.APP) [] size }
     requires sized { length front.now ≤ size }
@@ -150,7 +160,7 @@ pub(crate) fn hopeless_variant<T: Variant>(front: &[u8], size: usize) -> Option<
     T::hopeless(front, size)
 }
 
-/// Whether octets are those that are written of a value of this type.
+/// Whether the octets are the written contents of some value of this type.
 #[inline(always)]
 pub(crate) fn is_written_variant<T: Variant>(octets: &[u8]) -> bool
     ensures { IsTrue result ↔ IsWrittenOf T.APP octets.now }

@@ -116,3 +116,33 @@ fn a_refused_segment_opens_nothing(rt: HostRuntime) {
     ";
     answers(&rt, rt.alloc(), &mut desk, calls);
 }
+
+// Keys are in order by the sender, then by whether it is a request, the invoke id and the service choice.
+#[test]
+fn keys_are_in_order(rt: HostRuntime) {
+    let key = Key {
+        peer: 1,
+        request: false,
+        invoke: 2,
+        choice: 2,
+    };
+    assert_holds(&rt, key < Key { choice: 3, ..key }, "choices");
+    let of_invoke = Key {
+        invoke: 3,
+        choice: 0,
+        ..key
+    };
+    assert_holds(&rt, key < of_invoke, "invoke ids");
+    let of_request = Key {
+        request: true,
+        invoke: 0,
+        ..key
+    };
+    assert_holds(&rt, of_invoke < of_request, "requests");
+    let of_peer = Key {
+        peer: 2,
+        request: false,
+        ..key
+    };
+    assert_holds(&rt, of_request < of_peer, "senders");
+}

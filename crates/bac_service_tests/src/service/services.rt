@@ -125,6 +125,14 @@ fn services_that_differ_are_not_equal(rt: HostRuntime) {
     differ_in_kind(&rt, alloc, confirmed, unconfirmed, NOTIFICATION);
 }
 
+// As the kinds stand in their enum.
+#[test]
+fn kinds_are_in_order(rt: HostRuntime) {
+    assert_holds(&rt, Kind::Confirmed < Kind::Unconfirmed, "requests");
+    assert_holds(&rt, Kind::Unconfirmed < Kind::ComplexAck, "answers");
+    assert_holds(&rt, Kind::ComplexAck < Kind::Error, "errors");
+}
+
 // The laws are functions that do nothing: their contracts are what they say.
 #[test]
 fn laws_can_be_called() {

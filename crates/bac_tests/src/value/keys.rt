@@ -1,7 +1,10 @@
 //! Values as keys, and how they are made of numbers.
 
 use crate::expectations::{assert_holds, assert_same, assert_shown};
-use bac_value::{Bits, Enumerated, Instance, ObjectId, Priority, RangeFault, Unsigned, ValueFault};
+use bac_value::{
+    Bits, Boolean, DoubleBits, Enumerated, Instance, ObjectId, Priority, RangeFault, RealBits,
+    Signed, Unsigned, Unsigned16, Unsigned32, ValueFault,
+};
 use std::process::Abort;
 
 /// The number is a priority, or it is told that it is none.
@@ -41,6 +44,13 @@ fn numbers_in_a_range_are_tried(rt: HostRuntime) {
 fn each_number_is_a_value(rt: HostRuntime) {
     assert_same(&rt, Enumerated::from(u32::MAX), Enumerated(u32::MAX));
     assert_same(&rt, Unsigned::from(u64::MAX), Unsigned(u64::MAX));
+    assert_same(&rt, Unsigned16::from(u16::MAX), Unsigned16(u16::MAX));
+    assert_same(&rt, Unsigned32::from(u32::MAX), Unsigned32(u32::MAX));
+    assert_same(&rt, Signed::from(i64::MIN), Signed(i64::MIN));
+    assert_same(&rt, RealBits::from(0x7F80_0001), RealBits(0x7F80_0001));
+    assert_same(&rt, DoubleBits::from(1 << 63), DoubleBits(1 << 63));
+    assert_same(&rt, Boolean::from(true), Boolean(true));
+    assert_same(&rt, Boolean::from(false), Boolean(false));
 }
 
 /// Both are values, and the first is less than the second: nothing is less than a value.

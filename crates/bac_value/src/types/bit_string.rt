@@ -42,7 +42,7 @@ impl Model for Bits {
     ghost invariant = { λ bits. IsLeastBits bits.contents.items };
 }
 
-/// What a bit is worth in the lowest place, 0 past the end.
+/// Returns 1 where the bit at that place is set, and 0 where it is not or the place is past the end.
 fn worth_at(bits: &[bool], place: usize) -> u8
     ensures { result ≡ worth (slice_index_or bits.now place false) }
 {
@@ -68,7 +68,10 @@ fn octet_at(bits: &[bool], place: usize) -> u8
         + worth_at(bits, place + 7)
 }
 
-/// The written contents of bits.
+/// The contents that are written of bits.
+///
+/// # Errors
+/// `AllocError` where memory is refused.
 fn packed(alloc: Global, bits: &[bool]) -> Result<Vec<u8>, AllocError>
     requires { IsBits bits.now }
     ensures { IfOk result (λ contents. contents.items ≡ least_bits bits.now) }
@@ -85,7 +88,8 @@ fn packed(alloc: Global, bits: &[bool]) -> Result<Vec<u8>, AllocError>
 impl Bits {
     /// The value of these bits, copied.
     ///
-    /// TooLong, where they are more than 8,388,600; OutOfMemory, where memory is refused.
+    /// # Errors
+    /// `TooLong` where there are more than 8,388,600 bits, else `OutOfMemory` where memory is refused.
     pub fn new(alloc: Global, bits: &[bool]) -> Result<Bits, ValueFault>
         ensures value { IfOk result (λ value. value ≡ bits.now) }
         ensures too_long { IsErrOf result ValueFault.TooLong ↔ (8388600 < length bits.now) }
@@ -113,7 +117,7 @@ impl Bits {
         self.len() == 0
     }
 
-    /// One bit, counted from 0, and none past the end.
+    /// Returns the bit at that place, counted from 0, or None past the end.
     pub fn get(&self, place: usize) -> Option<bool>
         ensures { result ≡ slice_get self.now place }
     {
@@ -169,7 +173,7 @@ pub(crate) fn bit_count(contents: &[u8]) -> usize
     8 * (contents.len() - 1) - usize::from(contents[0])
 }
 
-/// One of the bits that written contents hold, counted from 0.
+/// Returns the bit at that place of those that written contents hold, counted from 0, or None past the end.
 pub(crate) fn bit_of(contents: &[u8], place: usize) -> Option<bool>
     requires { IsLeastBits contents.now }
     ensures { result ≡ slice_get (bits_of contents.now) place }
@@ -213,7 +217,10 @@ fn cleared(octet: u8, unused: u8) -> u8
     octet >> unused << unused
 }
 
-/// Appends contents with their unused bits set to zero. Where memory is refused `out` stays as it was.
+/// Appends contents with their unused bits set to zero.
+///
+/// # Errors
+/// `OutOfMemory` where memory is refused. `out` then stays as it was.
 pub(crate) fn append_cleared(octets: &[u8], out: &mut Vec<u8>) -> Result<(), OutOfMemory>
     requires { (bits : List Bool) × BitsContents bits octets.now }
     ensures ok { OnOk result ((bits : List Bool) → BitsContents bits octets.now → out.new.items ≡ out.old.items ++ least_bits bits) }
@@ -227,7 +234,8 @@ pub(crate) fn append_cleared(octets: &[u8], out: &mut Vec<u8>) -> Result<(), Out
     Ok(())
 }
 
-/// The place of the last octet, where an unused bit of it is not zero.
+/// Returns the place of the last octet, counted from 0, where an unused bit of it is not zero, or None where each is
+/// zero.
 pub(crate) fn mark_unused(octets: &[u8]) -> Option<usize>
     requires { (bits : List Bool) × BitsContents bits octets.now }
     ensures none { IfNone result ((bits : List Bool) → BitsContents bits octets.now → octets.now ≡ least_bits bits) }

@@ -1,6 +1,6 @@
 //! Boolean values (clause 20.2.3).
 
-ghost use Rattle.std.specs.Prelude.{false};
+ghost use Rattle.std.specs.Prelude.{false, ◌≡◌};
 ghost use Rattle.std.proofs.Common.{lit≤};
 ghost use Rattle.bac_value.specs.Primitives.{IsTheList};
 ghost use Rattle.bac_value.specs.Laws.Primitives.{the_list_only_values, the_list_written, the_list_least, the_list_once};
@@ -15,6 +15,15 @@ use std::alloc::Global;
 /// application form has no contents: its head says which.
 #[derive(Clone, Copy, Debug, PartialEq, Eq)]
 pub struct Boolean(pub bool);
+
+/// The value that is true where `bit` is.
+impl From<bool> for Boolean {
+    ghost from_gives = { λ bit value. value ≡ record { 0 = bit } };
+
+    fn from(bit: bool) -> Boolean {
+        Boolean(bit)
+    }
+}
 
 impl Primitive for Boolean {
     const APP: u8 = 1;

@@ -46,7 +46,8 @@ impl Model for Text {
 impl Text {
     /// The text of that set and these octets, copied.
     ///
-    /// TooLong, where there are more than 1,048,575 octets; OutOfMemory, where memory is refused.
+    /// # Errors
+    /// `TooLong` where there are more than 1,048,575 octets, else `OutOfMemory` where memory is refused.
     pub fn new(alloc: Global, set: u8, octets: &[u8]) -> Result<Text, ValueFault>
         ensures value { IfOk result (λ text. text ≡ record { set = set; octets = octets.now }) }
         ensures too_long { IsErrOf result ValueFault.TooLong ↔ (1048575 < length octets.now) }
@@ -87,6 +88,9 @@ impl Text {
 }
 
 /// An octet, and the octets behind it.
+///
+/// # Errors
+/// `AllocError` where memory is refused.
 fn joined(alloc: Global, first: u8, rest: &[u8]) -> Result<Vec<u8>, AllocError>
     requires { length rest.now < 1048576 }
     ensures { IfOk result (λ all. all.items ≡ first ∷ rest.now) }

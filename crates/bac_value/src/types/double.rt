@@ -18,6 +18,15 @@ use std::alloc::Global;
 #[derive(Clone, Copy, Debug, PartialEq, Eq)]
 pub struct DoubleBits(pub u64);
 
+/// The real number with these bits, the sign in the highest of them.
+impl From<u64> for DoubleBits {
+    ghost from_gives = { λ bits value. value ≡ record { 0 = bits } };
+
+    fn from(bits: u64) -> DoubleBits {
+        DoubleBits(bits)
+    }
+}
+
 impl DoubleBits {
     /// The eight octets, the one with the sign first.
     #[tactic(auto, unfolding(crate::specs::DoubleContents::double_octets))]

@@ -1,6 +1,6 @@
 //! Enumerated values (clause 20.2.11).
 
-ghost use Rattle.std.specs.Prelude.{false, ◌<◌, ◌^◌, ◌-◌};
+ghost use Rattle.std.specs.Prelude.{false, ◌≡◌, ◌<◌, ◌^◌, ◌-◌};
 ghost use Rattle.std.proofs.Common.{lit≤};
 ghost use Rattle.bac_value.specs.Numbers.{NumberContents, least_number};
 ghost use Rattle.bac_value.specs.Laws.Numbers.{number_range, number_written, number_least, number_lengths};
@@ -22,7 +22,10 @@ const MOST: u64 = 0xFFFF_FFFF;
 #[derive(Clone, Copy, Debug, PartialEq, Eq, PartialOrd, Ord, Hash)]
 pub struct Enumerated(pub u32);
 
+/// The value with that number.
 impl From<u32> for Enumerated {
+    ghost from_gives = { λ number value. value ≡ record { 0 = number } };
+
     fn from(number: u32) -> Enumerated {
         Enumerated(number)
     }

@@ -42,7 +42,8 @@ impl Model for Octets {
 impl Octets {
     /// The value of these octets, copied.
     ///
-    /// TooLong, where they are more than 1,048,576; OutOfMemory, where memory is refused.
+    /// # Errors
+    /// `TooLong` where there are more than 1,048,576 octets, else `OutOfMemory` where memory is refused.
     pub fn new(alloc: Global, octets: &[u8]) -> Result<Octets, ValueFault>
         ensures value { IfOk result (λ value. value ≡ octets.now) }
         ensures too_long { IsErrOf result ValueFault.TooLong ↔ (1048576 < length octets.now) }

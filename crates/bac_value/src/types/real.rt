@@ -18,6 +18,15 @@ use std::alloc::Global;
 #[derive(Clone, Copy, Debug, PartialEq, Eq)]
 pub struct RealBits(pub u32);
 
+/// The real number with these bits, the sign in the highest of them.
+impl From<u32> for RealBits {
+    ghost from_gives = { λ bits value. value ≡ record { 0 = bits } };
+
+    fn from(bits: u32) -> RealBits {
+        RealBits(bits)
+    }
+}
+
 impl RealBits {
     /// The four octets, the one with the sign first.
     #[tactic(auto, unfolding(crate::specs::RealContents::real_octets))]

@@ -18,6 +18,15 @@ use std::alloc::Global;
 #[derive(Clone, Copy, Debug, PartialEq, Eq)]
 pub struct Signed(pub i64);
 
+/// The value with that number.
+impl From<i64> for Signed {
+    ghost from_gives = { λ number value. value ≡ record { 0 = number } };
+
+    fn from(number: i64) -> Signed {
+        Signed(number)
+    }
+}
+
 /// The octets with the sign's octets in front, eight in all.
 fn widened(octets: &[u8]) -> [u8; 8]
     requires { HasNumberLength (length octets.now) }

@@ -1,6 +1,6 @@
 //! Numbers below 2^16 (clause 20.2.4).
 
-ghost use Rattle.std.specs.Prelude.{false, ◌<◌, ◌^◌, ◌-◌};
+ghost use Rattle.std.specs.Prelude.{false, ◌≡◌, ◌<◌, ◌^◌, ◌-◌};
 ghost use Rattle.std.proofs.Common.{lit≤};
 ghost use Rattle.bac_value.specs.Numbers.{NumberContents, least_number};
 ghost use Rattle.bac_value.specs.Laws.Numbers.{number_range, number_written, number_least, number_lengths, bounded_once, bounded_each_length};
@@ -21,7 +21,10 @@ const MOST: u64 = 0xFFFF;
 #[derive(Clone, Copy, Debug, PartialEq, Eq, PartialOrd, Ord, Hash)]
 pub struct Unsigned16(pub u16);
 
+/// The value with that number.
 impl From<u16> for Unsigned16 {
+    ghost from_gives = { λ number value. value ≡ record { 0 = number } };
+
     fn from(number: u16) -> Unsigned16 {
         Unsigned16(number)
     }

@@ -1,6 +1,6 @@
 //! Unsigned integers (clause 20.2.4).
 
-ghost use Rattle.std.specs.Prelude.{false, ◌<◌, ◌^◌, ◌-◌};
+ghost use Rattle.std.specs.Prelude.{false, ◌≡◌, ◌<◌, ◌^◌, ◌-◌};
 ghost use Rattle.std.proofs.Common.{lit≤};
 ghost use Rattle.bac_value.specs.Numbers.{NumberContents, least_number};
 ghost use Rattle.bac_value.specs.Laws.Numbers.{number_range, number_written, number_least, number_lengths};
@@ -17,7 +17,10 @@ use std::alloc::Global;
 #[derive(Clone, Copy, Debug, PartialEq, Eq, PartialOrd, Ord, Hash)]
 pub struct Unsigned(pub u64);
 
+/// The value with that number.
 impl From<u64> for Unsigned {
+    ghost from_gives = { λ number value. value ≡ record { 0 = number } };
+
     fn from(number: u64) -> Unsigned {
         Unsigned(number)
     }
