@@ -129,6 +129,25 @@ impl ApduVisitor for KeepApdu {
 ///
 /// # Errors
 /// As [`decode_apdu_marked`].
+///
+/// # Examples
+/// ```rust
+/// use bac_apdu::{Apdu, decode_apdu};
+/// use bac_tag::Why;
+///
+/// // ReadProperty of the present value (85) of analog input 5.
+/// let octets = [
+///     0x00, 0x05, 0x01, 0x0C, 0x0C, 0x00, 0x00, 0x00, 0x05, 0x19, 0x55,
+/// ];
+/// let apdu = decode_apdu(rt.alloc(), &octets)?;
+/// let Apdu::Confirmed(request) = &apdu else {
+///     panic!(rt; "{apdu:?}");
+/// };
+/// assert_eq!(rt; request.head().invoke, 1);
+/// assert_eq!(rt; request.service().choice(), 12);
+/// let refused = decode_apdu(rt.alloc(), &[0x80]);
+/// assert_eq!(rt; refused.err(), Some(Why::PduType.at(0)));
+/// ```
 pub fn decode_apdu(alloc: Global, octets: &[u8]) -> Result<Apdu, Refusal>
     ensures found { IfOk result (λ apdu. SpellsApdu (value_of apdu) octets.now) }
     ensures refused { IfErr result (λ refusal. refusal.why ≢ Why.OutOfMemory → IsWholeRefusal SpellsApdu octets.now refusal) }

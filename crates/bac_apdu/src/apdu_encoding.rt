@@ -36,6 +36,17 @@ pub fn append_apdu(apdu: &Apdu, out: &mut Vec<u8>) -> Result<(), OutOfMemory>
 ///
 /// # Errors
 /// `OutOfMemory` where memory is refused.
+///
+/// # Examples
+/// ```rust
+/// use bac_apdu::{Apdu, Reject, encode_apdu};
+///
+/// // Request 1 is rejected, since its service is not known (reason 9).
+/// let (invoke, reason) = (1, 9);
+/// let apdu = Apdu::Reject(Reject { invoke, reason });
+/// let written = encode_apdu(rt.alloc(), &apdu)?;
+/// assert_eq!(rt; written.as_slice(), [0x60, 0x01, 0x09].as_slice());
+/// ```
 pub fn encode_apdu(alloc: Global, apdu: &Apdu) -> Result<Vec<u8>, OutOfMemory>
     ensures { IfOk result (λ out. IsLeast (SpellsApdu (value_of apdu.now)) out.items) }
 {

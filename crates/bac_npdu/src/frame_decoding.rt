@@ -264,6 +264,22 @@ fn decode_alone(alloc: Global, octets: &[u8]) -> Result<Frame, Refusal>
 ///
 /// # Errors
 /// As [`decode_marked`].
+///
+/// # Examples
+/// ```rust
+/// use bac_npdu::decode_frame;
+/// use bac_tag::Why;
+///
+/// // A Who-Is to every device on every network.
+/// let octets = [0x01, 0x20, 0xFF, 0xFF, 0x00, 0xFF, 0x10, 0x08];
+/// let frame = decode_frame(rt.alloc(), &octets)?;
+/// let dest = frame.dest.as_ref().ok_or("no destination")?;
+/// assert_eq!(rt; (dest.network, dest.hops), (65_535, 255));
+/// assert!(rt; dest.address.octets().is_empty());
+/// // The version of a frame is 1.
+/// let refused = decode_frame(rt.alloc(), &[0x02]);
+/// assert_eq!(rt; refused.err(), Some(Why::Version.at(0)));
+/// ```
 pub fn decode_frame(alloc: Global, octets: &[u8]) -> Result<Frame, Refusal>
     ensures found { IfOk result (λ frame. SpellsFrame (value_of frame) octets.now) }
     ensures refused { IfErr result (λ refusal. refusal.why ≢ Why.OutOfMemory → IsWholeRefusal SpellsFrame octets.now refusal) }

@@ -109,6 +109,22 @@ pub fn append_frame(frame: &Frame, out: &mut Vec<u8>) -> Result<(), OutOfMemory>
 ///
 /// # Errors
 /// `OutOfMemory` where memory is refused.
+///
+/// # Examples
+/// ```rust
+/// use bac_npdu::{Body, Frame, NetMessage, NetPriority, encode_frame};
+///
+/// // The number of this network is asked for.
+/// let frame = Frame {
+///     reply: false,
+///     priority: NetPriority::new(0).ok_or("no priority")?,
+///     dest: None,
+///     source: None,
+///     body: Body::Net(NetMessage::WhatIsNetworkNumber),
+/// };
+/// let written = encode_frame(rt.alloc(), &frame)?;
+/// assert_eq!(rt; written.as_slice(), [0x01, 0x80, 0x12].as_slice());
+/// ```
 pub fn encode_frame(alloc: Global, frame: &Frame) -> Result<Vec<u8>, OutOfMemory>
     ensures { IfOk result (λ out. IsLeast (SpellsFrame (value_of frame.now)) out.items) }
 {

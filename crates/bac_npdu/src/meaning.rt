@@ -51,6 +51,22 @@ fn encoded(alloc: Global, side: Side, frame: &Frame) -> Result<Vec<u8>, (Side, R
 /// # Errors
 /// The side that spells no frame, the left one first, with the refusal of [`decode_marked`]; or the side at which
 /// memory was refused.
+///
+/// # Examples
+/// ```rust
+/// use bac_npdu::{Side, same_meaning};
+/// use bac_tag::Why;
+///
+/// // Ignored bits of the control octet make no difference.
+/// let same = same_meaning(rt.alloc(), &[0x01, 0x80, 0x12], &[0x01, 0xD0, 0x12]);
+/// assert_eq!(rt; same, Ok(true));
+/// // No routing table is another answer than one without ports.
+/// let same = same_meaning(rt.alloc(), &[0x01, 0x80, 0x07], &[0x01, 0x80, 0x07, 0x00]);
+/// assert_eq!(rt; same, Ok(false));
+/// // The right one has another version.
+/// let refused = same_meaning(rt.alloc(), &[0x01, 0x80, 0x12], &[0x02]);
+/// assert_eq!(rt; refused, Err((Side::Right, Why::Version.at(0))));
+/// ```
 pub fn same_meaning(alloc: Global, left: &[u8], right: &[u8]) -> Result<bool, (Side, Refusal)>
     ensures spelled { IfOk result (λ same. IsSpelling SpellsFrame left.now × IsSpelling SpellsFrame right.now) }
     ensures same { IfOk result (λ same. (same ≡ true) ↔ MeanTheSame left.now right.now) }

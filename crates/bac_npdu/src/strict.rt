@@ -19,6 +19,19 @@ use std::alloc::Global;
 /// # Errors
 /// As [`decode_marked`]; and `NotCanonical` where the octets spell a frame and are not canonical, at the first place
 /// where they differ from the canonical ones.
+///
+/// # Examples
+/// ```rust
+/// use bac_npdu::decode_strict;
+/// use bac_tag::Why;
+///
+/// // The number of this network is asked for.
+/// let frame = decode_strict(rt.alloc(), &[0x01, 0x80, 0x12])?;
+/// assert!(rt; !frame.reply);
+/// // The same frame, with ignored bits of the control octet set.
+/// let refused = decode_strict(rt.alloc(), &[0x01, 0xD0, 0x12]);
+/// assert_eq!(rt; refused.err(), Some(Why::NotCanonical.at(1)));
+/// ```
 pub fn decode_strict(alloc: Global, octets: &[u8]) -> Result<Frame, Refusal>
     ensures found { IfOk result (λ frame. IsLeast (SpellsFrame (value_of frame)) octets.now) }
     ensures flaw { IfErr result (λ refusal. refusal.why ≡ Why.NotCanonical → IsFirstFlaw octets.now refusal.place) }
@@ -80,6 +93,21 @@ impl FrameVisitor for Normalising<'_> {
 ///
 /// # Errors
 /// As [`decode_marked`].
+///
+/// # Examples
+/// ```rust
+/// use bac_npdu::normalise_frame;
+///
+/// // ReadProperty, with ignored bits set, and with the property in two octets.
+/// let octets = [
+///     0x01, 0x54, 0x01, 0x85, 0x01, 0x0C, 0x0C, 0x00, 0x00, 0x00, 0x05, 0x1A, 0x00, 0x55,
+/// ];
+/// let canonical = [
+///     0x01, 0x04, 0x00, 0x05, 0x01, 0x0C, 0x0C, 0x00, 0x00, 0x00, 0x05, 0x19, 0x55,
+/// ];
+/// let written = normalise_frame(rt.alloc(), &octets)?;
+/// assert_eq!(rt; written.as_slice(), canonical.as_slice());
+/// ```
 pub fn normalise_frame(alloc: Global, octets: &[u8]) -> Result<Vec<u8>, Refusal>
     ensures written { IfOk result (λ out. IsNormalOf octets.now out.items) }
     ensures refused { IfErr result (λ refusal. refusal.why ≢ Why.OutOfMemory → IsWholeRefusal SpellsFrame octets.now refusal) }

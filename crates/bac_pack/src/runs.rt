@@ -65,6 +65,19 @@ fn run_pieces<R: Input, W: Output>(
 /// # Errors
 /// As [`PackFault`] says. Reading stops at what comes first: an octet behind the 1,000,000th line, the 200,001st octet
 /// of a line before its LF, or a failed read. Of a whole line `NotHex` is told before `RecordTooLong`.
+///
+/// # Examples
+/// ```rust
+/// use bac_pack::run_pack;
+/// use bac_record::Counted;
+///
+/// // A line of a Who-Is, and a last one without LF.
+/// let mut reader = Counted::new(b"0100 1008\r\nAB".as_slice());
+/// let mut writer = Counted::new(Vec::new(rt.alloc()));
+/// assert_eq!(rt; run_pack(rt.alloc(), &mut reader, &mut writer), Ok(2));
+/// let records = [0x00, 0x04, 0x01, 0x00, 0x10, 0x08, 0x00, 0x01, 0xAB];
+/// assert_eq!(rt; writer.device.as_slice(), records.as_slice());
+/// ```
 pub fn run_pack<R: Input, W: Output>(
     alloc: Global,
     reader: &mut R,

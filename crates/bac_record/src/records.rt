@@ -76,6 +76,20 @@ fn next_record<R: Input>(alloc: Global, reader: &mut R) -> Result<Option<Vec<u8>
 /// - `Truncated` where the reader ends inside the record.
 /// - `ReadFault` where a read failed. Less than a record was read.
 /// - `OutOfMemory` where memory is refused. The length octets alone were read.
+///
+/// # Examples
+/// ```rust
+/// use bac_record::{Counted, read_record};
+///
+/// // A record of a Who-Is, and one of no octets.
+/// let file = [0x00, 0x04, 0x01, 0x00, 0x10, 0x08, 0x00, 0x00];
+/// let mut reader = Counted::new(file.as_slice());
+/// let first = read_record(rt.alloc(), &mut reader)?;
+/// assert_eq!(rt; first.as_deref(), Some([0x01, 0x00, 0x10, 0x08].as_slice()));
+/// let second = read_record(rt.alloc(), &mut reader)?;
+/// assert_eq!(rt; second.as_deref(), Some([].as_slice()));
+/// assert_eq!(rt; read_record(rt.alloc(), &mut reader)?, None);
+/// ```
 pub fn read_record<R: Input>(alloc: Global, reader: &mut R) -> Result<Option<Vec<u8>>, StreamFault>
     ensures found { IfOk result (λ found. GivesRecord (R.left reader.old) (R.left reader.new) (option_map (λ octets. octets.items) found)) }
     ensures stops { IfErr result (StopsReading (R.left reader.old) (R.left reader.new)) }
@@ -93,6 +107,17 @@ pub fn read_record<R: Input>(alloc: Global, reader: &mut R) -> Result<Option<Vec
 ///
 /// # Errors
 /// `WriteFault`, with the number of octets that were taken, the length octets among them.
+///
+/// # Examples
+/// ```rust
+/// use bac_record::{Counted, write_record};
+///
+/// // Two octets of length, and those of a Who-Is.
+/// let mut writer = Counted::new(Vec::new(rt.alloc()));
+/// write_record(&mut writer, &[0x01, 0x00, 0x10, 0x08])?;
+/// let file = [0x00, 0x04, 0x01, 0x00, 0x10, 0x08];
+/// assert_eq!(rt; writer.device.as_slice(), file.as_slice());
+/// ```
 pub fn write_record<W: Output>(writer: &mut W, octets: &[u8]) -> Result<(), StreamFault>
     requires { IsRecord octets.now }
     ensures ok { OnOk result (Appends (W.taken writer.old) (W.taken writer.new) (record_of octets.now)) }

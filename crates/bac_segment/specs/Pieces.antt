@@ -35,7 +35,7 @@ segments_from plan q (p ∷ ps) = record { head = plan.head; window = plan.windo
 abbrev pub IsCutOf : CutPlan → List ℕ → List Delivery → Type 0
 IsCutOf plan s segments = (ps : List (List ℕ)) × ArePieces s plan.size ps × (segments ≡ segments_from plan 0 ps)
 
--- Why a message is not cut, where memory isn't wanting. There are more than 256 pieces exactly where it has more than
+-- Why a message is not cut, where memory is not wanting. There are more than 256 pieces exactly where it has more than
 -- 256 times as many octets as a piece.
 abbrev pub cut_fault : CutPlan → List ℕ → Option CutFault
 cut_fault plan s =

@@ -132,6 +132,25 @@ fn segments(
 /// The first that holds, in this order: `Size`, where the size is 0; `Window`, where the window is not 1 to 127;
 /// `TooLong`, where there are more than 65,535 octets; `TooMany`, where there are more than 256 pieces;
 /// `OutOfMemory`, where memory is refused.
+///
+/// # Examples
+/// ```rust
+/// use bac_apdu::SegHead;
+/// use bac_segment::{CutPlan, cut};
+///
+/// // The octets of an answer to ReadPropertyMultiple (14), three in a segment.
+/// let octets = [0x0C, 0x00, 0x00, 0x00, 0x05];
+/// let plan = CutPlan {
+///     head: SegHead::Ack { invoke: 1 },
+///     choice: 14,
+///     size: 3,
+///     window: 4,
+/// };
+/// let segments = cut(rt.alloc(), &plan, &octets)?;
+/// assert_eq!(rt; segments.len(), 2);
+/// let last = segments.last().ok_or("no segment")?;
+/// assert_eq!(rt; last.piece.as_slice(), [0x00, 0x05].as_slice());
+/// ```
 pub fn cut(alloc: Global, plan: &CutPlan, octets: &[u8]) -> Result<Vec<Segment>, CutFault>
     ensures ok { IfOk result (λ segments. IsCutOf plan.now octets.now (map delivery segments.items)) }
     ensures fault { MatchOption (cut_fault plan.now octets.now) (IfErr result (λ fault. fault ≡ CutFault.OutOfMemory)) (λ fault. IsErrOf result fault) }

@@ -103,6 +103,25 @@ impl Desk {
     /// # Errors
     /// The first that holds, in this order: `DeskFull`, where its key is not open and eight are; `Conflict`, `PastEnd`,
     /// `TooLarge` and `OutOfMemory`, as a `Reassembly` of its key answers them.
+    ///
+    /// # Examples
+    /// ```rust
+    /// use bac_apdu::{Apdu, decode_apdu};
+    /// use bac_segment::{Desk, Key, Taken};
+    ///
+    /// // The segments of an answer to AtomicReadFile (6), from sender 7. The second comes first.
+    /// let first = decode_apdu(rt.alloc(), &[0x3C, 0x01, 0x00, 0x04, 0x06, 0xAA])?;
+    /// let second = decode_apdu(rt.alloc(), &[0x38, 0x01, 0x01, 0x04, 0x06, 0xBB])?;
+    /// let (Apdu::Segment(first), Apdu::Segment(second)) = (&first, &second) else {
+    ///     panic!(rt; "no segments");
+    /// };
+    /// let mut desk = Desk::new(rt.alloc())?;
+    /// assert_eq!(rt; desk.take(7, second), Ok(Taken::Kept));
+    /// assert_eq!(rt; desk.take(7, first), Ok(Taken::Complete));
+    /// let key = Key::of(7, first);
+    /// assert_eq!(rt; desk.octets(key), Some([0xAA, 0xBB].as_slice()));
+    /// assert!(rt; desk.close(key));
+    /// ```
     pub fn take(&mut self, peer: u32, segment: &Segment) -> Result<Taken, TakeFault>
         ensures step { DeskTakes self.old peer (delivery segment.now) result self.new }
         ensures err { OnErr result (self.new ≡ self.old) }

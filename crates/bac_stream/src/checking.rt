@@ -97,6 +97,20 @@ impl Job for Check {
 ///
 /// # Errors
 /// As [`RunFault`] says, but never `Frame`: refused records do not stop the run.
+///
+/// # Examples
+/// ```rust
+/// use bac_stream::{Counted, Mode, run_check};
+///
+/// // A frame with ignored bits set, and a record of no octets.
+/// let file = [0x00, 0x03, 0x01, 0xD0, 0x12, 0x00, 0x00];
+/// let mut reader = Counted::new(file.as_slice());
+/// let mut writer = Counted::new(Vec::new(rt.alloc()));
+/// let summary = run_check(rt.alloc(), Mode::Tolerant, &mut reader, &mut writer)?;
+/// assert_eq!(rt; (summary.records, summary.refused), (2, 1));
+/// let lines = b"1 tolerated at 1\n2 refused Short at 0\n";
+/// assert_eq!(rt; writer.device.as_slice(), lines.as_slice());
+/// ```
 pub fn run_check<R: Input, W: Output>(
     alloc: Global,
     mode: Mode,

@@ -146,6 +146,20 @@ impl Intake {
     /// - `OutOfMemory` where memory is refused. It comes only where a record is completed.
     ///
     /// The intake and `out` then stay as they were, also where records stood whole before the fault.
+    ///
+    /// # Examples
+    /// ```rust
+    /// use bac_stream::{Intake, Mode};
+    ///
+    /// // The record of a Who-Is, in two pieces.
+    /// let mut intake = Intake::new(rt.alloc(), Mode::Tolerant)?;
+    /// let mut items = Vec::new(rt.alloc());
+    /// intake.feed(&[0x00, 0x04, 0x01, 0x00], &mut items)?;
+    /// assert!(rt; items.is_empty());
+    /// intake.feed(&[0x10, 0x08], &mut items)?;
+    /// assert!(rt; matches!(items.as_slice(), [Ok(_)]));
+    /// assert_eq!(rt; intake.finish(), Ok(1));
+    /// ```
     pub fn feed(
         &mut self,
         piece: &[u8],

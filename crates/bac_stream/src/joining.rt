@@ -50,6 +50,26 @@ fn message_of(alloc: Global, segment: &Segment, octets: &[u8]) -> Result<Joined,
 ///
 /// # Errors
 /// `Take` as [`Desk::take`]. `Content` as [`decode_service`] refuses the octets of a message that is whole.
+///
+/// # Examples
+/// ```rust
+/// use bac_npdu::decode_frame;
+/// use bac_segment::Desk;
+/// use bac_stream::{Joined, join};
+///
+/// // Both segments of an answer to ReadPropertyMultiple (14), from sender 7.
+/// let first = [0x01, 0x00, 0x3C, 0x01, 0x00, 0x04, 0x0E, 0x0C, 0x00, 0x00];
+/// let second = [0x01, 0x00, 0x38, 0x01, 0x01, 0x04, 0x0E, 0x00, 0x05];
+/// let mut desk = Desk::new(rt.alloc())?;
+/// let frame = decode_frame(rt.alloc(), &first)?;
+/// let joined = join(rt.alloc(), &mut desk, 7, &frame)?;
+/// assert!(rt; matches!(joined, Joined::Kept));
+/// let frame = decode_frame(rt.alloc(), &second)?;
+/// let Joined::Message(service) = join(rt.alloc(), &mut desk, 7, &frame)? else {
+///     panic!(rt; "no message");
+/// };
+/// assert_eq!(rt; service.choice(), 14);
+/// ```
 pub fn join(alloc: Global, desk: &mut Desk, peer: u32, frame: &Frame) -> Result<Joined, JoinFault>
     ensures step { Joins desk.old peer (delivered (value_of frame.now)) result desk.new }
     ensures unchanged { IfErr result (λ fault. is_taken fault ≡ false → desk.new ≡ desk.old) }

@@ -1,0 +1,91 @@
+//! The examples of the doc comments of bac_record, bac_stream and bac_pack, with the same lines.
+
+use bac_npdu::decode_frame;
+use bac_pack::run_pack;
+use bac_record::{Counted, read_record, write_record};
+use bac_segment::Desk;
+use bac_stream::{Intake, Joined, Mode, join, run_check};
+use std::test::Fail;
+
+// Of `bac_record::read_record`.
+#[test]
+fn records_are_read(rt: HostRuntime) -> Result<(), Fail> {
+    // A record of a Who-Is, and one of no octets.
+    let file = [0x00, 0x04, 0x01, 0x00, 0x10, 0x08, 0x00, 0x00];
+    let mut reader = Counted::new(file.as_slice());
+    let first = read_record(rt.alloc(), &mut reader)?;
+    assert_eq!(rt; first.as_deref(), Some([0x01, 0x00, 0x10, 0x08].as_slice()));
+    let second = read_record(rt.alloc(), &mut reader)?;
+    assert_eq!(rt; second.as_deref(), Some([].as_slice()));
+    assert_eq!(rt; read_record(rt.alloc(), &mut reader)?, None);
+    Ok(())
+}
+
+// Of `bac_record::write_record`.
+#[test]
+fn a_record_is_written(rt: HostRuntime) -> Result<(), Fail> {
+    // Two octets of length, and those of a Who-Is.
+    let mut writer = Counted::new(Vec::new(rt.alloc()));
+    write_record(&mut writer, &[0x01, 0x00, 0x10, 0x08])?;
+    let file = [0x00, 0x04, 0x01, 0x00, 0x10, 0x08];
+    assert_eq!(rt; writer.device.as_slice(), file.as_slice());
+    Ok(())
+}
+
+// Of `bac_stream::run_check`.
+#[test]
+fn a_file_is_checked(rt: HostRuntime) -> Result<(), Fail> {
+    // A frame with ignored bits set, and a record of no octets.
+    let file = [0x00, 0x03, 0x01, 0xD0, 0x12, 0x00, 0x00];
+    let mut reader = Counted::new(file.as_slice());
+    let mut writer = Counted::new(Vec::new(rt.alloc()));
+    let summary = run_check(rt.alloc(), Mode::Tolerant, &mut reader, &mut writer)?;
+    assert_eq!(rt; (summary.records, summary.refused), (2, 1));
+    let lines = b"1 tolerated at 1\n2 refused Short at 0\n";
+    assert_eq!(rt; writer.device.as_slice(), lines.as_slice());
+    Ok(())
+}
+
+// Of `bac_stream::Intake::feed`.
+#[test]
+fn a_stream_is_taken_in(rt: HostRuntime) -> Result<(), Fail> {
+    // The record of a Who-Is, in two pieces.
+    let mut intake = Intake::new(rt.alloc(), Mode::Tolerant)?;
+    let mut items = Vec::new(rt.alloc());
+    intake.feed(&[0x00, 0x04, 0x01, 0x00], &mut items)?;
+    assert!(rt; items.is_empty());
+    intake.feed(&[0x10, 0x08], &mut items)?;
+    assert!(rt; matches!(items.as_slice(), [Ok(_)]));
+    assert_eq!(rt; intake.finish(), Ok(1));
+    Ok(())
+}
+
+// Of `bac_stream::join`.
+#[test]
+fn segments_are_joined(rt: HostRuntime) -> Result<(), Fail> {
+    // Both segments of an answer to ReadPropertyMultiple (14), from sender 7.
+    let first = [0x01, 0x00, 0x3C, 0x01, 0x00, 0x04, 0x0E, 0x0C, 0x00, 0x00];
+    let second = [0x01, 0x00, 0x38, 0x01, 0x01, 0x04, 0x0E, 0x00, 0x05];
+    let mut desk = Desk::new(rt.alloc())?;
+    let frame = decode_frame(rt.alloc(), &first)?;
+    let joined = join(rt.alloc(), &mut desk, 7, &frame)?;
+    assert!(rt; matches!(joined, Joined::Kept));
+    let frame = decode_frame(rt.alloc(), &second)?;
+    let Joined::Message(service) = join(rt.alloc(), &mut desk, 7, &frame)? else {
+        panic!(rt; "no message");
+    };
+    assert_eq!(rt; service.choice(), 14);
+    Ok(())
+}
+
+// Of `bac_pack::run_pack`.
+#[test]
+fn lines_are_packed(rt: HostRuntime) -> Result<(), Fail> {
+    // A line of a Who-Is, and a last one without LF.
+    let mut reader = Counted::new(b"0100 1008\r\nAB".as_slice());
+    let mut writer = Counted::new(Vec::new(rt.alloc()));
+    assert_eq!(rt; run_pack(rt.alloc(), &mut reader, &mut writer), Ok(2));
+    let records = [0x00, 0x04, 0x01, 0x00, 0x10, 0x08, 0x00, 0x01, 0xAB];
+    assert_eq!(rt; writer.device.as_slice(), records.as_slice());
+    Ok(())
+}
