@@ -19,3 +19,4 @@ mod PartLemmas
 mod HeldLemmas
 mod WalkLemmas
 mod ReadingSteps
+mod CanonicalLemmas

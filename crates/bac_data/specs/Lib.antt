@@ -10,4 +10,5 @@ pub mod Under
 pub mod Reading
 pub mod Marks
 pub mod Same
+pub mod CanonicalFronts
 pub mod Laws

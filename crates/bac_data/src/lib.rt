@@ -7,8 +7,10 @@
 
 mod build_faults;
 mod building;
+mod canonical;
 mod items;
 pub mod laws;
+pub mod layers;
 mod open_value;
 mod reading;
 mod walking;

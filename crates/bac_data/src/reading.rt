@@ -27,7 +27,7 @@ use std::alloc::Global;
 /// Whether another group may begin inside these open ones, and the number of the innermost: where none is open, that of
 /// the value.
 #[inline(always)]
-fn place_in(groups: &ArrayVec<u8, MAX_GROUPS>, number: u8) -> (bool, u8)
+pub(crate) fn place_in(groups: &ArrayVec<u8, MAX_GROUPS>, number: u8) -> (bool, u8)
     requires number { number ≤ 254 }
     requires numbers { AllByRecursion (λ group. group ≤ 254) groups.now.items }
     ensures room { IsTrue result.0 ↔ (length groups.now.items < 32) }
@@ -42,7 +42,7 @@ fn place_in(groups: &ArrayVec<u8, MAX_GROUPS>, number: u8) -> (bool, u8)
 
 /// Whether the item is the end of a group with this number.
 #[inline(always)]
-fn ends(item: Item<'_>, number: u8) -> bool
+pub(crate) fn ends(item: Item<'_>, number: u8) -> bool
     ensures { IsTrue result ↔ (item_event item.entry ≡ closing number) }
 {
     match item {
@@ -53,7 +53,7 @@ fn ends(item: Item<'_>, number: u8) -> bool
 
 /// Opens or closes a group, where the item does that.
 #[inline(always)]
-fn follow(groups: &mut ArrayVec<u8, MAX_GROUPS>, item: Item<'_>)
+pub(crate) fn follow(groups: &mut ArrayVec<u8, MAX_GROUPS>, item: Item<'_>)
     requires item { IsItem item }
     requires follows { (es : List Event) × AreOpen es groups.old.items × MayFollow 32 es (item_event item) }
     ensures { (es : List Event) → AreOpen es groups.old.items → MayFollow 32 es (item_event item.entry) → AreOpen (es ++ item_event item.entry ∷ []) groups.new.items }

@@ -1,6 +1,7 @@
 //! Of open values.
 
 mod building;
+mod canonical;
 mod copies;
 mod long_tolerated;
 mod marking;
