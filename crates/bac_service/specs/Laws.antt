@@ -21,3 +21,4 @@ pub mod SubscribeCov
 pub mod Same
 pub mod PropertyResult
 pub mod Decoded
+pub mod Canonical

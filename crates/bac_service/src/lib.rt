@@ -10,8 +10,10 @@
 //! In the examples `rt` is the program's `HostRuntime`.
 #![tactic(auto)]
 
+mod canonical;
 mod kind;
 pub mod laws;
+pub mod layers;
 mod named;
 mod production;
 mod service;

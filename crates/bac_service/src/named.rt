@@ -10,9 +10,10 @@ ghost use Rattle.bac_service.specs.ServiceValues.{value_of, notification_kind, n
 ghost use Rattle.bac_service.specs.Services.{SpellsService};
 ghost use Rattle.bac_service.specs.Laws.Service.{IsServiceOf};
 ghost use Rattle.bac_service.specs.Decoded.{IsDecoded};
+ghost use Rattle.bac_data.specs.CanonicalFronts.{IsCanonical};
 
 use crate::production::Production;
-use crate::production::decoding::decode;
+use crate::production::decoding::{are_canonical, decode};
 use crate::production::record::{Fields, Record};
 use crate::service::Service;
 use crate::services::cov_notification::CovNotification;
@@ -52,6 +53,14 @@ pub(crate) fn decode_named<S: Named>(alloc: Global, octets: &[u8]) -> Result<Mar
     Ok((S::into_service(part), mark))
 }
 
+/// Whether the octets are the canonical ones of such a service, if that is found at once. False tells nothing of them.
+pub(crate) fn is_canonical_named<S: Named>(alloc: Global, octets: &[u8]) -> bool
+    requires { IsTrue S.Part.is_sound }
+    ensures { IsTrue result → IsCanonical (SpellsService true 32 S.kind S.choice) octets.now }
+{
+    are_canonical::<S::Part>(alloc, octets)
+}
+
 /// A service that one kind and one choice name, and that is one list.
 pub(crate) trait NamedList: Drop {
     /// What the list is of.
@@ -80,6 +89,14 @@ pub(crate) fn decode_list<S: NamedList>(alloc: Global, octets: &[u8]) -> Result<
     Ok((S::into_service(items), mark))
 }
 
+/// Whether the octets are the canonical ones of such a service, if that is found at once. False tells nothing of them.
+pub(crate) fn is_canonical_list<S: NamedList>(alloc: Global, octets: &[u8]) -> bool
+    requires { IsTrue (S.Item.Parts.is_sound && (not S.Item.Parts.may_be_empty && disjoint S.Item.Parts.openers S.Item.Parts.continuers)) }
+    ensures { IsTrue result → IsCanonical (SpellsService true 32 S.kind S.choice) octets.now }
+{
+    are_canonical::<Vec<S::Item>>(alloc, octets)
+}
+
 /// Decodes a notification, which two kinds carry: confirmed or not.
 #[inline(always)]
 pub(crate) fn decode_notification(
@@ -95,6 +112,13 @@ pub(crate) fn decode_notification(
         ..notification.0
     };
     Ok((Service::CovNotification(notification), mark))
+}
+
+/// Whether the octets are the canonical ones of a notification, if that is found at once. False tells nothing of them.
+pub(crate) fn is_canonical_notification(alloc: Global, confirmed: bool, octets: &[u8]) -> bool
+    ensures { IsTrue result → IsCanonical (SpellsService true 32 (notification_kind confirmed) (notification_choice confirmed)) octets.now }
+{
+    are_canonical::<Fields<CovNotification>>(alloc, octets)
 }
 
 /// Decodes the error of a service whose errors are a class and a code: five choices have one production.

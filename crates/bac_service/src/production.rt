@@ -3,6 +3,7 @@
 ghost use Rattle.std.specs.Prelude.{◌≡◌, ◌↔◌, ℕ, ◌+◌, ◌^◌, ◌<◌, ◌≤◌, Bool, List, take, length, IsTrue, IfSome, IfNone, IfOk, IfErr, OnOk, Err};
 ghost use Rattle.bac_tag.specs.Spelling.{IsRefusal, Takes, HasMark, AppendsLeast};
 ghost use Rattle.bac_tag.specs.Octets.{Extends};
+ghost use Rattle.bac_data.specs.CanonicalFronts.{TakesLeast};
 ghost use Rattle.bac_service.specs.Leads.{Lead};
 ghost use Rattle.bac_service.specs.Productions.{Lawful, IsInhabited, HasLeast, IsLongest, IsReach, mark_within};
 ghost use Rattle.bac_service.specs.Reasons.{IsPartReason, IsReachReason};
@@ -180,6 +181,12 @@ pub(crate) trait Production: Drop {
         ensures found { IfSome result (λ found. Takes spells octets.now (view found.value, found.taken)) }
         ensures mark { IfSome result (λ found. IsTrue wanted → HasMark (spells (view found.value)) (take found.taken octets.now) (mark_within found.taken found.same)) }
         ensures same { IfSome result (λ found. found.same ≤ found.taken) };
+
+    /// How many octets at the front are the canonical ones of a value, if that is found at once. None tells nothing of the
+    /// octets. What may be long is gone through and not kept.
+    fn canonical_len(alloc: Global, octets: &[u8]) -> Option<usize>
+        requires { IsTrue is_sound }
+        ensures { IfSome result (TakesLeast spells octets.now) };
 
     /// Reads the longest front of the octets that spells a value.
     fn read(alloc: Global, octets: &[u8]) -> Result<Front<Self>, ReadFault>

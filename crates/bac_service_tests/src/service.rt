@@ -5,6 +5,7 @@ mod appending;
 mod copies;
 mod cov_notification;
 mod i_am;
+mod layers;
 mod long_tolerated;
 mod opaque;
 mod read_property;

@@ -21,7 +21,7 @@ found_as k c octets service mark alike s m = record { spelled = (alike octets).0
 pub refused_as : {V : Type 0} {S : V → List ℕ → Type 0} (k : Kind) (c : ℕ) (octets : List ℕ) (refusal : Refusal) → IsServiceOf S k c
     → (refusal.why ≢ OutOfMemory → IsWholeRefusal S octets refusal) → (refusal.why ≡ OutOfMemory → (refusal.place ≡ 0) × (is_small k c ≡ false)) → IsServiceReason refusal.why → IsRefused k c octets refusal
 refused_as {V} {S} k c octets refusal same h memory reason = record {
-  refused = λ w. whole_alike S (SpellsService true 32 k c) octets refusal same.every same.only (h w);
+  refused = λ w. whole_alike S (SpellsService true 32 k c) octets refusal (λ v b s. let x = same.every v in (x.0, (x.1 b).0 s)) same.only (h w);
   memory = memory;
   reason = reason;
 }

@@ -45,7 +45,7 @@ cause_choices choice = cause_tests (nat_eq 1 choice) (nat_eq 5 choice) (nat_eq 1
 
 -- the same lists spell the values, and the services of that kind and choice
 pub record IsServiceOf {V : Type 0} (spells : V → List ℕ → Type 0) (kind : Kind) (choice : ℕ) : Type 0 where
-  pub every : (v : V) (b : List ℕ) → spells v b → (x : ServiceValue) × SpellsService true 32 kind choice x b
+  pub every : (v : V) → (x : ServiceValue) × ((b : List ℕ) → spells v b ↔ SpellsService true 32 kind choice x b)
   pub only : (x : ServiceValue) (b : List ℕ) → SpellsService true 32 kind choice x b → (v : V) × spells v b
 
 -- a service of the production is spelled as what it says
@@ -57,7 +57,7 @@ said_alike q r e s b h = subst (λ (r : Option ServiceProduction). (t : Said r) 
 
 pub serves : (k : Kind) (c : ℕ) (p : ServiceProduction) → c < 256 → production_of true k c ≡ Some p → IsServiceOf (SpellsBy 32 p) k c
 serves k c p fits e = record {
-  every = λ v b s. (typed k c p v, (spelled_as k c p v fits e b).0 s);
+  every = λ v. (typed k c p v, spelled_as k c p v fits e);
   only = λ x b h. said_alike x.production (Some p) (h.production_is ∙ e) x.said b h.spelled;
 }
 

@@ -53,6 +53,13 @@ impl<A: Production, B: Production> Production for Choice<A, B> {
         })
     }
 
+    fn canonical_len(alloc: Global, octets: &[u8]) -> Option<usize> {
+        match A::canonical_len(alloc, octets) {
+            Some(taken) => Some(taken),
+            None => B::canonical_len(alloc, octets),
+        }
+    }
+
     fn read(alloc: Global, octets: &[u8]) -> Result<Front<Choice<A, B>>, ReadFault> {
         let refused = match A::read(alloc, octets) {
             Ok(front) => {

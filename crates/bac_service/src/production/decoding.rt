@@ -2,6 +2,7 @@
 
 ghost use Rattle.std.specs.Prelude.{◌≡◌, ◌≢◌, IsTrue, IfOk, IfErr};
 ghost use Rattle.bac_tag.specs.Spelling.{HasMark, IsWholeRefusal};
+ghost use Rattle.bac_data.specs.CanonicalFronts.{IsCanonical};
 ghost use Rattle.bac_service.specs.Reasons.{IsServiceReason};
 
 use crate::production::{Production, ReadFault};
@@ -65,4 +66,12 @@ pub(crate) fn decode<P: Production>(
         }
     }
     decode_part_by_part(alloc, octets)
+}
+
+/// Whether all the octets are the canonical ones of a value, if that is found at once. False tells nothing of the octets.
+pub(crate) fn are_canonical<P: Production>(alloc: Global, octets: &[u8]) -> bool
+    requires { IsTrue P.is_sound }
+    ensures { IsTrue result → IsCanonical P.spells octets.now }
+{
+    P::canonical_len(alloc, octets) == Some(octets.len())
 }

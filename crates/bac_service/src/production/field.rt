@@ -6,6 +6,7 @@ ghost use Rattle.bac_tag.specs.Short.{BeginsShort};
 ghost use Rattle.bac_tag.specs.Spelling.{IsLeast, IsRefusal, Takes, HasMark, AppendsLeast};
 ghost use Rattle.bac_value.specs.Primitives.{OfSize};
 ghost use Rattle.bac_tag.specs.Octets.{Extends};
+ghost use Rattle.bac_data.specs.CanonicalFronts.{TakesLeast};
 ghost use Rattle.bac_service.specs.Leads.{context, application};
 ghost use Rattle.bac_service.specs.Fields.{heading, expected_heading, number_in, IsHeading, IsField};
 ghost use Rattle.bac_service.specs.Laws.Field.{field_lawful, field_inhabited, application_heading};
@@ -316,6 +317,23 @@ fn find_field<T: Primitive>(
     })
 }
 
+/// How many octets the field at the front takes, where these are its canonical ones and it is found at once. None tells
+/// nothing of the octets.
+fn canonical_field_len<T: Primitive>(
+    alloc: Global,
+    octets: &[u8],
+    context: Option<u8>,
+) -> Option<usize>
+    requires { IsHeading context T.APP }
+    ensures { IfSome result (TakesLeast (IsField (heading context T.APP) T.contents) octets.now) }
+{
+    let found = find_field::<T>(alloc, octets, context, true)?;
+    match found.mark() {
+        None => Some(found.taken),
+        Some(_) => None,
+    }
+}
+
 /// Appends the least octets of a field. Where memory is refused some octets may be there.
 #[inline(always)]
 fn write_field<T: Primitive>(
@@ -365,6 +383,10 @@ impl<T: Primitive, const N: u8> Production for Field<T, N> {
             taken: found.taken,
             same: found.same,
         })
+    }
+
+    fn canonical_len(alloc: Global, octets: &[u8]) -> Option<usize> {
+        canonical_field_len::<T>(alloc, octets, Some(N))
     }
 
     #[inline(always)]
@@ -419,6 +441,10 @@ impl<T: Primitive> Production for ApplicationField<T> {
             taken: found.taken,
             same: found.same,
         })
+    }
+
+    fn canonical_len(alloc: Global, octets: &[u8]) -> Option<usize> {
+        canonical_field_len::<T>(alloc, octets, None)
     }
 
     #[inline(always)]

@@ -62,6 +62,10 @@ impl<P: Production, const N: u8> Production for Group<P, N> {
         })
     }
 
+    fn canonical_len(alloc: Global, octets: &[u8]) -> Option<usize> {
+        <(Opening<N>, (P, Closing<N>))>::canonical_len(alloc, octets)
+    }
+
     #[inline(always)]
     fn read(alloc: Global, octets: &[u8]) -> Result<Front<Group<P, N>>, ReadFault> {
         let front = <(Opening<N>, (P, Closing<N>))>::read(alloc, octets)?;

@@ -60,6 +60,14 @@ impl<R: Record> Production for Vec<R> {
         })
     }
 
+    fn canonical_len(alloc: Global, octets: &[u8]) -> Option<usize> {
+        let mut taken = 0;
+        while let Some(item) = Fields::<R>::canonical_len(alloc, &octets[taken..]) {
+            taken += item;
+        }
+        Some(taken)
+    }
+
     fn read(alloc: Global, octets: &[u8]) -> Result<Front<Vec<R>>, ReadFault> {
         let Ok(mut items) = Vec::with_capacity(alloc, ROOM) else {
             return Err(ReadFault::OutOfMemory);

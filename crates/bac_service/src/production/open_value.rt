@@ -10,6 +10,7 @@ ghost use Rattle.bac_service.specs.Laws.OpenValue.{open_lawful, open_inhabited};
 ghost use Rattle.bac_service.specs.Laws.HasLeast.{open_value_least};
 
 use crate::production::{Front, Production, ReadFault, Spelling, complete_at, same_octets};
+use bac_data::layers::canonical_any_len;
 use bac_data::{Any, read_any_marked, write_any};
 use bac_tag::{OutOfMemory, Why};
 use std::alloc::Global;
@@ -59,6 +60,10 @@ impl<const N: u8> Production for OpenValue<N> {
             taken,
             same: same_octets(taken, mark),
         })
+    }
+
+    fn canonical_len(_alloc: Global, octets: &[u8]) -> Option<usize> {
+        canonical_any_len(octets, N)
     }
 
     fn read(alloc: Global, octets: &[u8]) -> Result<Front<OpenValue<N>>, ReadFault> {

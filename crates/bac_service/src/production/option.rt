@@ -47,6 +47,10 @@ impl<P: Production> Production for Option<P> {
         })
     }
 
+    fn canonical_len(alloc: Global, octets: &[u8]) -> Option<usize> {
+        Some(P::canonical_len(alloc, octets).unwrap_or(0))
+    }
+
     #[inline(always)]
     fn read(alloc: Global, octets: &[u8]) -> Result<Front<Option<P>>, ReadFault> {
         match P::read(alloc, octets) {

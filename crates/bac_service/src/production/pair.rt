@@ -42,6 +42,12 @@ impl<A: Production, B: Production> Production for (A, B) {
         })
     }
 
+    fn canonical_len(alloc: Global, octets: &[u8]) -> Option<usize> {
+        let first = A::canonical_len(alloc, octets)?;
+        let second = B::canonical_len(alloc, &octets[first..])?;
+        Some(first + second)
+    }
+
     #[inline(always)]
     fn read(alloc: Global, octets: &[u8]) -> Result<Front<(A, B)>, ReadFault> {
         let first = A::read(alloc, octets)?;

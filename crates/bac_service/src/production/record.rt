@@ -69,6 +69,10 @@ impl<R: Record> Production for Fields<R> {
         })
     }
 
+    fn canonical_len(alloc: Global, octets: &[u8]) -> Option<usize> {
+        R::Parts::canonical_len(alloc, octets)
+    }
+
     fn read(alloc: Global, octets: &[u8]) -> Result<Front<Fields<R>>, ReadFault> {
         let front = R::Parts::read(alloc, octets)?;
         Ok(Front {

@@ -44,6 +44,14 @@ impl<const N: u8> Production for Opening<N> {
         Some(Self::read(alloc, octets).ok()?.into_spelling())
     }
 
+    fn canonical_len(_alloc: Global, octets: &[u8]) -> Option<usize> {
+        if is_short_opening(octets, N) {
+            Some(1)
+        } else {
+            None
+        }
+    }
+
     #[inline(always)]
     fn read(_alloc: Global, octets: &[u8]) -> Result<Front<Opening<N>>, ReadFault> {
         if is_short_opening(octets, N) {
@@ -97,6 +105,14 @@ impl<const N: u8> Production for Closing<N> {
     #[inline(always)]
     fn read_spelling(alloc: Global, octets: &[u8], _wanted: bool) -> Option<Spelling<Closing<N>>> {
         Some(Self::read(alloc, octets).ok()?.into_spelling())
+    }
+
+    fn canonical_len(_alloc: Global, octets: &[u8]) -> Option<usize> {
+        if is_short_closing(octets, N) {
+            Some(1)
+        } else {
+            None
+        }
     }
 
     #[inline(always)]

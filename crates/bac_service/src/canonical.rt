@@ -1,0 +1,58 @@
+//! Services in canonical octets, which are found without the service.
+
+ghost use Rattle.std.specs.Prelude.{◌≡◌, true, IsTrue};
+ghost use Rattle.bac_data.specs.CanonicalFronts.{IsCanonical};
+ghost use Rattle.bac_service.specs.declared.kind.Kind.TheVariants.{Confirmed, ComplexAck};
+ghost use Rattle.bac_service.specs.Services.{SpellsService};
+
+use crate::kind::{Kind, has_production};
+use crate::named::{is_canonical_list, is_canonical_named, is_canonical_notification};
+use crate::services::read_property_ack::ReadPropertyAck;
+use crate::services::read_property_multiple::ReadPropertyMultiple;
+use crate::services::read_property_multiple_ack::ReadPropertyMultipleAck;
+use crate::services::write_property::WriteProperty;
+use crate::services::write_property_multiple::WritePropertyMultiple;
+use std::alloc::Global;
+
+/// What [`is_canonical_service`] tells of a confirmed request.
+fn is_canonical_confirmed(alloc: Global, choice: u8, octets: &[u8]) -> bool
+    ensures { IsTrue result → IsCanonical (SpellsService true 32 Confirmed choice) octets.now }
+{
+    match choice {
+        1 => is_canonical_notification(alloc, true, octets),
+        14 => is_canonical_list::<ReadPropertyMultiple>(alloc, octets),
+        15 => is_canonical_named::<WriteProperty>(alloc, octets),
+        16 => is_canonical_list::<WritePropertyMultiple>(alloc, octets),
+        _ => false,
+    }
+}
+
+/// What [`is_canonical_service`] tells of an answer with contents.
+fn is_canonical_complex_ack(alloc: Global, choice: u8, octets: &[u8]) -> bool
+    ensures { IsTrue result → IsCanonical (SpellsService true 32 ComplexAck choice) octets.now }
+{
+    match choice {
+        12 => is_canonical_named::<ReadPropertyAck>(alloc, octets),
+        14 => is_canonical_list::<ReadPropertyMultipleAck>(alloc, octets),
+        _ => false,
+    }
+}
+
+/// Whether the octets are the canonical ones of a service of this kind and with this service choice, if that is found at
+/// once. False tells nothing of the octets: it is always told of services that want no memory, which are short.
+///
+/// No octet is kept, however many there are.
+pub fn is_canonical_service(alloc: Global, kind: Kind, choice: u8, octets: &[u8]) -> bool
+    ensures { IsTrue result → IsCanonical (SpellsService true 32 kind choice) octets.now }
+{
+    if !has_production(kind, choice) {
+        // Opaque octets have no other spelling.
+        return true;
+    }
+    match kind {
+        Kind::Confirmed => is_canonical_confirmed(alloc, choice, octets),
+        Kind::Unconfirmed if choice == 2 => is_canonical_notification(alloc, false, octets),
+        Kind::ComplexAck => is_canonical_complex_ack(alloc, choice, octets),
+        _ => false,
+    }
+}
