@@ -1,15 +1,15 @@
 -- APDUs with a service behind their head.
-use Rattle.std.specs.Prelude.{◌≡◌, ℕ, ◌<◌, ◌≤◌, true, List, [], ◌++◌, length, drop, Option, None, refl}
+use Rattle.std.specs.Prelude.{◌≡◌, ℕ, ◌<◌, ◌≤◌, true, List, [], ◌++◌, length, take, drop, Option, None, refl}
 use Rattle.std.proofs.Common.{sym, ◌∙◌, ap, subst}
 use Rattle.std.proofs.lemmas.List.{length-take-le}
 use Rattle.bac_tag.specs.declared.refusals.Refusal.{Refusal}
 use Rattle.bac_tag.specs.Octets.{IsMark, joined_mark}
 use Rattle.bac_tag.specs.Refusals.{behind}
-use Rattle.bac_tag.specs.Spelling.{HasMark, IsWholeRefusal}
+use Rattle.bac_tag.specs.Spelling.{IsLeast, HasMark, IsWholeRefusal}
+use Rattle.bac_data.specs.CanonicalFronts.{IsCanonical}
 use Rattle.bac_service.specs.declared.kind.Kind.{Kind}
-use Rattle.bac_service.specs.declared.service.Service.{Service}
 use Rattle.bac_service.specs.ServiceTable.{production_of, is_small as is_small_service}
-use Rattle.bac_service.specs.ServiceValues.{ServiceValue, opaque, value_of as service_of}
+use Rattle.bac_service.specs.ServiceValues.{ServiceValue, opaque}
 use Rattle.bac_service.specs.Services.{SpellsService}
 use Rattle.bac_tag.specs.HeadOctets.{least_head}
 use Rattle.bac_apdu.specs.FirstOctet.{HasType, HasSeg, HasGoodWindow}
@@ -47,17 +47,35 @@ module _ (k : Kind) (c : ℕ) (b least : List ℕ) (long : length least ≤ leng
     reasoned = reasoned t b r h low good e.reason;
   }
 
-  pub carrying_found : (v : ApduValue) (service : Service) (mark : Option ℕ)
-      → ((d : List ℕ) → SpellsService true 32 k c (service_of service) d → SpellsApdu v (filled (length least) b ++ d))
-      → ((d : List ℕ) (m : Option ℕ) → HasMark (SpellsServiceOf k (service_of service)) d m → HasMark (SpellsBody v) d m)
-      → ((service_of service).choice ≡ c → least ≡ least_head (head_of v)) → IsServiceBehind k c b least service mark → SpellsApdu v b × HasMark (SpellsApdu v) b mark
+  pub carrying_found : (v : ApduValue) (service : ServiceValue) (mark : Option ℕ)
+      → ((d : List ℕ) → SpellsService true 32 k c service d → SpellsApdu v (filled (length least) b ++ d))
+      → ((d : List ℕ) (m : Option ℕ) → HasMark (SpellsServiceOf k service) d m → HasMark (SpellsBody v) d m)
+      → (service.choice ≡ c → least ≡ least_head (head_of v)) → IsServiceBehind k c b least service mark → SpellsApdu v b × HasMark (SpellsApdu v) b mark
   carrying_found v service mark every body same f =
       let n = length least in
       let s = every (drop n b) f.spelled in
-      let own = body (drop n b) f.second (subst (λ (m : ℕ). HasMark (SpellsService true 32 k m (service_of service)) (drop n b) f.second) (sym f.spelled.choice_is) f.of_service) in
+      let own = body (drop n b) f.second (subst (λ (m : ℕ). HasMark (SpellsService true 32 k m service) (drop n b) f.second) (sym f.spelled.choice_is) f.of_service) in
       let size : length (filled n b) ≡ n = ap (λ (l : List ℕ). length l) (sym (filled_taken n b long)) ∙ length-take-le n b long in
       let head : IsMark (filled n b) (least_head (head_of v)) f.first = subst (λ (l : List ℕ). IsMark (filled n b) l f.first) (same f.spelled.choice_is) (subst (λ (l : List ℕ). IsMark l least f.first) (filled_taken n b long) f.of_head) in
       let m = headed_mark (head_of v) (SpellsBody v) f.first f.second (filled n b) (drop n b) s head own in
       let at : filled n b ++ drop n b ≡ b = sym (filled_split n b long) in
       let mark_at : HasMark (SpellsApdu v) (filled n b ++ drop n b) mark = subst (HasMark (SpellsApdu v) (filled n b ++ drop n b)) (ap (λ (k : ℕ). joined_mark f.first k f.second) size ∙ sym f.mark_is) m in
       (subst (SpellsApdu v) at s, subst (λ (l : List ℕ). HasMark (SpellsApdu v) l mark) at mark_at)
+
+-- a head in its least octets, and canonical octets of a service behind it
+pub canonical_behind : (k : Kind) (c : ℕ) (b least : List ℕ) → take (length least) b ≡ least → IsCanonical (SpellsService true 32 k c) (drop (length least) b) → (service : ServiceValue) × IsServiceBehind k c b least service None
+canonical_behind k c b least e (service, l) = (
+  service,
+  record {
+    spelled = l.member;
+    first = None;
+    second = None;
+    of_head = e;
+    of_service = record { least = drop (length least) b; is_least = l; is_mark = refl };
+    mark_is = refl;
+  },
+)
+
+-- an APDU without a mark is canonical
+pub canonical_apdu : (v : ApduValue) (b : List ℕ) → SpellsApdu v b × HasMark (SpellsApdu v) b None → IsCanonical SpellsApdu b
+canonical_apdu v b (s, m) = (v, subst (IsLeast (SpellsApdu v)) (sym m.is_mark) m.is_least)

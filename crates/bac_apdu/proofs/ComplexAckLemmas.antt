@@ -5,8 +5,7 @@ use Rattle.bac_tag.specs.declared.refusals.Refusal.{Refusal}
 use Rattle.bac_tag.specs.declared.refusals.Why.TheVariants.{Short}
 use Rattle.bac_tag.specs.Spelling.{IsViable, HasMark}
 use Rattle.bac_service.specs.declared.kind.Kind.TheVariants.{ComplexAck}
-use Rattle.bac_service.specs.declared.service.Service.{Service}
-use Rattle.bac_service.specs.ServiceValues.{ServiceValue, opaque, value_of as service_of}
+use Rattle.bac_service.specs.ServiceValues.{ServiceValue, opaque}
 use Rattle.bac_service.specs.Services.{SpellsService}
 use Rattle.bac_apdu.specs.FirstOctet.{HasType, HasSeg, HasGoodWindow}
 use Rattle.bac_apdu.specs.Apdus.{ApduValue, complex_ack, SpellsApdu}
@@ -38,5 +37,5 @@ module _ (b : List ℕ) (small : (k : ℕ) → slice_index b k < 256) (h : HasTy
   pub complex_ack_refused : (r : Refusal) → 3 ≤ length b → IsRefusedBehind ComplexAck (slice_index b 2) b (48 ∷ slice_index b 1 ∷ slice_index b 2 ∷ []) r → IsRefused b r
   complex_ack_refused r long e = carrying_refused ComplexAck (slice_index b 2) b (48 ∷ slice_index b 1 ∷ slice_index b 2 ∷ []) long 3 0 r (λ s d p. (complex_ack (slice_index b 1) s, complex_ack_every s d p)) complex_ack_only h g (omega arith) good refl e
 
-  pub complex_ack_found : (service : Service) (m : Option ℕ) → 3 ≤ length b → IsServiceBehind ComplexAck (slice_index b 2) b (48 ∷ slice_index b 1 ∷ slice_index b 2 ∷ []) service m → SpellsApdu (complex_ack (slice_index b 1) (service_of service)) b × HasMark (SpellsApdu (complex_ack (slice_index b 1) (service_of service))) b m
-  complex_ack_found service m long f = carrying_found ComplexAck (slice_index b 2) b (48 ∷ slice_index b 1 ∷ slice_index b 2 ∷ []) long (complex_ack (slice_index b 1) (service_of service)) service m (complex_ack_every (service_of service)) (λ d m k. k) (λ e. ap (λ (n : ℕ). 48 ∷ slice_index b 1 ∷ n ∷ []) (sym e)) f
+  pub complex_ack_found : (service : ServiceValue) (m : Option ℕ) → 3 ≤ length b → IsServiceBehind ComplexAck (slice_index b 2) b (48 ∷ slice_index b 1 ∷ slice_index b 2 ∷ []) service m → SpellsApdu (complex_ack (slice_index b 1) service) b × HasMark (SpellsApdu (complex_ack (slice_index b 1) service)) b m
+  complex_ack_found service m long f = carrying_found ComplexAck (slice_index b 2) b (48 ∷ slice_index b 1 ∷ slice_index b 2 ∷ []) long (complex_ack (slice_index b 1) service) service m (complex_ack_every service) (λ d m k. k) (λ e. ap (λ (n : ℕ). 48 ∷ slice_index b 1 ∷ n ∷ []) (sym e)) f

@@ -5,11 +5,11 @@ use Rattle.bac_tag.specs.declared.refusals.Refusal.{Refusal}
 use Rattle.bac_tag.specs.declared.refusals.Why.TheVariants.{Short}
 use Rattle.bac_tag.specs.Spelling.{IsViable, HasMark}
 use Rattle.bac_service.specs.declared.kind.Kind.TheVariants.{Confirmed}
-use Rattle.bac_service.specs.declared.service.Service.{Service}
-use Rattle.bac_service.specs.ServiceValues.{ServiceValue, opaque, value_of as service_of}
+use Rattle.bac_service.specs.ServiceValues.{ServiceValue, opaque}
 use Rattle.bac_service.specs.Services.{SpellsService}
 use Rattle.bac_apdu.specs.declared.confirmed_request.RequestHead.{RequestHead}
-use Rattle.bac_tag.specs.HeadOctets.{typed, bit_of, least_part}
+use Rattle.bac_tag.specs.HeadOctets.{typed, bit_of, least_part, least_head}
+use Rattle.bac_apdu.specs.ConfirmedRequest.{confirmed_request_head}
 use Rattle.bac_apdu.specs.FirstOctet.{HasType, HasSeg, HasGoodWindow}
 use Rattle.bac_apdu.specs.Apdus.{ApduValue, confirmed_request, SpellsApdu}
 use Rattle.bac_apdu.specs.Decoded.{IsRefused, IsServiceBehind, IsRefusedBehind}
@@ -31,6 +31,11 @@ pub record SaysHead (b : List ℕ) (head : RequestHead) : Type 0 where
 
 pub says_head : (b : List ℕ) → SaysHead b (head_at b)
 says_head b = record { sa = flag_is 1 (slice_index b 0); segs = refl; resp = refl; invoke = refl }
+
+-- the least octets of a head that these octets say
+pub least_at : (b : List ℕ) (head : RequestHead) (least : List ℕ) → SaysHead b head → least ≡ least_head (confirmed_request_head head (slice_index b 3))
+    → least ≡ least_part (typed 0 (Some false) None (Some head.sa) None) ∷ (16 * head.segs + head.resp) ∷ slice_index b 2 ∷ slice_index b 3 ∷ []
+least_at b head least says e = e ∙ ap (λ (z : ℕ). least_part (typed 0 (Some false) None (Some head.sa) None) ∷ (16 * head.segs + head.resp) ∷ z ∷ slice_index b 3 ∷ []) (sym says.invoke)
 
 module _ (b : List ℕ) (small : (k : ℕ) → slice_index b k < 256) (h : HasType 0 b) (g : HasSeg 0 b) where
   pub confirmed_request_begun : IsViable SpellsApdu (filled 3 b)
@@ -59,10 +64,10 @@ module _ (b : List ℕ) (small : (k : ℕ) → slice_index b k < 256) (h : HasTy
   confirmed_request_refused m n r long e =
       carrying_refused Confirmed (slice_index b 3) b (m ∷ n ∷ slice_index b 2 ∷ slice_index b 3 ∷ []) long 0 0 r (λ s d p. (confirmed_request (head_at b) s, confirmed_request_every (head_at b) (says_head b) s d p)) confirmed_request_only h g (omega arith) good refl e
 
-  pub confirmed_request_found : (head : RequestHead) (m n : ℕ) → SaysHead b head → m ≡ least_part (typed 0 (Some false) None (Some head.sa) None) → n ≡ 16 * head.segs + head.resp → (service : Service) (mark : Option ℕ) → 4 ≤ length b
-      → IsServiceBehind Confirmed (slice_index b 3) b (m ∷ n ∷ slice_index b 2 ∷ slice_index b 3 ∷ []) service mark → SpellsApdu (confirmed_request head (service_of service)) b × HasMark (SpellsApdu (confirmed_request head (service_of service))) b mark
+  pub confirmed_request_found : (head : RequestHead) (m n : ℕ) → SaysHead b head → m ≡ least_part (typed 0 (Some false) None (Some head.sa) None) → n ≡ 16 * head.segs + head.resp → (service : ServiceValue) (mark : Option ℕ) → 4 ≤ length b
+      → IsServiceBehind Confirmed (slice_index b 3) b (m ∷ n ∷ slice_index b 2 ∷ slice_index b 3 ∷ []) service mark → SpellsApdu (confirmed_request head service) b × HasMark (SpellsApdu (confirmed_request head service)) b mark
   confirmed_request_found head m n a u v service mark long f =
-      carrying_found Confirmed (slice_index b 3) b (m ∷ n ∷ slice_index b 2 ∷ slice_index b 3 ∷ []) long (confirmed_request head (service_of service)) service mark (confirmed_request_every head a (service_of service)) (λ d m k. k)
+      carrying_found Confirmed (slice_index b 3) b (m ∷ n ∷ slice_index b 2 ∷ slice_index b 3 ∷ []) long (confirmed_request head service) service mark (confirmed_request_every head a service) (λ d m k. k)
       (λ e. ap (λ (z : ℕ). z ∷ n ∷ slice_index b 2 ∷ slice_index b 3 ∷ []) u ∙ ap (λ (z : ℕ). least_part (typed 0 (Some false) None (Some head.sa) None) ∷ z ∷ slice_index b 2 ∷ slice_index b 3 ∷ []) v
       ∙ ap (λ (z : ℕ). least_part (typed 0 (Some false) None (Some head.sa) None) ∷ (16 * head.segs + head.resp) ∷ z ∷ slice_index b 3 ∷ []) a.invoke
       ∙ ap (λ (z : ℕ). least_part (typed 0 (Some false) None (Some head.sa) None) ∷ (16 * head.segs + head.resp) ∷ head.invoke ∷ z ∷ []) (sym e)) f

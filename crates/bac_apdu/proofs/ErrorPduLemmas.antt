@@ -5,8 +5,7 @@ use Rattle.bac_tag.specs.declared.refusals.Refusal.{Refusal}
 use Rattle.bac_tag.specs.declared.refusals.Why.TheVariants.{Short}
 use Rattle.bac_tag.specs.Spelling.{IsViable, HasMark}
 use Rattle.bac_service.specs.declared.kind.Kind.TheVariants.{Error}
-use Rattle.bac_service.specs.declared.service.Service.{Service}
-use Rattle.bac_service.specs.ServiceValues.{ServiceValue, opaque, value_of as service_of}
+use Rattle.bac_service.specs.ServiceValues.{ServiceValue, opaque}
 use Rattle.bac_service.specs.Services.{SpellsService}
 use Rattle.bac_apdu.specs.FirstOctet.{seg_at, HasType, HasGoodWindow}
 use Rattle.bac_apdu.specs.Apdus.{ApduValue, error, SpellsApdu}
@@ -38,5 +37,5 @@ module _ (b : List ℕ) (small : (k : ℕ) → slice_index b k < 256) (h : HasTy
   pub error_refused : (r : Refusal) → 3 ≤ length b → IsRefusedBehind Error (slice_index b 2) b (80 ∷ slice_index b 1 ∷ slice_index b 2 ∷ []) r → IsRefused b r
   error_refused r long e = carrying_refused Error (slice_index b 2) b (80 ∷ slice_index b 1 ∷ slice_index b 2 ∷ []) long 5 (seg_at (slice_index b 0)) r (λ s d p. (error (slice_index b 1) s, error_every s d p)) error_only h refl (omega arith) good refl e
 
-  pub error_found : (service : Service) (m : Option ℕ) → 3 ≤ length b → IsServiceBehind Error (slice_index b 2) b (80 ∷ slice_index b 1 ∷ slice_index b 2 ∷ []) service m → SpellsApdu (error (slice_index b 1) (service_of service)) b × HasMark (SpellsApdu (error (slice_index b 1) (service_of service))) b m
-  error_found service m long f = carrying_found Error (slice_index b 2) b (80 ∷ slice_index b 1 ∷ slice_index b 2 ∷ []) long (error (slice_index b 1) (service_of service)) service m (error_every (service_of service)) (λ d m k. k) (λ e. ap (λ (n : ℕ). 80 ∷ slice_index b 1 ∷ n ∷ []) (sym e)) f
+  pub error_found : (service : ServiceValue) (m : Option ℕ) → 3 ≤ length b → IsServiceBehind Error (slice_index b 2) b (80 ∷ slice_index b 1 ∷ slice_index b 2 ∷ []) service m → SpellsApdu (error (slice_index b 1) service) b × HasMark (SpellsApdu (error (slice_index b 1) service)) b m
+  error_found service m long f = carrying_found Error (slice_index b 2) b (80 ∷ slice_index b 1 ∷ slice_index b 2 ∷ []) long (error (slice_index b 1) service) service m (error_every service) (λ d m k. k) (λ e. ap (λ (n : ℕ). 80 ∷ slice_index b 1 ∷ n ∷ []) (sym e)) f

@@ -5,8 +5,7 @@ use Rattle.bac_tag.specs.declared.refusals.Refusal.{Refusal}
 use Rattle.bac_tag.specs.declared.refusals.Why.TheVariants.{Short}
 use Rattle.bac_tag.specs.Spelling.{IsViable, HasMark}
 use Rattle.bac_service.specs.declared.kind.Kind.TheVariants.{Unconfirmed}
-use Rattle.bac_service.specs.declared.service.Service.{Service}
-use Rattle.bac_service.specs.ServiceValues.{ServiceValue, opaque, value_of as service_of}
+use Rattle.bac_service.specs.ServiceValues.{ServiceValue, opaque}
 use Rattle.bac_service.specs.Services.{SpellsService}
 use Rattle.bac_apdu.specs.FirstOctet.{seg_at, HasType, HasGoodWindow}
 use Rattle.bac_apdu.specs.Apdus.{ApduValue, unconfirmed_request, SpellsApdu}
@@ -38,5 +37,5 @@ module _ (b : List ℕ) (small : (k : ℕ) → slice_index b k < 256) (h : HasTy
   pub unconfirmed_request_refused : (r : Refusal) → 2 ≤ length b → IsRefusedBehind Unconfirmed (slice_index b 1) b (16 ∷ slice_index b 1 ∷ []) r → IsRefused b r
   unconfirmed_request_refused r long e = carrying_refused Unconfirmed (slice_index b 1) b (16 ∷ slice_index b 1 ∷ []) long 1 (seg_at (slice_index b 0)) r (λ s d p. (unconfirmed_request s, unconfirmed_request_every s d p)) unconfirmed_request_only h refl (omega arith) good refl e
 
-  pub unconfirmed_request_found : (service : Service) (m : Option ℕ) → 2 ≤ length b → IsServiceBehind Unconfirmed (slice_index b 1) b (16 ∷ slice_index b 1 ∷ []) service m → SpellsApdu (unconfirmed_request (service_of service)) b × HasMark (SpellsApdu (unconfirmed_request (service_of service))) b m
-  unconfirmed_request_found service m long f = carrying_found Unconfirmed (slice_index b 1) b (16 ∷ slice_index b 1 ∷ []) long (unconfirmed_request (service_of service)) service m (unconfirmed_request_every (service_of service)) (λ d m k. k) (λ e. ap (λ (n : ℕ). 16 ∷ n ∷ []) (sym e)) f
+  pub unconfirmed_request_found : (service : ServiceValue) (m : Option ℕ) → 2 ≤ length b → IsServiceBehind Unconfirmed (slice_index b 1) b (16 ∷ slice_index b 1 ∷ []) service m → SpellsApdu (unconfirmed_request service) b × HasMark (SpellsApdu (unconfirmed_request service)) b m
+  unconfirmed_request_found service m long f = carrying_found Unconfirmed (slice_index b 1) b (16 ∷ slice_index b 1 ∷ []) long (unconfirmed_request service) service m (unconfirmed_request_every service) (λ d m k. k) (λ e. ap (λ (n : ℕ). 16 ∷ n ∷ []) (sym e)) f

@@ -11,7 +11,7 @@ use Rattle.bac_service.specs.declared.kind.Kind.TheVariants.{Confirmed, Unconfir
 use Rattle.bac_service.specs.declared.service.Service.{Service}
 use Rattle.bac_service.specs.Reasons.{IsServiceReason}
 use Rattle.bac_service.specs.ServiceTable.{is_small as is_small_service}
-use Rattle.bac_service.specs.ServiceValues.{value_of as service_of}
+use Rattle.bac_service.specs.ServiceValues.{ServiceValue, value_of as service_of}
 use Rattle.bac_service.specs.Services.{SpellsService}
 use Rattle.bac_apdu.specs.FirstOctet.{type_at, seg_at, IsTypePlace, IsWindowPlace}
 use Rattle.bac_apdu.specs.Apdus.{ApduValue, confirmed_request, unconfirmed_request, simple_ack, complex_ack, segment_ack, error, reject, abort, segment, SpellsApdu}
@@ -68,12 +68,12 @@ IsVisited makes octets old new (Ok made) = IsMade makes octets old new made
 IsVisited makes octets old new (Err refusal) = IsRefused octets refusal × (new ≡ old)
 
 -- a service behind a head with these least octets, and the mark of both
-pub record IsServiceBehind (kind : Kind) (choice : ℕ) (octets head : List ℕ) (service : Service) (mark : Option ℕ) : Type 0 where
-  pub spelled : SpellsService true 32 kind choice (service_of service) (drop (length head) octets)
+pub record IsServiceBehind (kind : Kind) (choice : ℕ) (octets head : List ℕ) (service : ServiceValue) (mark : Option ℕ) : Type 0 where
+  pub spelled : SpellsService true 32 kind choice service (drop (length head) octets)
   pub first : Option ℕ
   pub second : Option ℕ
   pub of_head : IsMark (take (length head) octets) head first
-  pub of_service : HasMark (SpellsService true 32 kind choice (service_of service)) (drop (length head) octets) second
+  pub of_service : HasMark (SpellsService true 32 kind choice service) (drop (length head) octets) second
   pub mark_is : mark ≡ joined_mark first (length head) second
 
 -- no service behind the head
@@ -83,7 +83,7 @@ pub record IsRefusedBehind (kind : Kind) (choice : ℕ) (octets head : List ℕ)
   pub reason : IsServiceReason refusal.why
 
 abbrev pub IsBehind : Kind → ℕ → List ℕ → List ℕ → Result (Service × Option ℕ) Refusal → Type 0
-IsBehind kind choice octets head (Ok found) = IsServiceBehind kind choice octets head found.0 found.1
+IsBehind kind choice octets head (Ok found) = IsServiceBehind kind choice octets head (service_of found.0) found.1
 IsBehind kind choice octets head (Err refusal) = IsRefusedBehind kind choice octets head refusal
 
 -- the octets end behind a head with these least octets, with the mark of both; or they do not

@@ -1,7 +1,8 @@
 //! Answers with contents (ComplexACK, clause 20.1.5).
 
-ghost use Rattle.std.specs.Prelude.{◌≡◌, ◌↔◌, IsOk, IfOk, IfErr, OnOk, OnErr};
+ghost use Rattle.std.specs.Prelude.{◌≡◌, ◌↔◌, IsTrue, IsOk, IfOk, IfErr, OnOk, OnErr};
 ghost use Rattle.bac_tag.specs.Spelling.{AppendsLeast};
+ghost use Rattle.bac_data.specs.CanonicalFronts.{IsCanonical};
 ghost use Rattle.bac_service.specs.declared.kind.Kind.TheVariants.{ComplexAck as of_complex_ack};
 ghost use Rattle.bac_service.specs.ServiceValues.{value_of as service_of};
 ghost use Rattle.bac_apdu.specs.FirstOctet.{HasType, HasSeg};
@@ -9,7 +10,7 @@ ghost use Rattle.bac_apdu.specs.Apdus.{complex_ack, SpellsApdu};
 ghost use Rattle.bac_apdu.specs.Decoded.{IsVisited};
 
 use crate::apdu::Apdu;
-use crate::services::{append_behind, decode_behind};
+use crate::services::{append_behind, decode_behind, is_canonical_behind};
 use crate::visiting::ApduVisitor;
 use bac_service::{Kind, Service};
 use bac_tag::{OutOfMemory, Refusal, Why};
@@ -96,6 +97,25 @@ impl ComplexAck {
         let octets = [0x30, self.invoke(), service.choice()];
         append_behind(&octets, service, out)
     }
+}
+
+/// Whether the octets are the canonical ones of an answer in one piece, if that is found at once. False tells nothing of
+/// them.
+pub(crate) fn is_canonical_complex_ack(alloc: Global, octets: &[u8]) -> bool
+    requires pdu { HasType 3 octets.now }
+    requires whole { HasSeg 0 octets.now }
+    ensures { IsTrue result → IsCanonical SpellsApdu octets.now }
+{
+    let [_, invoke, choice, ..] = octets else {
+        return false;
+    };
+    is_canonical_behind(
+        alloc,
+        Kind::ComplexAck,
+        *choice,
+        octets,
+        &[0x30, *invoke, *choice],
+    )
 }
 
 /// Decodes an answer in one piece.

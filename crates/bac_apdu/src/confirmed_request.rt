@@ -1,9 +1,12 @@
 //! Requests that want an answer (Confirmed-Request, clause 20.1.2).
 
-ghost use Rattle.std.specs.Prelude.{◌≡◌, ◌↔◌, IsOk, IfOk, IfErr, OnOk, OnErr};
+ghost use Rattle.std.specs.Prelude.{◌≡◌, ◌↔◌, ◌/◌, ◌%◌, ◌^◌, IsTrue, IsOk, IfOk, IfErr, OnOk, OnErr};
+ghost use Rattle.bac_tag.specs.HeadOctets.{bit_of, least_head};
 ghost use Rattle.bac_tag.specs.Spelling.{AppendsLeast};
+ghost use Rattle.bac_data.specs.CanonicalFronts.{IsCanonical};
 ghost use Rattle.bac_service.specs.declared.kind.Kind.TheVariants.{Confirmed};
 ghost use Rattle.bac_service.specs.ServiceValues.{value_of as service_of};
+ghost use Rattle.bac_apdu.specs.ConfirmedRequest.{confirmed_request_head};
 ghost use Rattle.bac_apdu.specs.FirstOctet.{HasType, HasSeg};
 ghost use Rattle.bac_apdu.specs.Apdus.{confirmed_request, SpellsApdu};
 ghost use Rattle.bac_apdu.specs.Decoded.{IsVisited};
@@ -12,7 +15,7 @@ use crate::apdu::Apdu;
 use crate::heads::{first_octet, has_bit};
 use crate::max_resp::MaxResp;
 use crate::max_segs::MaxSegs;
-use crate::services::{append_behind, decode_behind};
+use crate::services::{append_behind, decode_behind, is_canonical_behind};
 use crate::visiting::ApduVisitor;
 use bac_service::{Kind, Service};
 use bac_tag::{OutOfMemory, Refusal, Why};
@@ -119,6 +122,44 @@ impl ConfirmedRequest {
     }
 }
 
+/// The head that the octets in front of a service say, and the canonical ones of it.
+#[inline(always)]
+fn read_head(first: u8, limits: u8, invoke: u8, choice: u8) -> (RequestHead, [u8; 4])
+    ensures sa { first / 2 ^ 1 % 2 ≡ bit_of result.0.sa }
+    ensures segs { result.0.segs ≡ limits / 16 % 8 }
+    ensures resp { result.0.resp ≡ limits % 16 }
+    ensures invoke { result.0.invoke ≡ invoke }
+    ensures least { result.1 ≡ least_head (confirmed_request_head result.0 choice) }
+{
+    let head = RequestHead {
+        invoke,
+        sa: has_bit(first, 1),
+        segs: MaxSegs::of_octet(limits),
+        resp: MaxResp::of_octet(limits),
+    };
+    let least = [
+        first_octet(0, false, false, head.sa, false),
+        16 * head.segs.number() + head.resp.number(),
+        invoke,
+        choice,
+    ];
+    (head, least)
+}
+
+/// Whether the octets are the canonical ones of a request in one piece, if that is found at once. False tells nothing of
+/// them.
+pub(crate) fn is_canonical_confirmed_request(alloc: Global, octets: &[u8]) -> bool
+    requires pdu { HasType 0 octets.now }
+    requires whole { HasSeg 0 octets.now }
+    ensures { IsTrue result → IsCanonical SpellsApdu octets.now }
+{
+    let [first, limits, invoke, choice, ..] = octets else {
+        return false;
+    };
+    let (_, least) = read_head(*first, *limits, *invoke, *choice);
+    is_canonical_behind(alloc, Kind::Confirmed, *choice, octets, &least)
+}
+
 /// Decodes a request in one piece.
 pub(crate) fn decode_confirmed_request<V: ApduVisitor>(
     alloc: Global,
@@ -133,18 +174,7 @@ pub(crate) fn decode_confirmed_request<V: ApduVisitor>(
     let [first, limits, invoke, choice, ..] = octets else {
         return Err(Why::Short.at(octets.len()));
     };
-    let head = RequestHead {
-        invoke: *invoke,
-        sa: has_bit(*first, 1),
-        segs: MaxSegs::of_octet(*limits),
-        resp: MaxResp::of_octet(*limits),
-    };
-    let least = [
-        first_octet(0, false, false, head.sa, false),
-        16 * head.segs.number() + head.resp.number(),
-        *invoke,
-        *choice,
-    ];
+    let (head, least) = read_head(*first, *limits, *invoke, *choice);
     let (service, mark) = decode_behind(alloc, Kind::Confirmed, *choice, octets, &least)?;
     let request = ConfirmedRequest { head, service };
     Ok(visitor.visit(Apdu::Confirmed(request), mark, place))

@@ -1,11 +1,12 @@
 //! Services behind a head.
 
-ghost use Rattle.std.specs.Prelude.{◌≡◌, ◌≤◌, ◌++◌, length, true, OnOk, OnErr};
+ghost use Rattle.std.specs.Prelude.{◌≡◌, ◌≤◌, ◌++◌, length, true, None, IsTrue, OnOk, OnErr};
 ghost use Rattle.bac_tag.specs.Spelling.{AppendsLeast};
-ghost use Rattle.bac_service.specs.ServiceValues.{value_of as service_of};
+ghost use Rattle.bac_service.specs.ServiceValues.{ServiceValue, value_of as service_of};
 ghost use Rattle.bac_service.specs.Services.{SpellsService};
-ghost use Rattle.bac_apdu.specs.Decoded.{IsBehind};
+ghost use Rattle.bac_apdu.specs.Decoded.{IsBehind, IsServiceBehind};
 
+use bac_service::layers::is_canonical_service;
 use bac_service::{Kind, Service, append_service, decode_service_marked};
 use bac_tag::layers::{first_difference, joined_marks};
 use bac_tag::{OutOfMemory, Refusal, Why};
@@ -33,6 +34,23 @@ pub(crate) fn decode_behind(
         Err(refusal) if refusal.why == Why::OutOfMemory => Err(refusal),
         Err(refusal) => Err(refusal.behind(count)),
     }
+}
+
+/// Whether the octets are these, the canonical ones of a head, and behind them the canonical ones of a service, if that is
+/// found at once. False tells nothing of them.
+#[inline(always)]
+pub(crate) fn is_canonical_behind(
+    alloc: Global,
+    kind: Kind,
+    choice: u8,
+    octets: &[u8],
+    head: &[u8],
+) -> bool
+    requires { length head.now ≤ length octets.now }
+    ensures { IsTrue result → (service : ServiceValue) × IsServiceBehind kind choice octets.now head.now service None }
+{
+    let (front, rest) = octets.split_at(head.len());
+    front == head && is_canonical_service(alloc, kind, choice, rest)
 }
 
 /// Appends the octets of a head, and the canonical ones of a service behind it. Where memory is refused `out` stays as

@@ -1,7 +1,8 @@
 //! Requests that want no answer (Unconfirmed-Request, clause 20.1.3).
 
-ghost use Rattle.std.specs.Prelude.{◌≡◌, ◌↔◌, IsOk, IfOk, IfErr, OnOk, OnErr};
+ghost use Rattle.std.specs.Prelude.{◌≡◌, ◌↔◌, IsTrue, IsOk, IfOk, IfErr, OnOk, OnErr};
 ghost use Rattle.bac_tag.specs.Spelling.{AppendsLeast};
+ghost use Rattle.bac_data.specs.CanonicalFronts.{IsCanonical};
 ghost use Rattle.bac_service.specs.declared.kind.Kind.TheVariants.{Unconfirmed};
 ghost use Rattle.bac_service.specs.ServiceValues.{value_of as service_of};
 ghost use Rattle.bac_apdu.specs.FirstOctet.{HasType};
@@ -9,7 +10,7 @@ ghost use Rattle.bac_apdu.specs.Apdus.{unconfirmed_request, SpellsApdu};
 ghost use Rattle.bac_apdu.specs.Decoded.{IsVisited};
 
 use crate::apdu::Apdu;
-use crate::services::{append_behind, decode_behind};
+use crate::services::{append_behind, decode_behind, is_canonical_behind};
 use crate::visiting::ApduVisitor;
 use bac_service::{Kind, Service};
 use bac_tag::{OutOfMemory, Refusal, Why};
@@ -84,6 +85,18 @@ impl UnconfirmedRequest {
         let service = self.service();
         append_behind(&[0x10, service.choice()], service, out)
     }
+}
+
+/// Whether the octets are the canonical ones of a request that wants no answer, if that is found at once. False tells nothing of
+/// them.
+pub(crate) fn is_canonical_unconfirmed_request(alloc: Global, octets: &[u8]) -> bool
+    requires { HasType 1 octets.now }
+    ensures { IsTrue result → IsCanonical SpellsApdu octets.now }
+{
+    let [_, choice, ..] = octets else {
+        return false;
+    };
+    is_canonical_behind(alloc, Kind::Unconfirmed, *choice, octets, &[0x10, *choice])
 }
 
 /// Decodes a request that wants no answer.

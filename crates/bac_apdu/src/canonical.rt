@@ -1,0 +1,34 @@
+//! APDUs in canonical octets, which are found without the APDU.
+
+ghost use Rattle.std.specs.Prelude.{IsTrue};
+ghost use Rattle.bac_data.specs.CanonicalFronts.{IsCanonical};
+ghost use Rattle.bac_apdu.specs.Apdus.{SpellsApdu};
+
+use crate::complex_ack::is_canonical_complex_ack;
+use crate::confirmed_request::is_canonical_confirmed_request;
+use crate::heads::has_bit;
+use crate::unconfirmed_request::is_canonical_unconfirmed_request;
+use std::alloc::Global;
+
+/// Whether the octets are the canonical ones of an APDU that carries a service, if that is found at once. False tells
+/// nothing of the octets: it is always told of segments, of errors and of APDUs that end behind their head.
+///
+/// No octet is kept, however many there are.
+pub fn is_canonical_apdu(alloc: Global, octets: &[u8]) -> bool
+    ensures { IsTrue result → IsCanonical SpellsApdu octets.now }
+{
+    let [first, ..] = octets else {
+        return false;
+    };
+    if *first >> 4 == 1 {
+        return is_canonical_unconfirmed_request(alloc, octets);
+    }
+    if has_bit(*first, 3) {
+        return false;
+    }
+    match *first >> 4 {
+        0 => is_canonical_confirmed_request(alloc, octets),
+        3 => is_canonical_complex_ack(alloc, octets),
+        _ => false,
+    }
+}
