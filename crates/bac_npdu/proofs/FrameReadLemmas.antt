@@ -1,5 +1,6 @@
 -- Frames behind heads that were read.
 use Rattle.std.specs.Prelude.{◌≡◌, ◌≢◌, ℕ, ◌+◌, ◌/◌, ◌%◌, ◌^◌, ◌<◌, ◌≤◌, nat_eq, nat_le, cond, ◌&&◌, ◌⊎◌, Bool, true, false, Option, Some, None, List, [], ◌∷◌, ◌++◌, length, drop, slice_index, Result, Ok, Err, refl}
+use Rattle.std.specs.Option.{is_some}
 use Rattle.std.proofs.Common.{inl, inr, sym, ◌∙◌, ap, subst, append_assoc, arith}
 use Rattle.std.proofs.lemmas.List.{length-append}
 use Rattle.std.proofs.Math.Seq.{drop-append_seam}
@@ -14,6 +15,7 @@ use Rattle.bac_tag.specs.Spelling.{IsLeast, HasMark, IsWholeRefusal}
 use Rattle.bac_tag.specs.HeadOctets.{HasBit, least_head}
 use Rattle.bac_tag.proofs.HeadOctetLemmas.{parts_are}
 use Rattle.bac_tag.proofs.BehindLemmas.{whole_body}
+use Rattle.bac_data.specs.CanonicalFronts.{IsCanonical}
 use Rattle.bac_apdu.specs.FirstOctet.{IsTypePlace, IsWindowPlace}
 use Rattle.bac_apdu.specs.Decoded.{IsApduReason, begins_small as begins_small_apdu}
 use Rattle.bac_npdu.specs.declared.frame.Frame.{Frame}
@@ -289,6 +291,17 @@ module _ (octets : List ℕ) (small : (k : ℕ) → slice_index octets k < 256) 
       let p = body_found octets small c d s rest h m (flag_told 7 c m bit) bit n x o mark size (subst (λ (l : List ℕ). IsBodyFound m l x mark) back_is e) control in
       let same : frame_with v x ≡ frame_of c d s x = frame_is c v x reply priority ∙ ap (λ (y : Option DestinationValue). frame_of c y v.source x) to ∙ ap (λ (y : Option SourceValue). frame_of c d y x) from in
       (subst (λ (f : FrameValue). SpellsFrame f octets) (sym same) p.0, subst (λ (f : FrameValue). HasMark (SpellsFrame f) octets (joined_mark o n mark)) (sym same) p.1)
+
+  -- where the head has no mark, and the body is canonical, the frame is
+  pub behind_canonical : (x : BodyValue) (o : Option ℕ) → is_message x ≡ m → IsLeast (SpellsBody x) back → IsControlMark c o → is_some o ≡ false → IsCanonical SpellsFrame octets
+  behind_canonical x o is least control none =
+      let found : IsBodyFound m rest x None = subst (λ (l : List ℕ). IsBodyFound m l x None) back_is (record { is = is; spelled = least.member; marked = record { least = back; is_least = least; is_mark = refl } }) in
+      let marked = (body_found octets small c d s rest h m (flag_told 7 c m bit) bit n x None None size found (no_mark c o control none)).1 in
+      (frame_of c d s x, subst (IsLeast (SpellsFrame (frame_of c d s x))) (sym marked.is_mark) marked.is_least)
+    where
+      no_mark : (c : ℕ) (o : Option ℕ) → IsControlMark c o → is_some o ≡ false → IsControlMark c None
+      no_mark c None h e = h
+      no_mark c (Some place) h e = absurd (let i : true ≡ false = e in cc)
 
 -- the mark of a body lies within it
 pub within : (X : BodyValue → List ℕ → Type 0) (x : BodyValue) (b : List ℕ) (size : ℕ) (mark : Option ℕ) → size + length b < 2 ^ 64 → HasMark (X x) b mark → IsBehind size mark

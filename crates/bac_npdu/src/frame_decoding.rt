@@ -22,7 +22,7 @@ use std::alloc::Global;
 
 /// The place of the control octet, where it has an ignored bit that is not 0.
 #[inline(always)]
-fn mark_of(control: Control) -> Option<usize>
+pub(crate) fn mark_of(control: Control) -> Option<usize>
     ensures { IsControlMark control.0 result }
 {
     let least = Control::new(

@@ -1,16 +1,19 @@
 //! Canonical octets alone, and canonical octets of what was read.
 
-ghost use Rattle.std.specs.Prelude.{◌≡◌, ◌≢◌, ◌↔◌, false, IfOk, IfErr};
+ghost use Rattle.std.specs.Prelude.{◌≡◌, ◌≢◌, ◌↔◌, false, IsTrue, IfOk, IfErr};
 ghost use Rattle.bac_tag.specs.Spelling.{IsLeast, IsWholeRefusal};
+ghost use Rattle.bac_data.specs.CanonicalFronts.{IsCanonical};
 ghost use Rattle.bac_npdu.specs.Frames.{SpellsFrame, value_of};
 ghost use Rattle.bac_npdu.specs.Heads.{IsVersionPlace, IsAddressPlace};
 ghost use Rattle.bac_npdu.specs.Decoded.{begins_small, IsPduTypePlace, IsFrameWindowPlace, IsFrameReason};
 ghost use Rattle.bac_npdu.specs.Meanings.{IsNormalOf, IsFirstFlaw};
 
 use crate::frame::{Body, Frame};
-use crate::frame_decoding::{decode_marked, visit_frame};
+use crate::frame_decoding::{decode_marked, mark_of, visit_frame};
 use crate::frame_head::FrameHead;
+use crate::frame_heads::read_head;
 use crate::visiting::FrameVisitor;
+use bac_apdu::layers::is_canonical_apdu;
 use bac_tag::{OutOfMemory, Refusal, Why};
 use std::alloc::Global;
 
@@ -49,6 +52,24 @@ pub fn decode_strict(alloc: Global, octets: &[u8]) -> Result<Frame, Refusal>
         Some(place) => Err(Why::NotCanonical.at(place)),
     }
 }
+
+/// Whether the octets are the canonical ones of a frame with an APDU that carries a service, if that is found at once. False
+/// tells nothing of the octets. None of them is kept.
+fn is_canonical_frame(alloc: Global, octets: &[u8]) -> bool
+    ensures { IsTrue result → IsCanonical SpellsFrame octets.now }
+{
+    let Ok(read) = read_head(octets) else {
+        return false;
+    };
+    if read.control.has_message() || mark_of(read.control).is_some() {
+        return false;
+    }
+    let (_, rest) = octets.split_at(read.size);
+    is_canonical_apdu(alloc, rest)
+}
+
+/// A frame of more octets holds a long value or many, of which a copy takes longer than to go through it.
+const LONG: usize = 4096;
 
 /// Writes the canonical octets of a frame where it was decoded, so that it is not put together and moved.
 #[derive(Drop)]
@@ -118,6 +139,12 @@ pub fn normalise_frame(alloc: Global, octets: &[u8]) -> Result<Vec<u8>, Refusal>
     ensures windows { IfErr result (λ refusal. refusal.why ≢ Why.OutOfMemory → (refusal.why ≡ Why.Window) ↔ IsFrameWindowPlace octets.now refusal.place) }
     ensures reasons { IfErr result (λ refusal. IsFrameReason refusal.why) }
 {
+    if octets.len() > LONG && is_canonical_frame(alloc, octets) {
+        return match Vec::from_slice(alloc, octets) {
+            Ok(canonical) => Ok(canonical),
+            Err(_) => Err(Refusal::out_of_memory()),
+        };
+    }
     match visit_frame(alloc, octets, Normalising { alloc, octets }, &mut ())? {
         Ok(canonical) => Ok(canonical),
         Err(_) => Err(Refusal::out_of_memory()),
