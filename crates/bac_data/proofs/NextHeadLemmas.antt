@@ -7,7 +7,7 @@ use Rattle.bac_value.specs.declared.prim.PrimitiveValue.{PrimitiveValue}
 use Rattle.bac_value.specs.declared.prim.PrimitiveValue.TheVariants as prim
 use Rattle.bac_value.specs.Primitives.{IsBegun, AreLengths}
 use Rattle.bac_value.specs.PrimContents.{application_number, PrimContents, ContentsOf}
-use Rattle.bac_value.specs.Variants.{begun_into}
+use Rattle.bac_value.specs.Laws.Variants.{begun_into}
 use Rattle.bac_value.specs.Laws.VariantsOfPrim.{null_variant, unsigned_variant, signed_variant, real_variant, double_variant, octets_variant, text_variant, bits_variant, enumerated_variant, date_variant, time_variant, object_id_variant}
 use Rattle.bac_value.specs.Laws.AnyOctets.{any_octets_lengths, any_octets_each_length}
 use Rattle.bac_value.specs.Laws.Null.{null_any_octets}

@@ -1,4 +1,5 @@
 -- What only proofs need: laws of the definitions, which no contract cites.
+pub mod Faults
 pub mod Lead
 pub mod Production
 pub mod Longest

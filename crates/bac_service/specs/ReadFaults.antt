@@ -14,8 +14,3 @@ IfRefused (Refused refusal) P = P refusal
 -- Trailing is told where a whole spelling ends and nowhere else, and OutOfMemory never
 abbrev pub EndsOrGoesOn : ℕ → Refusal → Type 0
 EndsOrGoesOn taken reach = (reach.why ≡ Trailing → reach.place ≡ taken) × IsReachReason reach.why
-
--- one fact on the refusal gives another
-pub refused_also : (fault : ReadFault) {P Q : Refusal → Type 0} → ((refusal : Refusal) → P refusal → Q refusal) → IfRefused fault P → IfRefused fault Q
-refused_also OutOfMemory f h = tt
-refused_also (Refused refusal) f h = f refusal h

@@ -1,6 +1,5 @@
 -- The reasons for which octets are refused.
-use Rattle.std.specs.Prelude.{◌≡◌, ◌≢◌, ◌⊎◌}
-use Rattle.std.proofs.Common.{subst}
+use Rattle.std.specs.Prelude.{◌≡◌, ◌⊎◌}
 use Rattle.bac_tag.specs.declared.refusals.Why.{Why}
 use Rattle.bac_tag.specs.declared.refusals.Why.TheVariants.{Trailing, OutOfMemory}
 use Rattle.bac_data.specs.Refusals.{IsItemReason}
@@ -16,7 +15,3 @@ IsReachReason why = (why ≡ Trailing) ⊎ IsPartReason why
 -- of a service: those, or OutOfMemory
 abbrev pub IsServiceReason : Why → Type 0
 IsServiceReason why = (why ≡ OutOfMemory) ⊎ IsReachReason why
-
--- a part does not tell Trailing
-pub part_trails : (w : Why) → IsPartReason w → w ≢ Trailing
-part_trails w h e = subst IsPartReason e h

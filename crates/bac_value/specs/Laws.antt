@@ -18,5 +18,6 @@ pub mod OctetString
 pub mod Text
 pub mod Bits
 pub mod Prim
+pub mod Variants
 pub mod VariantsOfPrim
 pub mod PrimOfContents

@@ -11,7 +11,8 @@ use Rattle.bac_service.specs.Laws.Production.{sound_parts, not_empty}
 use Rattle.bac_service.specs.Laws.Longest.{IsSoFar, some_taken, some_spelled, so_far_start, so_far_end, list_more, items_snoc, take_add}
 use Rattle.bac_service.specs.Laws.Reach.{IsReachSoFar, reach_start}
 use Rattle.bac_service.specs.Laws.Refusal.{farther_is, reach_taken, reach_item, reach_items, reach_so_far}
-use Rattle.bac_service.specs.Reasons.{IsPartReason, IsReachReason, part_trails}
+use Rattle.bac_service.specs.Reasons.{IsPartReason, IsReachReason}
+use Rattle.bac_service.specs.Laws.Faults.{part_trails}
 use Rattle.bac_service.specs.ReadFaults.{EndsOrGoesOn}
 use Rattle.bac_service.specs.Laws.Least.{mark_nothing, mark_item, mark_either_item}
 use Rattle.std.proofs.Common.{sym, subst, inl, inr, arith, length-drop}

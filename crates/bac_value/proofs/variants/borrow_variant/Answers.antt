@@ -1,4 +1,4 @@
-use Rattle.bac_value.specs.Variants.{written_from}
+use Rattle.bac_value.specs.Laws.Variants.{written_from}
 use Rattle.bac_value.proofs.variants.borrow_variant.Goals as goal
 
 pub borrowed-requires : goal.borrowed-requires

@@ -1,5 +1,5 @@
 use Rattle.std.proofs.lemmas.Option.{IfSome_then}
-use Rattle.bac_value.specs.Variants.{hopeless_into}
+use Rattle.bac_value.specs.Laws.Variants.{hopeless_into}
 use Rattle.bac_value.proofs.variants.hopeless_variant.Goals as goal
 
 pub returns-clause-some : goal.returns-clause-some

@@ -2,7 +2,7 @@ use Rattle.std.proofs.Common.{◌≡◌, ℕ, ◌+◌, List, ◌++◌, Option, N
 use Rattle.std.proofs.lemmas.List.{take-append-drop}
 use Rattle.std.specs.Prelude.{IfSome, is_some}
 use Rattle.bac_value.specs.Primitives.{IsHopelessAt}
-use Rattle.bac_value.specs.Variants.{written_from}
+use Rattle.bac_value.specs.Laws.Variants.{written_from}
 use Rattle.bac_value.proofs.variants.is_written_variant.Goals.{then-size-SHORTEST-via-then-size-SHORTEST, then-size-SHORTEST-via-else-size-SHORTEST+then-LONGEST-size, then-size-SHORTEST-via-else-size-SHORTEST+else-LONGEST-size+then-is_some}
 use Rattle.bac_value.proofs.variants.is_written_variant.Goals as goal
 

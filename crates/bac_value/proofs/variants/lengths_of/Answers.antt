@@ -1,4 +1,4 @@
-use Rattle.bac_value.specs.Variants.{lengths_into}
+use Rattle.bac_value.specs.Laws.Variants.{lengths_into}
 use Rattle.bac_value.proofs.variants.lengths_of.Goals as goal
 
 pub returns-clause-lengths : goal.returns-clause-lengths

@@ -1,6 +1,6 @@
 use Rattle.std.proofs.Common.{[], length}
 use Rattle.std.proofs.lemmas.Result.{err_from_is_err_and}
-use Rattle.bac_value.specs.Variants.{begun_from, hopeless_into}
+use Rattle.bac_value.specs.Laws.Variants.{begun_from, hopeless_into}
 use Rattle.bac_value.proofs.variants.read_variant.Goals as goal
 
 pub returns-in_err-read-clause-length : goal.returns-in_err-read-clause-length

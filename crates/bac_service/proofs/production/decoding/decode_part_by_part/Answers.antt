@@ -1,6 +1,6 @@
 use Rattle.std.specs.Prelude.{◌≢◌, length}
 use Rattle.std.proofs.Common.{arith}
-use Rattle.bac_service.specs.Reasons.{part_trails}
+use Rattle.bac_service.specs.Laws.Faults.{part_trails}
 use Rattle.bac_service.specs.Laws.Whole.{whole_refused, whole_trails, whole_reaches}
 use Rattle.bac_service.proofs.production.decoding.decode_part_by_part.Goals as goal
 

@@ -1,6 +1,6 @@
 use Rattle.std.proofs.lemmas.Result.{err_from_is_err_and}
 use Rattle.bac_service.specs.Laws.Group.{group_sound, group_longest, group_reach, group_refused}
-use Rattle.bac_service.specs.ReadFaults.{refused_also}
+use Rattle.bac_service.specs.Laws.Faults.{refused_also}
 use Rattle.bac_service.proofs.production.group.GroupProduction.read.Goals as goal
 
 pub read-requires : goal.read-requires

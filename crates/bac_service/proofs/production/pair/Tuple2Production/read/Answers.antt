@@ -2,7 +2,7 @@ use Rattle.std.proofs.lemmas.Result.{err_from_is_err_and}
 use Rattle.std.proofs.lemmas.List.{take_rest}
 use Rattle.bac_service.specs.Laws.Longest.{pair_found}
 use Rattle.bac_service.specs.Laws.Least.{mark_both}
-use Rattle.bac_service.specs.ReadFaults.{refused_also}
+use Rattle.bac_service.specs.Laws.Faults.{refused_also}
 use Rattle.bac_service.specs.Laws.Refusal.{reach_both, refused_behind, refused_before}
 use Rattle.bac_service.proofs.production.pair.Tuple2Production.read.Goals as goal
 

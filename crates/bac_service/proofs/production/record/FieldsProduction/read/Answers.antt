@@ -1,5 +1,5 @@
 use Rattle.std.proofs.lemmas.Result.{err_from_is_err_and}
-use Rattle.bac_service.specs.ReadFaults.{refused_also}
+use Rattle.bac_service.specs.Laws.Faults.{refused_also}
 use Rattle.bac_service.specs.Laws.Least.{mark_alike}
 use Rattle.bac_service.specs.Laws.Record.{record_refused}
 use Rattle.bac_service.proofs.production.record.FieldsProduction.read.Goals as goal
