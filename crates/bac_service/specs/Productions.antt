@@ -53,6 +53,11 @@ pub record IsInhabited {V : Type 0} (spells : V → List ℕ → Type 0) : Type 
 abbrev pub HasLeast : {V : Type 0} → (V → List ℕ → Type 0) → Type 0
 HasLeast {V} spells = (v : V) (b : List ℕ) → spells v b → (c : List ℕ) × IsLeast (spells v) c
 
+-- No list spells two values, and each value that is spelled has a least spelling.
+pub record IsWellSpelled {V : Type 0} (spells : V → List ℕ → Type 0) : Type 0 where
+  pub once : (v w : V) (b : List ℕ) → spells v b → spells w b → v ≡ w
+  pub least : HasLeast spells
+
 -- ---- what a reader tells
 
 -- the mark of so many octets, of which so many stand in front of the first that differs from the canonical ones

@@ -4,11 +4,11 @@ ghost use Rattle.std.specs.Prelude.{◌≡◌, ◌↔◌, ◌⊎◌, ℕ, List, 
 ghost use Rattle.bac_tag.specs.Octets.{IsOctets};
 ghost use Rattle.bac_tag.specs.Spelling.{IsLeast, IsViable, IsPartway, OneOf, Joined};
 ghost use Rattle.bac_service.specs.declared.kind.Kind.{Kind};
-ghost use Rattle.bac_service.specs.ServiceTable.{IsUnchanged};
-ghost use Rattle.bac_service.specs.Productions.{HasLeast};
+ghost use Rattle.bac_service.specs.Productions.{IsWellSpelled};
+ghost use Rattle.bac_service.specs.ServiceTable.{ServiceProduction, IsUnchanged};
 ghost use Rattle.bac_service.specs.Same.{same_service};
 ghost use Rattle.bac_service.specs.ServiceValues.{ServiceValue, opaque, value_of};
-ghost use Rattle.bac_service.specs.Services.{SpellsService, IsPlaced};
+ghost use Rattle.bac_service.specs.Services.{SpellsBy, SpellsService, IsPlaced};
 
 use crate::production::Production;
 use crate::production::record::Fields;
@@ -26,33 +26,35 @@ use crate::services::write_property::WriteProperty;
 use crate::services::write_property_multiple::WriteAccessSpecification;
 use crate::services::write_property_multiple_error::WritePropertyMultipleError;
 
-/// No list spells two values of a part.
-fn parts_have_one_value<P: Production>()
+/// No list spells two values of a part, and each value that is spelled has a least spelling.
+fn parts_are_well_spelled<P: Production>()
     requires { IsTrue P.is_sound }
-    ensures { (v w : P.Value) (b : List ℕ) → P.spells v b → P.spells w b → v ≡ w }
+    ensures { IsWellSpelled P.spells }
 {}
 
-/// Each value of a part that is spelled has a least spelling.
-fn parts_have_spellings<P: Production>()
-    ensures { HasLeast P.spells }
-{}
+/// Each production of the table is spelled so.
+fn productions_are_well_spelled()
+    ensures { (production : ServiceProduction) → IsWellSpelled (SpellsBy 32 production) }
+{
+    parts_are_well_spelled::<Fields<ReadProperty>>();
+    parts_are_well_spelled::<Fields<ReadPropertyAck>>();
+    parts_are_well_spelled::<Fields<WriteProperty>>();
+    parts_are_well_spelled::<Vec<ReadAccessSpecification>>();
+    parts_are_well_spelled::<Vec<ReadAccessResult>>();
+    parts_are_well_spelled::<Fields<WhoIs>>();
+    parts_are_well_spelled::<Fields<IAm>>();
+    parts_are_well_spelled::<Fields<SubscribeCov>>();
+    parts_are_well_spelled::<Fields<CovNotification>>();
+    parts_are_well_spelled::<Fields<ErrorCause>>();
+    parts_are_well_spelled::<Vec<WriteAccessSpecification>>();
+    parts_are_well_spelled::<Fields<WritePropertyMultipleError>>();
+}
 
 /// Each service that is spelled has canonical octets.
 pub fn services_have_canonical_octets()
     ensures { (kind : Kind) (choice : ℕ) (v : ServiceValue) (b : List ℕ) → SpellsService true 32 kind choice v b → (c : List ℕ) × IsLeast (SpellsService true 32 kind choice v) c }
 {
-    parts_have_spellings::<Fields<ReadProperty>>();
-    parts_have_spellings::<Fields<ReadPropertyAck>>();
-    parts_have_spellings::<Fields<WriteProperty>>();
-    parts_have_spellings::<Vec<ReadAccessSpecification>>();
-    parts_have_spellings::<Vec<ReadAccessResult>>();
-    parts_have_spellings::<Fields<WhoIs>>();
-    parts_have_spellings::<Fields<IAm>>();
-    parts_have_spellings::<Fields<SubscribeCov>>();
-    parts_have_spellings::<Fields<CovNotification>>();
-    parts_have_spellings::<Fields<ErrorCause>>();
-    parts_have_spellings::<Vec<WriteAccessSpecification>>();
-    parts_have_spellings::<Fields<WritePropertyMultipleError>>();
+    productions_are_well_spelled();
 }
 
 /// Only services are spelled. What is spelled has this kind and this choice, which is an octet, and the production
@@ -66,18 +68,7 @@ pub fn only_services_are_spelled()
 pub fn services_have_one_value()
     ensures { (kind : Kind) (choice : ℕ) (v w : ServiceValue) (b : List ℕ) → SpellsService true 32 kind choice v b → SpellsService true 32 kind choice w b → v ≡ w }
 {
-    parts_have_one_value::<Fields<ReadProperty>>();
-    parts_have_one_value::<Fields<ReadPropertyAck>>();
-    parts_have_one_value::<Fields<WriteProperty>>();
-    parts_have_one_value::<Vec<ReadAccessSpecification>>();
-    parts_have_one_value::<Vec<ReadAccessResult>>();
-    parts_have_one_value::<Fields<WhoIs>>();
-    parts_have_one_value::<Fields<IAm>>();
-    parts_have_one_value::<Fields<SubscribeCov>>();
-    parts_have_one_value::<Fields<CovNotification>>();
-    parts_have_one_value::<Fields<ErrorCause>>();
-    parts_have_one_value::<Vec<WriteAccessSpecification>>();
-    parts_have_one_value::<Fields<WritePropertyMultipleError>>();
+    productions_are_well_spelled();
 }
 
 /// Two services of one kind and one choice are the same exactly where their canonical octets are equal.
