@@ -1,7 +1,10 @@
 //! Why a job stops.
 
 use bac_pack::PackFault;
-use bac_stream::RunFault;
+use bac_stream::{RunFault, StreamFault};
+use std::error::Error;
+use std::fmt;
+use std::fmt::Display;
 
 /// Why a job stopped.
 #[derive(Clone, Copy, Debug, PartialEq, Eq)]
@@ -11,6 +14,26 @@ pub enum JobFault {
     /// No further line was packed.
     Pack(PackFault),
 }
+
+/// With the number of the record or line where that is at fault.
+impl Display for JobFault {
+    fn fmt<W: fmt::Write>(&self, formatter: &mut fmt::Formatter<W>) -> fmt::Result {
+        match self {
+            JobFault::Run(
+                RunFault::Stream {
+                    fault: fault @ (StreamFault::WriteFault(_)
+                    | StreamFault::TooManyFrames
+                    | StreamFault::OutOfMemory),
+                    ..
+                },
+            ) => write!(formatter, "{fault}"),
+            JobFault::Run(fault) => write!(formatter, "{fault}"),
+            JobFault::Pack(fault) => write!(formatter, "{fault}"),
+        }
+    }
+}
+
+impl Error for JobFault {}
 
 impl From<RunFault> for JobFault {
     ghost use Rattle.std.specs.Prelude.{◌≡◌};

@@ -88,22 +88,6 @@ fn answer_words<W: Output, E: Output>(
     }
 }
 
-/// Writes the line of a job's fault: with the number of the record or line where that is at fault.
-fn tell_fault<E: Output>(fault: &JobFault, errors: &mut E) {
-    match fault {
-        JobFault::Run(
-            RunFault::Stream {
-                fault: fault @ (StreamFault::WriteFault(_)
-                | StreamFault::TooManyFrames
-                | StreamFault::OutOfMemory),
-                ..
-            },
-        ) => tell(fault, errors),
-        JobFault::Run(fault) => tell(fault, errors),
-        JobFault::Pack(fault) => tell(fault, errors),
-    }
-}
-
 /// Runs a job. Returns how many records were refused.
 fn run_job<R: Input, W: Output>(
     alloc: Global,
@@ -165,7 +149,7 @@ pub fn run_tool<R: Input, W: Output, E: Output>(
     };
     let answer = run_job(alloc, job, input, output);
     if let Err(fault) = &answer {
-        tell_fault(fault, errors);
+        tell(fault, errors);
     }
     status_of(&answer)
 }

@@ -1,7 +1,8 @@
 //! The program over readers and writers in memory: worked examples of docs/EXAMPLES.md.
 
-use crate::run_tool;
-use bac_stream::{Counted, Input, Output};
+use crate::{JobFault, run_tool};
+use bac_pack::PackFault;
+use bac_stream::{Counted, Input, Output, RunFault, StreamFault};
 use std::alloc::Global;
 use std::fmt::Debug;
 use std::io::{self, ErrorKind, Read};
@@ -193,6 +194,38 @@ fn a_writer_that_fails_is_told(rt: HostRuntime) {
     for room in 0..file.len() {
         write_fails(&rt, alloc, "bactool|normalise", &file, &file, room);
     }
+}
+
+/// Stops the test unless this is how the fault is shown.
+fn is_shown(rt: &impl Abort, alloc: Global, fault: JobFault, text: &str) {
+    let shown = format!(in alloc; "{fault}").expect(rt, "memory");
+    assert_same(rt, shown.as_str(), text, fault);
+}
+
+/// A fault of the stream at the third record is shown so.
+fn is_shown_of_stream(rt: &impl Abort, alloc: Global, fault: StreamFault, text: &str) {
+    let fault = JobFault::Run(RunFault::Stream { at: 3, fault });
+    is_shown(rt, alloc, fault, text);
+}
+
+// That a frame is refused is told of records that are normalised.
+#[test]
+fn faults_are_shown(rt: HostRuntime) {
+    let alloc = rt.alloc();
+    let fault = StreamFault::Truncated;
+    is_shown_of_stream(&rt, alloc, fault, "record 3: truncated");
+    let fault = StreamFault::RecordTooLong;
+    is_shown_of_stream(&rt, alloc, fault, "record 3: too long");
+    let fault = StreamFault::ReadFault;
+    is_shown_of_stream(&rt, alloc, fault, "record 3: read fault");
+    let fault = StreamFault::WriteFault(9);
+    is_shown_of_stream(&rt, alloc, fault, "write fault after 9 octets");
+    let fault = StreamFault::TooManyFrames;
+    is_shown_of_stream(&rt, alloc, fault, "more than 1000000 records");
+    let fault = StreamFault::OutOfMemory;
+    is_shown_of_stream(&rt, alloc, fault, "out of memory");
+    let fault = JobFault::Pack(PackFault::NotHex(2));
+    is_shown(&rt, alloc, fault, "line 2: not hexadecimal");
 }
 
 /// Gives these octets, one a call, and then fails.
