@@ -6,6 +6,7 @@ ghost use Rattle.bac_record.specs.Deals.{DealFails, IsDealt};
 ghost use Rattle.bac_record.specs.Records.{IsRecord};
 
 use bac_tag::{OutOfMemory, Refusal};
+use thiserror::Error;
 
 /// What a job found of a record that it dealt with: how the record counts in a summary.
 #[derive(Clone, Copy, Debug, PartialEq, Eq)]
@@ -42,11 +43,13 @@ impl Dealt {
 }
 
 /// Why a job did not deal with a record.
-#[derive(Clone, Copy, Debug, PartialEq, Eq)]
+#[derive(Clone, Copy, Debug, PartialEq, Eq, Error)]
 pub enum DealFault {
     /// The record ends the run.
+    #[error("refused {why} at {place}", why = .0.why.name(), place = .0.place)]
     Stop(Refusal),
     /// Memory was wanted and refused.
+    #[error("out of memory")]
     Memory,
 }
 

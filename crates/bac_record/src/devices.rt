@@ -5,10 +5,13 @@ ghost use Rattle.std.specs.Io.{ReadsAtMost, WritesAtMost};
 ghost use Rattle.std.specs.Io.KnownBytes.{ReadConsumes, WriteAppends};
 ghost use Rattle.bac_record.specs.Devices.{ReadCounts, WriteCounts};
 
+use thiserror::Error;
+
 /// Why a call of a device gave nothing.
-#[derive(Clone, Copy, Debug, PartialEq, Eq)]
+#[derive(Clone, Copy, Debug, PartialEq, Eq, Error)]
 pub enum Device {
     /// The device failed. What it holds is as before the call.
+    #[error("the device failed")]
     Failed,
 }
 

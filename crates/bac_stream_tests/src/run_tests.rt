@@ -2,11 +2,11 @@
 
 ghost use Rattle.std.specs.Prelude.{◌≤◌};
 
-use crate::expectations::{assert_holds, assert_same, assert_same_of};
+use crate::expectations::{assert_holds, assert_same, assert_same_of, assert_shown};
 use crate::fakes::{CopyOctets, Drain, Feed, Troubled, Unending};
 use bac_record::{
-    Counted, Input, RunFault, StreamFault, Summary, front_record, make_room, put_decimal,
-    put_hexadecimal, put_signed_decimal, read_record, run, write_record, write_whole,
+    Counted, DealFault, Device, Input, RunFault, StreamFault, Summary, front_record, make_room,
+    put_decimal, put_hexadecimal, put_signed_decimal, read_record, run, write_record, write_whole,
 };
 use bac_tables::enclosed;
 use bac_tag::Why;
@@ -249,6 +249,15 @@ fn interrupted_calls_are_tried_again(rt: HostRuntime) {
     tells_write(&rt, troubled(interrupted, 64, 9), unwritten);
     tells_write(&rt, troubled(missing, 1, 9), unwritten);
     tells_write(&rt, troubled(missing, 0, 0), unwritten);
+}
+
+#[test]
+fn faults_of_jobs_and_devices_are_told(rt: HostRuntime) {
+    let alloc = rt.alloc();
+    let fault = DealFault::Stop(Why::Tag.at(3));
+    assert_shown(&rt, alloc, fault, "refused Tag at 3");
+    assert_shown(&rt, alloc, DealFault::Memory, "out of memory");
+    assert_shown(&rt, alloc, Device::Failed, "the device failed");
 }
 
 /// The record at the front of the octets has these octets, or there is none.
