@@ -12,7 +12,9 @@ use bac_value::{Enumerated, Unsigned32};
 /// A property of an object, or one element of it.
 ///
 /// Octets (clause 21): `[0]` property identifier, `[1]` array index (optional).
-#[derive(Clone, Copy, Debug, PartialEq, Eq)]
+///
+/// References are in order by the property, then by the index; none comes before any index.
+#[derive(Clone, Copy, Debug, PartialEq, Eq, PartialOrd, Ord, Hash)]
 pub struct PropertyReference {
     /// The identifier of the property.
     pub property: Enumerated,

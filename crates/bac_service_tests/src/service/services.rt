@@ -133,6 +133,25 @@ fn kinds_are_in_order(rt: HostRuntime) {
     assert_holds(&rt, Kind::ComplexAck < Kind::Error, "errors");
 }
 
+// By the property, then by the index, where none comes first.
+#[test]
+fn property_references_are_in_order(rt: HostRuntime) {
+    let whole = PropertyReference {
+        property: Enumerated(85),
+        index: None,
+    };
+    let size = PropertyReference {
+        index: Some(Unsigned32(0)),
+        ..whole
+    };
+    let other = PropertyReference {
+        property: Enumerated(86),
+        index: None,
+    };
+    assert_holds(&rt, whole < size, "indices");
+    assert_holds(&rt, size < other, "properties");
+}
+
 // The laws are functions that do nothing: their contracts are what they say.
 #[test]
 fn laws_can_be_called() {
