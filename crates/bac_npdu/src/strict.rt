@@ -113,7 +113,7 @@ impl FrameVisitor for Normalising<'_> {
 /// The canonical octets of the frame that all the octets spell.
 ///
 /// # Errors
-/// As [`decode_marked`].
+/// As [`decode_marked`]; but `OutOfMemory` may be told of any frame, since what is returned wants memory.
 ///
 /// # Examples
 /// ```rust

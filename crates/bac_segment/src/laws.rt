@@ -44,7 +44,8 @@ pub fn whole_once()
 {}
 
 /// Segments of one cut, in any order, some lost and some repeated, give what was cut where each of them is there, and
-/// nothing else; each answer to one of them is `Kept`, `Repeat` or `Complete`.
+/// nothing else. What is held answers each of them with `Kept`, `Repeat` or `Complete`: so does a reassembly
+/// ([`answers_are_by_what_is_held`]).
 pub fn one_cut_gives_what_was_cut()
     ensures joined { (plan : CutPlan) (octets : List ℕ) (segments l : List Delivery) → cut_fault plan octets ≡ None → IsCutOf plan octets segments → AreAmong segments l → (whole (held l) ≡ Some octets) ↔ AreAmong l segments }
     ensures or_none { (plan : CutPlan) (octets : List ℕ) (segments l : List Delivery) → cut_fault plan octets ≡ None → IsCutOf plan octets segments → AreAmong segments l → (whole (held l) ≡ Some octets) ⊎ (whole (held l) ≡ None) }
