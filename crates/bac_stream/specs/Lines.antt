@@ -1,10 +1,13 @@
 -- The lines of show and check, and the records of normalise.
-use Rattle.std.specs.Prelude.{◌≡◌, ℕ, ◌++◌, List, Option, Some, None, codes}
+use Rattle.std.specs.Prelude.{◌≡◌, ℕ, ◌++◌, ◌↔◌, List, Option, Some, None, Result, Ok, Err, IsTrue, true, false, codes}
 use Rattle.std.specs.Fmt.{decimal}
 use Rattle.bac_tag.specs.Octets.{IsMark}
 use Rattle.bac_tag.specs.declared.refusals.Refusal.{Refusal}
 use Rattle.bac_tag.specs.Refusals.{name_of}
 use Rattle.std.specs.List.{AllByRecursion}
+use Rattle.bac_record.specs.declared.dealing.Dealt.{Dealt}
+use Rattle.bac_record.specs.declared.dealing.DealFault.{DealFault}
+use Rattle.bac_record.specs.declared.dealing.DealFault.TheVariants.{Stop, Memory}
 use Rattle.bac_record.specs.Outputs.{Outputs}
 use Rattle.bac_record.specs.Records.{record_of, joined, IsRecord}
 use Rattle.bac_npdu.specs.FrameHeads.{frame_with}
@@ -44,6 +47,14 @@ said_of (Some place) = tolerated place
 -- a text behind the number of its record, as a line
 abbrev pub numbered : ℕ → List ℕ → List ℕ
 numbered number text = decimal number ++ codes " " ++ text ++ codes "\n"
+
+-- How a record counts that was judged so, and what is appended: nothing, or for a refused one its line.
+abbrev pub IsCounted : Result (Option ℕ) DealFault → ℕ → List ℕ → List ℕ → Result Dealt DealFault → Type 0
+IsCounted (Ok mark) number old new (Ok dealt) = (IsTrue dealt.is_canonical ↔ (mark ≡ None)) × (dealt.is_refused ≡ false) × (new ≡ old)
+IsCounted (Err (Stop refusal)) number old new (Ok dealt) =
+    (dealt ≡ record { is_canonical = false; is_refused = true }) × (new ≡ old ++ numbered number (said_text (refused refusal)))
+IsCounted (Err _) number old new (Err Memory) = new ≡ old
+IsCounted _ number old new _ = ⊥
 
 -- what show says of octets: the frame as which they are accepted, or a refusal
 abbrev pub IsShown : Mode → List ℕ → Said → Type 0

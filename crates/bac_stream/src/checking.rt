@@ -1,15 +1,14 @@
 //! The run of `check`.
 
-ghost use Rattle.std.specs.Prelude.{◌≡◌, ◌↔◌, IfErr, IfOk, IsTrue, MatchResult, List, ℕ, None, Some};
-ghost use Rattle.bac_record.specs.Deals.{DealFails};
-ghost use Rattle.bac_stream.specs.Judging.{IsCanonical, IsRefused, Refuses};
-ghost use Rattle.bac_stream.specs.Lines.{IsChecked, ChecksAs, said_by, said_of};
+ghost use Rattle.std.specs.Prelude.{◌≡◌, IfErr, IfOk, MatchResult, List, ℕ, Some};
+ghost use Rattle.bac_stream.specs.Judging.{IsCanonical, IsRefused};
+ghost use Rattle.bac_stream.specs.Lines.{ChecksAs};
 ghost use Rattle.bac_record.specs.Records.{Records};
 ghost use Rattle.bac_record.specs.Runs.{RanThrough, RunCounts, Stopped};
 ghost use Rattle.bac_record.specs.Files.{RunsOver};
 
 use crate::judging::{Appending, judge};
-use crate::lines::Line;
+use crate::lines::{Line, counted};
 use crate::{Input, Mode, Output, RunFault, Summary};
 use bac_npdu::{Body, FrameHead};
 use bac_record::{DealFault, Dealt, Job, run};
@@ -44,38 +43,6 @@ impl Appending for Nothing {
     }
 }
 
-/// The first place where accepted octets differ from the canonical ones of their frame.
-///
-/// # Errors
-/// As [`judge`].
-fn mark_of(alloc: Global, mode: Mode, octets: &[u8]) -> Result<Option<usize>, DealFault>
-    ensures line { IfOk result (λ mark. IsChecked mode octets.now (said_of mark)) }
-    ensures canonical { IfOk result (λ mark. (mark ≡ None) ↔ IsCanonical octets.now) }
-    ensures accepted { IfOk result (λ mark. IsRefused mode octets.now → ⊥) }
-    ensures fault { IfErr result (DealFails (Refuses mode octets.now)) }
-    ensures refused { IfErr result (DealFails (λ _. IsRefused mode octets.now)) }
-{
-    // A vector takes no memory before something is appended.
-    judge(alloc, mode, octets, Nothing, &mut Vec::new(alloc))
-}
-
-/// What is said of the octets, and how the record counts.
-///
-/// # Errors
-/// `Memory` where memory is refused.
-fn checked(alloc: Global, mode: Mode, octets: &[u8]) -> Result<(Line<'static>, Dealt), DealFault>
-    ensures line { IfOk result (λ found. IsChecked mode octets.now (said_by found.0)) }
-    ensures canonical { IfOk result (λ found. IsTrue found.1.is_canonical ↔ IsCanonical octets.now) }
-    ensures refused { IfOk result (λ found. IsTrue found.1.is_refused ↔ IsRefused mode octets.now) }
-    ensures memory { IfErr result (λ fault. fault ≡ DealFault.Memory) }
-{
-    match mark_of(alloc, mode, octets) {
-        Ok(mark) => Ok((Line::of_mark(mark), Dealt::accepted(mark))),
-        Err(DealFault::Stop(refusal)) => Ok((Line::Refused(refusal), Dealt::refused())),
-        Err(DealFault::Memory) => Err(DealFault::Memory),
-    }
-}
-
 impl Job for Check {
     ghost line = { λ check. ChecksAs check.mode };
 
@@ -86,9 +53,11 @@ impl Job for Check {
     ghost is_refused = { λ check. IsRefused check.mode };
 
     fn deal(&self, number: u32, octets: &[u8], out: &mut Vec<u8>) -> Result<Dealt, DealFault> {
-        let (line, dealt) = checked(self.alloc, self.mode, octets)?;
-        line.push(number, out)?;
-        Ok(dealt)
+        let judged = judge(self.alloc, self.mode, octets, Nothing, out);
+        if let Ok(mark) = judged {
+            Line::of_mark(mark).push(number, out)?;
+        }
+        counted(judged, number, out)
     }
 }
 

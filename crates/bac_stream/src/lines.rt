@@ -1,4 +1,4 @@
-//! The lines of `show` and `check`.
+//! The lines of `show` and `check`, and how records with a line count.
 
 ghost use Rattle.std.specs.Prelude.{◌≡◌, ◌≤◌, ◌+◌, ◌++◌, codes, IfOk, OnOk, OnErr, length, take};
 ghost use Rattle.std.specs.Fmt.{decimal};
@@ -6,10 +6,10 @@ ghost use Rattle.bac_tag.specs.Octets.{Extends};
 ghost use Rattle.bac_npdu.specs.FrameHeads.{frame_with};
 ghost use Rattle.bac_npdu.specs.Frames.{body_value};
 ghost use Rattle.bac_text.specs.FrameText.{text};
-ghost use Rattle.bac_stream.specs.Lines.{ok, tolerated, refused, said_by, said_of, said_text, numbered};
+ghost use Rattle.bac_stream.specs.Lines.{ok, tolerated, refused, said_by, said_of, said_text, numbered, IsCounted};
 
 use bac_npdu::{Body, FrameHead};
-use bac_record::{add_room, make_room, put_decimal, put_octets, put_word};
+use bac_record::{DealFault, Dealt, add_room, make_room, put_decimal, put_octets, put_word};
 use bac_tag::{OutOfMemory, Refusal};
 use bac_text::write_text_of;
 
@@ -145,5 +145,27 @@ impl Line<'_> {
                 Err(fault)
             }
         }
+    }
+}
+
+/// How a record counts that was judged so. Of one that is refused the line is appended.
+///
+/// # Errors
+/// `Memory` where memory is refused. `out` then stays as it was.
+#[inline(always)]
+pub(crate) fn counted(
+    judged: Result<Option<usize>, DealFault>,
+    number: u32,
+    out: &mut Vec<u8>,
+) -> Result<Dealt, DealFault>
+    ensures { IsCounted judged number out.old.items out.new.items result }
+{
+    match judged {
+        Ok(mark) => Ok(Dealt::accepted(mark)),
+        Err(DealFault::Stop(refusal)) => {
+            Line::Refused(refusal).push(number, out)?;
+            Ok(Dealt::refused())
+        }
+        Err(DealFault::Memory) => Err(DealFault::Memory),
     }
 }

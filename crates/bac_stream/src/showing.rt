@@ -8,7 +8,7 @@ ghost use Rattle.bac_record.specs.Runs.{RanThrough, RunCounts, Stopped};
 ghost use Rattle.bac_record.specs.Files.{RunsOver};
 
 use crate::judging::{Appending, discard, judge};
-use crate::lines::Line;
+use crate::lines::{Line, counted};
 use crate::{Input, Mode, Output, RunFault, Summary};
 use bac_npdu::{Body, FrameHead};
 use bac_record::{DealFault, Dealt, Job, run};
@@ -59,14 +59,8 @@ impl Job for Show {
     ghost is_refused = { λ show. IsRefused show.mode };
 
     fn deal(&self, number: u32, octets: &[u8], out: &mut Vec<u8>) -> Result<Dealt, DealFault> {
-        match judge(self.alloc, self.mode, octets, Shown { number }, out) {
-            Ok(mark) => Ok(Dealt::accepted(mark)),
-            Err(DealFault::Stop(refusal)) => {
-                Line::Refused(refusal).push(number, out)?;
-                Ok(Dealt::refused())
-            }
-            Err(DealFault::Memory) => Err(DealFault::Memory),
-        }
+        let judged = judge(self.alloc, self.mode, octets, Shown { number }, out);
+        counted(judged, number, out)
     }
 }
 

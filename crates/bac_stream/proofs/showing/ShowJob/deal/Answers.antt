@@ -1,23 +1,15 @@
-use Rattle.std.specs.Prelude.{◌++◌, List, ℕ}
-use Rattle.std.proofs.Common.{subst, ap, ◌∙◌}
-use Rattle.bac_record.specs.Deals.{DealFails}
-use Rattle.bac_stream.specs.Judging.{IsRefused, Refuses}
-use Rattle.bac_stream.specs.Lines.{refused, said_text, numbered}
-use Rattle.bac_stream.proofs.ShowingLemmas.{shown_dealt, refused_dealt}
+use Rattle.std.proofs.Common.{refl}
+use Rattle.std.proofs.lemmas.Result.{IfOk-weaker}
+use Rattle.bac_stream.specs.Lines.{ShowsAs, shown, refused}
+use Rattle.bac_stream.proofs.CountingLemmas.{counted_dealt}
 use Rattle.bac_stream.proofs.showing.ShowJob.deal.Goals as goal
 
-pub returns-in_ok-push-in-Err-Stop-clause-dealt : goal.returns-in_ok-push-in-Err-Stop-clause-dealt
-returns-in_ok-push-in-Err-Stop-clause-dealt c =
+pub returns-clause-dealt : goal.returns-clause-dealt
+returns-clause-dealt c =
     let mode = c.args.self.now.mode in
-    let refusal = c.in-Err-Stop.refusal in
-    let told : Refuses mode c.args.octets.now refusal = subst (DealFails (Refuses mode c.args.octets.now)) c.in-Err-Stop.field-0-is c.in-Err-Stop.ensures.fault in
-    let none : IsRefused mode c.args.octets.now = subst (DealFails (λ _. IsRefused mode c.args.octets.now)) c.in-Err-Stop.field-0-is c.in-Err-Stop.ensures.refused in
-    let line = numbered c.args.number (said_text (refused refusal)) in
-    let written = c.in_ok-push-in-Err-Stop.ensures.ok ∙ ap (λ (l : List ℕ). l ++ line) c.in-Err-Stop.ensures.unchanged in
-    refused_dealt mode c.args.number c.args.octets.now c.args.out.now.items c.push.new.out.items c.refused.result refusal told none written c.refused.ensures
-
-pub returns-in-Ok-clause-dealt : goal.returns-in-Ok-clause-dealt
-returns-in-Ok-clause-dealt c =
-    let a = c.in-Ok.ensures.accepted in
-    shown_dealt c.args.self.now.mode c.args.number c.args.octets.now c.args.out.now.items c.judge.new.out.items c.accepted.result a.frame c.in-Ok.mark
-    a.accepted c.in-Ok.ensures.canonical a.appended c.accepted.ensures.canonical c.accepted.ensures.accepted
+    let octets = c.args.octets.now in
+    let e = c.judge-judged.ensures in
+    counted_dealt (ShowsAs mode) mode c.args.number octets c.args.out.now.items c.judge-judged.new.out.items c.counted.new.out.items
+    (λ refusal told. (refused refusal, told, refl)) c.judge-judged.result c.counted.result
+    (IfOk-weaker c.judge-judged.result _ _ (λ mark a. record { frame = a.frame; accepted = a.accepted; output = _; is_output = (shown a.frame, a.accepted, refl); appended = a.appended }) e.accepted)
+    e.canonical e.fault e.refused e.unchanged c.counted.ensures
