@@ -14,6 +14,7 @@ use Rattle.bac_service.specs.declared.services.property_result.ReadResult.TheVar
 use Rattle.bac_service.specs.declared.services.property_result.PropertyResult.{PropertyResult}
 use Rattle.bac_service.specs.Contents.{ObjectField, EnumeratedField, UnsignedField, PriorityField}
 use Rattle.bac_service.specs.Productions.{Optional, Items, Grouped}
+use Rattle.bac_service.specs.ObjectProperty.{SpellsObjectProperty}
 use Rattle.bac_service.specs.ReadPropertyAck.{SpellsReadPropertyAck}
 use Rattle.bac_service.specs.WriteProperty.{SpellsWriteProperty}
 use Rattle.bac_service.specs.PropertyValue.{SpellsPropertyValue}
@@ -81,11 +82,8 @@ by_fields fields f = record { wider = λ v. f.wider (fields v); back = λ v. f.b
 
 -- ---- the productions
 
-ack_parts : Widens (Joined (ObjectField 0) (Joined (EnumeratedField 1) (Joined (Optional (UnsignedField 2)) (SpellsOpen 16 3)))) (Joined (ObjectField 0) (Joined (EnumeratedField 1) (Joined (Optional (UnsignedField 2)) (SpellsOpen 32 3))))
-ack_parts = both (same (ObjectField 0)) (both (same (EnumeratedField 1)) (both (same (Optional (UnsignedField 2))) (open_value 3)))
-
 ack : Widens (SpellsReadPropertyAck 16) (SpellsReadPropertyAck 32)
-ack = by_fields (λ (a : ReadPropertyAck). (a.object, (a.property, (a.index, a.value)))) ack_parts
+ack = by_fields (λ (a : ReadPropertyAck). ((a.object, (a.property, a.index)), a.value)) (both (same SpellsObjectProperty) (open_value 3))
 
 write_parts : Widens (Joined (ObjectField 0) (Joined (EnumeratedField 1) (Joined (Optional (UnsignedField 2)) (Joined (SpellsOpen 16 3) (Optional (PriorityField 4))))))
     (Joined (ObjectField 0) (Joined (EnumeratedField 1) (Joined (Optional (UnsignedField 2)) (Joined (SpellsOpen 32 3) (Optional (PriorityField 4))))))

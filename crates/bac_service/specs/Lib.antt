@@ -4,6 +4,7 @@ pub mod ReadFaults
 pub mod Reasons
 pub mod Fields
 pub mod Contents
+pub mod ObjectProperty
 pub mod ReadProperty
 pub mod ErrorCause
 pub mod PropertyReference

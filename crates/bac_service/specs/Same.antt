@@ -25,6 +25,7 @@ use Rattle.bac_service.specs.declared.services.subscribe_cov.SubscribeCov.{Subsc
 use Rattle.bac_service.specs.declared.services.cov_notification.CovNotification.{CovNotification}
 use Rattle.bac_service.specs.declared.service.Service.{Service}
 use Rattle.bac_service.specs.declared.service.Service.TheVariants as held
+use Rattle.bac_service.specs.ObjectProperty.{ObjectProperty}
 use Rattle.bac_service.specs.Opaques.{same_opaque}
 
 -- ---- parts
@@ -34,6 +35,9 @@ same_object a b = nat_eq a.kind b.kind && nat_eq a.instance b.instance
 
 abbrev pub same_index : Option Unsigned32 → Option Unsigned32 → Bool
 same_index = option_eq (λ a b. nat_eq a.0 b.0)
+
+abbrev pub same_object_property : ObjectProperty → ObjectProperty → Bool
+same_object_property a b = same_object a.0 b.0 && (nat_eq a.1.0.0 b.1.0.0 && same_index a.1.1 b.1.1)
 
 abbrev pub same_cause : ErrorCause → ErrorCause → Bool
 same_cause a b = nat_eq a.class.0 b.class.0 && nat_eq a.code.0 b.code.0
@@ -55,10 +59,10 @@ same_property_result a b = nat_eq a.property.0 b.property.0 && (same_index a.ind
 -- ---- services
 
 abbrev pub same_read_property : ReadProperty → ReadProperty → Bool
-same_read_property a b = same_object a.object b.object && (nat_eq a.property.0 b.property.0 && same_index a.index b.index)
+same_read_property a b = same_object_property (a.object, (a.property, a.index)) (b.object, (b.property, b.index))
 
 abbrev pub same_read_property_ack : ReadPropertyAck → ReadPropertyAck → Bool
-same_read_property_ack a b = same_object a.object b.object && (nat_eq a.property.0 b.property.0 && (same_index a.index b.index && same_values a.value b.value))
+same_read_property_ack a b = same_object_property (a.object, (a.property, a.index)) (b.object, (b.property, b.index)) && same_values a.value b.value
 
 abbrev pub same_write_property : WriteProperty → WriteProperty → Bool
 same_write_property a b =
@@ -74,7 +78,7 @@ abbrev pub same_write_specification : WriteAccessSpecification → WriteAccessSp
 same_write_specification a b = same_object a.object b.object && pointwise same_property_value a.values.items b.values.items
 
 abbrev pub same_write_error : WritePropertyMultipleError → WritePropertyMultipleError → Bool
-same_write_error a b = nat_eq a.class.0 b.class.0 && (nat_eq a.code.0 b.code.0 && (same_object a.object b.object && (nat_eq a.property.0 b.property.0 && same_index a.index b.index)))
+same_write_error a b = nat_eq a.class.0 b.class.0 && (nat_eq a.code.0 b.code.0 && same_object_property (a.object, (a.property, a.index)) (b.object, (b.property, b.index)))
 
 abbrev pub same_who_is : WhoIs → WhoIs → Bool
 same_who_is a b = option_eq (λ x y. nat_eq x.0 y.0 && nat_eq x.1 y.1) a.limits b.limits

@@ -3,6 +3,7 @@
 pub(crate) mod cov_notification;
 pub(crate) mod error_cause;
 pub(crate) mod i_am;
+pub(crate) mod object_property;
 pub(crate) mod opaque;
 pub(crate) mod property_reference;
 pub(crate) mod property_result;

@@ -36,7 +36,7 @@ use Rattle.bac_service.specs.Opaques.{OpaqueValue, kind_number, opaque_key}
 use Rattle.bac_service.specs.ServiceTable.{ServiceProduction, read_property, read_property_ack, read_property_multiple, read_property_multiple_ack, write_property, write_property_multiple, write_property_multiple_error, who_is, i_am, subscribe_cov, cov_notification, service_error}
 use Rattle.bac_service.specs.ServiceValues.{SaidBy, Said, ServiceValue, typed, opaque, notification_kind, notification_choice, value_of}
 use Rattle.bac_service.specs.Services.{SpellsService}
-use Rattle.bac_service.specs.Same.{same_object, same_index, same_cause, same_reference, same_property_value, same_read_result, same_property_result, same_read_property, same_specification, same_access_result, same_write_specification, same_write_error, same_who_is, same_i_am, same_subscribe_cov, same_notification, same_service}
+use Rattle.bac_service.specs.Same.{same_object, same_index, same_object_property, same_cause, same_reference, same_property_value, same_read_result, same_property_result, same_read_property, same_specification, same_access_result, same_write_specification, same_write_error, same_who_is, same_i_am, same_subscribe_cov, same_notification, same_service}
 
 -- ---- tests that decide whether any two values are the same
 
@@ -74,6 +74,9 @@ objects v w = by_parts (same_object v w) (pairs unsigned_Decides unsigned_Decide
 indices : Decided same_index
 indices = options unsigned32
 
+object_properties : Decided same_object_property
+object_properties = pairs objects (pairs enumerated indices)
+
 causes : Decided same_cause
 causes v w = by_parts (same_cause v w) (pairs enumerated enumerated (v.class, v.code) (w.class, w.code)) (λ e. λ i. record { class = (e i).0; code = (e i).1 }) (λ e. λ i. ((e i).class, (e i).code))
 
@@ -82,13 +85,13 @@ references v w = by_parts (same_reference v w) (pairs enumerated indices (v.prop
 
 reads : Decided same_read_property
 reads v w =
-    by_parts (same_read_property v w) (pairs objects (pairs enumerated indices) (v.object, (v.property, v.index)) (w.object, (w.property, w.index)))
+    by_parts (same_read_property v w) (object_properties (v.object, (v.property, v.index)) (w.object, (w.property, w.index)))
     (λ e. λ i. record { object = (e i).0; property = (e i).1.0; index = (e i).1.1 }) (λ e. λ i. ((e i).object, ((e i).property, (e i).index)))
 
 write_errors : Decided same_write_error
 write_errors v w =
     by_parts (same_write_error v w)
-    (pairs enumerated (pairs enumerated (pairs objects (pairs enumerated indices))) (v.class, (v.code, (v.object, (v.property, v.index)))) (w.class, (w.code, (w.object, (w.property, w.index)))))
+    (pairs enumerated (pairs enumerated object_properties) (v.class, (v.code, (v.object, (v.property, v.index)))) (w.class, (w.code, (w.object, (w.property, w.index)))))
     (λ e. λ i. record { class = (e i).0; code = (e i).1.0; object = (e i).1.1.0; property = (e i).1.1.1.0; index = (e i).1.1.1.1 })
     (λ e. λ i. ((e i).class, ((e i).code, ((e i).object, ((e i).property, (e i).index)))))
 
@@ -251,7 +254,7 @@ module _ (open_only : (number : ℕ) (v : Elements) (b : List ℕ) → SpellsOpe
 
   tells_read_property_ack : Tells (SpellsReadPropertyAck 32) (λ v w. same_service (held.ReadPropertyAck v) (held.ReadPropertyAck w))
   unfolding read_property_ack_parts
-  tells_read_property_ack = tells_record (read_property_ack_parts 32) (tells_joined (tells_plain _ objects) (tells_joined (tells_plain _ enumerated) (tells_joined (tells_optional (tells_plain _ unsigned32)) (tells_open 3))))
+  tells_read_property_ack = tells_record (read_property_ack_parts 32) (tells_joined (tells_plain _ object_properties) (tells_open 3))
 
   tells_write_property : Tells (SpellsWriteProperty 32) (λ v w. same_service (held.WriteProperty v) (held.WriteProperty w))
   unfolding write_property_parts

@@ -3,11 +3,10 @@
 ghost use Rattle.bac_service.specs.ReadProperty.{SpellsReadProperty, read_property_parts};
 
 use crate::named::Named;
-use crate::production::Production;
-use crate::production::field::Field;
-use crate::production::option::{bare, under};
+use crate::production::option::bare;
 use crate::production::record::{Fields, Record};
 use crate::service::Service;
+use crate::services::object_property::{ObjectProperty, write_object_property};
 use bac_tag::OutOfMemory;
 use bac_value::{Enumerated, ObjectId, Unsigned32};
 
@@ -24,16 +23,10 @@ pub struct ReadProperty {
     pub index: Option<Unsigned32>,
 }
 
-/// Its fields.
-type Parts = (
-    Field<ObjectId, 0>,
-    (Field<Enumerated, 1>, Option<Field<Unsigned32, 2>>),
-);
-
 impl Record for ReadProperty {
     ghost use Rattle.bac_service.specs.declared.services.read_property.ReadProperty.{ReadProperty};
 
-    type Parts = Parts;
+    type Parts = ObjectProperty;
 
     ghost Value = { ReadProperty };
 
@@ -41,7 +34,7 @@ impl Record for ReadProperty {
 
     ghost spells = { SpellsReadProperty };
 
-    fn from_parts(parts: Parts) -> ReadProperty {
+    fn from_parts(parts: ObjectProperty) -> ReadProperty {
         let (object, (property, index)) = parts;
         ReadProperty {
             object: object.0,
@@ -51,9 +44,7 @@ impl Record for ReadProperty {
     }
 
     fn write_fields(&self, out: &mut Vec<u8>) -> Result<(), OutOfMemory> {
-        Field::<ObjectId, 0>(self.object).write(out)?;
-        Field::<Enumerated, 1>(self.property).write(out)?;
-        under::<Unsigned32, 2>(self.index).write(out)
+        write_object_property(self.object, self.property, self.index, out)
     }
 
     ghost of_parts = { read_property_parts };

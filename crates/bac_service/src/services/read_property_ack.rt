@@ -3,12 +3,11 @@
 ghost use Rattle.bac_service.specs.ReadPropertyAck.{SpellsReadPropertyAck, read_property_ack_parts};
 
 use crate::named::Named;
-use crate::production::Production;
-use crate::production::field::Field;
 use crate::production::open_value::{OpenValue, write_open};
-use crate::production::option::{bare, under};
+use crate::production::option::bare;
 use crate::production::record::{Fields, Record};
 use crate::service::Service;
+use crate::services::object_property::{ObjectProperty, write_object_property};
 use bac_data::Any;
 use bac_tag::OutOfMemory;
 use bac_value::{Enumerated, ObjectId, Unsigned32};
@@ -30,13 +29,7 @@ pub struct ReadPropertyAck {
 }
 
 /// Its fields.
-type Parts = (
-    Field<ObjectId, 0>,
-    (
-        Field<Enumerated, 1>,
-        (Option<Field<Unsigned32, 2>>, OpenValue<3>),
-    ),
-);
+type Parts = (ObjectProperty, OpenValue<3>);
 
 impl Record for ReadPropertyAck {
     ghost use Rattle.bac_service.specs.declared.services.read_property_ack.ReadPropertyAck.{ReadPropertyAck};
@@ -50,7 +43,7 @@ impl Record for ReadPropertyAck {
     ghost spells = { SpellsReadPropertyAck 32 };
 
     fn from_parts(parts: Parts) -> ReadPropertyAck {
-        let (object, (property, (index, value))) = parts;
+        let ((object, (property, index)), value) = parts;
         ReadPropertyAck {
             object: object.0,
             property: property.0,
@@ -60,9 +53,7 @@ impl Record for ReadPropertyAck {
     }
 
     fn write_fields(&self, out: &mut Vec<u8>) -> Result<(), OutOfMemory> {
-        Field::<ObjectId, 0>(self.object).write(out)?;
-        Field::<Enumerated, 1>(self.property).write(out)?;
-        under::<Unsigned32, 2>(self.index).write(out)?;
+        write_object_property(self.object, self.property, self.index, out)?;
         write_open::<3>(&self.value, out)
     }
 

@@ -31,7 +31,8 @@ pub struct WriteProperty {
     pub priority: Option<Priority>,
 }
 
-/// Its fields.
+/// Its fields. The first three spell an `ObjectProperty`. They stand one by one, since that part is read by a call of
+/// its own, which makes a WriteProperty slower to read.
 type Parts = (
     Field<ObjectId, 0>,
     (

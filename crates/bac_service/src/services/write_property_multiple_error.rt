@@ -4,11 +4,13 @@ ghost use Rattle.bac_service.specs.WritePropertyMultipleError.{SpellsWriteError,
 
 use crate::named::Named;
 use crate::production::Production;
+use crate::production::field::Field;
 use crate::production::group::{Group, write_group};
+use crate::production::option::{bare, under};
 use crate::production::record::{Fields, Record};
 use crate::service::Service;
 use crate::services::error_cause::ErrorCause;
-use crate::services::read_property::ReadProperty;
+use crate::services::object_property::ObjectProperty;
 use bac_tag::OutOfMemory;
 use bac_value::{Enumerated, ObjectId, Unsigned32};
 
@@ -30,8 +32,8 @@ pub struct WritePropertyMultipleError {
     pub index: Option<Unsigned32>,
 }
 
-/// Its fields: the error, and the reference to the property, which is spelled as that of a ReadProperty.
-type Parts = (Group<Fields<ErrorCause>, 0>, Group<Fields<ReadProperty>, 1>);
+/// Its fields.
+type Parts = (Group<Fields<ErrorCause>, 0>, Group<ObjectProperty, 1>);
 
 impl Record for WritePropertyMultipleError {
     ghost use Rattle.bac_service.specs.declared.services.write_property_multiple_error.WritePropertyMultipleError.{WritePropertyMultipleError};
@@ -45,13 +47,13 @@ impl Record for WritePropertyMultipleError {
     ghost spells = { SpellsWriteError };
 
     fn from_parts(parts: Parts) -> WritePropertyMultipleError {
-        let (Group(Fields(cause)), Group(Fields(place))) = parts;
+        let (Group(Fields(cause)), Group((object, (property, index)))) = parts;
         WritePropertyMultipleError {
             class: cause.class,
             code: cause.code,
-            object: place.object,
-            property: place.property,
-            index: place.index,
+            object: object.0,
+            property: property.0,
+            index: bare(index),
         }
     }
 
@@ -60,13 +62,12 @@ impl Record for WritePropertyMultipleError {
             class: self.class,
             code: self.code,
         };
-        let place = ReadProperty {
-            object: self.object,
-            property: self.property,
-            index: self.index,
-        };
+        let place = (
+            Field(self.object),
+            (Field(self.property), under(self.index)),
+        );
         write_group::<Fields<ErrorCause>, 0>(&Fields(cause), out)?;
-        write_group::<Fields<ReadProperty>, 1>(&Fields(place), out)
+        write_group::<ObjectProperty, 1>(&place, out)
     }
 
     ghost of_parts = { write_error_parts };

@@ -1,4 +1,4 @@
-use Rattle.std.proofs.Common.{◌≡◌, ◌&&◌, nat_eq, refl, sym, subst, ◌∙◌, ap, Bool}
+use Rattle.std.proofs.Common.{◌≡◌, ◌&&◌, true, false, nat_eq, refl, sym, subst, ◌∙◌, ap, Bool}
 use Rattle.std.specs.Bool.{Decides}
 use Rattle.std.specs.Option.{option_eq}
 use Rattle.std.specs.Cmp.Lexicographic.{pointwise}
@@ -11,6 +11,7 @@ use Rattle.bac_service.specs.declared.services.read_property_multiple_ack.ReadAc
 use Rattle.bac_service.specs.contracts.service.ServicePartialEq.TheImpl as derived
 use Rattle.bac_service.specs.contracts.services.property_result.ReadResultPartialEq.TheImpl as of_result
 use Rattle.bac_service.specs.ServiceValues.{value_of}
+use Rattle.bac_data.specs.Same.{same_values}
 use Rattle.bac_service.specs.Same.{same_object, same_index, same_read_result, same_service}
 use Rattle.bac_service.specs.Laws.Same.{services_tell}
 use Rattle.bac_service.proofs.laws.equal_services_are_the_same.Goals as goal
@@ -28,11 +29,18 @@ access_results_are : (test other : ReadResult → ReadResult → Bool) → test 
 access_results_are test other e a b =
     ap (λ (f : ReadResult → ReadResult → Bool). same_object a.object b.object && option_eq (λ v w. pointwise (λ (p q : PropertyResult). nat_eq p.property.0 q.property.0 && (same_index p.index q.index && f p.result q.result)) v.items w.items) a.results b.results) e
 
+-- the derive goes field by field, the definition first by the reference to a property of an object
+reference_first : (object property index rest : Bool) → (object && (property && (index && rest))) ≡ ((object && (property && index)) && rest)
+reference_first true true index rest = refl
+reference_first true false index rest = refl
+reference_first false property index rest = refl
+
 service_is : (a b : Service) → derived.eq-value.it a b ≡ same_service a b
 service_is (held.ReadPropertyMultipleAck a) (held.ReadPropertyMultipleAck b) =
     ap (λ (test : ReadAccessResult → ReadAccessResult → Bool). pointwise test a.results.items b.results.items) (λ i. λ v w. access_results_are of_result.eq-value.it same_read_result (λ j. λ p q. result_is p q j) v w i)
 service_is (held.ReadProperty a) (held.ReadProperty b) = refl
-service_is (held.ReadPropertyAck a) (held.ReadPropertyAck b) = refl
+service_is (held.ReadPropertyAck a) (held.ReadPropertyAck b) =
+    reference_first (same_object a.object b.object) (nat_eq a.property.0 b.property.0) (same_index a.index b.index) (same_values a.value b.value)
 service_is (held.WriteProperty a) (held.WriteProperty b) = refl
 service_is (held.ReadPropertyMultiple a) (held.ReadPropertyMultiple b) = refl
 service_is (held.WritePropertyMultiple a) (held.WritePropertyMultiple b) = refl

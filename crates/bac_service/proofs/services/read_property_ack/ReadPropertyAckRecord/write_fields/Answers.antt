@@ -3,5 +3,4 @@ use Rattle.bac_service.specs.Laws.Least.{appends_joined}
 use Rattle.bac_service.proofs.services.read_property_ack.ReadPropertyAckRecord.write_fields.Goals as goal
 
 pub returns-clause-ok : goal.returns-clause-ok
-returns-clause-ok c =
-    on_ok_weaker c.write_open.result (λ last. appends_joined c.in_ok-write.ensures.ok (appends_joined c.in_ok-write-2.ensures.ok (appends_joined (rw c.under.ensures at c.in_ok-write-3.ensures.ok) last))) c.write_open.ensures.ok
+returns-clause-ok c = on_ok_weaker c.write_open.result (λ last. appends_joined c.in_ok-write_object_property.ensures.ok last) c.write_open.ensures.ok

@@ -1,0 +1,35 @@
+//! References to properties of objects (clause 21).
+
+ghost use Rattle.std.specs.Prelude.{OnOk};
+ghost use Rattle.bac_tag.specs.Octets.{Extends};
+ghost use Rattle.bac_tag.specs.Spelling.{AppendsLeast};
+ghost use Rattle.bac_service.specs.ObjectProperty.{SpellsObjectProperty};
+
+use crate::production::Production;
+use crate::production::field::Field;
+use crate::production::option::under;
+use bac_tag::OutOfMemory;
+use bac_value::{Enumerated, ObjectId, Unsigned32};
+
+/// A reference to a property of an object, or to one element of it, as a part of several services.
+///
+/// Octets (clause 21): `[0]` object identifier, `[1]` property identifier, `[2]` array index (optional).
+pub(crate) type ObjectProperty = (
+    Field<ObjectId, 0>,
+    (Field<Enumerated, 1>, Option<Field<Unsigned32, 2>>),
+);
+
+/// Appends the least octets of such a reference. Where memory is refused some octets may be there.
+#[inline(always)]
+pub(crate) fn write_object_property(
+    object: ObjectId,
+    property: Enumerated,
+    index: Option<Unsigned32>,
+    out: &mut Vec<u8>,
+) -> Result<(), OutOfMemory>
+    ensures ok { OnOk result (AppendsLeast (SpellsObjectProperty (object, (property, index))) out.old.items out.new.items) }
+    ensures kept { Extends out.old.items out.new.items }
+{
+    let part: ObjectProperty = (Field(object), (Field(property), under(index)));
+    part.write(out)
+}
