@@ -5,6 +5,9 @@ use bac_value::{
     Bits, Boolean, DoubleBits, Enumerated, Instance, ObjectId, Priority, RangeFault, RealBits,
     Signed, Unsigned, Unsigned16, Unsigned32, ValueFault,
 };
+use std::alloc::{AllocError, Global};
+use std::collections::HashMap;
+use std::hash::Hash;
 use std::process::Abort;
 
 /// The number is a priority, or it is told that it is none.
@@ -66,6 +69,39 @@ fn keys_are_in_order(rt: HostRuntime) {
     are_in_order(&rt, Some(Enumerated(1)), Some(Enumerated(2)));
     are_in_order(&rt, Some(Unsigned(1)), Some(Unsigned(256)));
     are_in_order(&rt, Priority::new(1), Priority::new(16));
+}
+
+/// A map with a name under each of two keys.
+fn named<K: Eq + Hash + Drop>(
+    alloc: Global,
+    first: K,
+    second: K,
+) -> Result<HashMap<K, &'static str>, AllocError> {
+    let mut names = HashMap::new(alloc);
+    names.insert(first, "first")?;
+    names.insert(second, "second")?;
+    Ok(names)
+}
+
+/// What a map has under each of two keys is found there.
+fn are_kept_apart<K: Eq + Hash + Copy + Drop>(rt: &impl Abort, alloc: Global, first: K, second: K) {
+    let names = named(alloc, first, second).expect(rt, "memory");
+    assert_same(rt, names.len(), 2);
+    assert_same(rt, names.get(&first).copied(), Some("first"));
+    assert_same(rt, names.get(&second).copied(), Some("second"));
+}
+
+#[test]
+fn values_are_keys_of_maps(rt: HostRuntime) {
+    let alloc = rt.alloc();
+    let (input, output) = (ObjectId::new(0, 5), ObjectId::new(1, 5));
+    are_kept_apart(&rt, alloc, input, output);
+    are_kept_apart(&rt, alloc, Enumerated(85), Enumerated(103));
+    are_kept_apart(&rt, alloc, Unsigned(1), Unsigned(1 << 32));
+    are_kept_apart(&rt, alloc, Unsigned16(1), Unsigned16(256));
+    are_kept_apart(&rt, alloc, Unsigned32(1), Unsigned32(1 << 16));
+    are_kept_apart(&rt, alloc, Priority::new(1), Priority::new(16));
+    are_kept_apart(&rt, alloc, Instance::new(0), Instance::new(4_194_303));
 }
 
 #[test]
