@@ -6,18 +6,27 @@ use bac_tables::{enclosed, mixed, octets_of, rows_of};
 use std::alloc::Global;
 use std::process::Abort;
 
-/// How many octets are found to be canonical of these between tags of number 3, behind which another octet stands.
-fn found(rt: &impl Abort, alloc: Global, length: &[u8], contents: &[u8]) -> Option<usize> {
-    let octets = enclosed(alloc, &[0x3E], length, contents, &[0x3F, 0x49]).expect(rt, "memory");
-    canonical_any_len(&octets, 3)
+/// These octets between tags of number 3, and another octet behind.
+fn between_tags(rt: &impl Abort, alloc: Global, length: &[u8], contents: &[u8]) -> Vec<u8> {
+    enclosed(alloc, &[0x3E], length, contents, &[0x3F, 0x49]).expect(rt, "memory")
+}
+
+/// All but the last octet are found to be canonical, or none is.
+fn tries(rt: &impl Abort, octets: &[u8], is_found: bool, case: &str) {
+    let wanted = if is_found {
+        octets.len().checked_sub(1)
+    } else {
+        None
+    };
+    assert_same_of(rt, canonical_any_len(octets, 3), wanted, case);
 }
 
 /// The octets of the table are found between the tags, or are not.
 fn are_found(rt: &impl Abort, alloc: Global, table: &str) {
     for row in rows_of(table).expect(rt, "rows").iter() {
-        let octets = octets_of(row.octets).expect(rt, "octets");
-        let wanted = (row.told == "found").then_some(octets.len() + 2);
-        assert_same_of(rt, found(rt, alloc, &[], &octets), wanted, row.octets);
+        let contents = octets_of(row.octets).expect(rt, "octets");
+        let octets = between_tags(rt, alloc, &[], &contents);
+        tries(rt, &octets, row.told == "found", row.octets);
     }
 }
 
@@ -70,8 +79,8 @@ fn other_octets_are_not_found(rt: HostRuntime) {
 /// An octet string of so many octets, which the octets of its length tell, is found.
 fn string_is_found(rt: &impl Abort, alloc: Global, size: usize, length: &[u8]) {
     let contents = mixed(alloc, size).expect(rt, "memory");
-    let wanted = Some(length.len() + size + 2);
-    assert_same_of(rt, found(rt, alloc, length, &contents), wanted, size);
+    let octets = between_tags(rt, alloc, length, &contents);
+    tries(rt, &octets, true, "a long string");
 }
 
 // The octets of a length: clause 20.2.1.3.1.
