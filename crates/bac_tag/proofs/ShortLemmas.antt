@@ -1,15 +1,16 @@
 -- Heads of one octet.
+use mir.Val.{bool_byte}
 use Rattle.std.proofs.Common.{◌≡◌, ℕ, ◌+◌, ◌*◌, ◌^◌, ◌<◌, inl, inr, Bool, true, false, List, [], ◌∷◌, length, take, get_or, refl, sym, ap, ◌∙◌, length-append, arith}
 use Rattle.std.proofs.lemmas.Bool.{cases_lt, lt-ltb, le-ltb}
 use Rattle.bac_tag.specs.declared.heads.TagHead.{TagHead}
-use Rattle.bac_tag.specs.declared.heads.TagHead.TheVariants.{App, Ctx, Open, Close}
+use Rattle.bac_tag.specs.declared.heads.TagHead.TheVariants.{App, AppBool, Ctx, Open, Close}
 use Rattle.bac_tag.specs.Spelling.{IsLeast}
 use Rattle.bac_tag.specs.Laws.Spelling.{IsLeast-one}
 use Rattle.bac_tag.specs.Heads.{IsValid, class_bit, number_octets, length_octets, Heads}
 use Rattle.bac_tag.specs.Laws.Heads.{head_is, length_below}
 use Rattle.bac_tag.specs.Writing.{number_form, length_form, narrow_opening, narrow_head}
 use Rattle.bac_tag.specs.Short.{headed, BeginsShort, BeginsWith}
-use Rattle.bac_tag.proofs.WritingLemmas.{least_app, least_ctx, least_open, least_close}
+use Rattle.bac_tag.proofs.WritingLemmas.{least_app, least_bool, least_ctx, least_open, least_close}
 use Rattle.bac_tag.proofs.HeadLenLemmas.{length_of_app, length_of_ctx, length_of_open, length_of_close, least_as_short}
 
 -- ---- narrow forms of one octet
@@ -35,6 +36,9 @@ short_open n octets v b = record { some = b.some; least = least_open n (take 1 o
 
 pub short_close : (n : ℕ) (octets : List ℕ) → IsValid (Close n) → BeginsWith 1 n 7 octets → BeginsShort (Close n) octets
 short_close n octets v b = record { some = b.some; least = least_close n (take 1 octets) v (first_of octets b.some ∙ ap (λ (o : ℕ). o ∷ []) b.octet ∙ sym (one_opening 1 n 7 b.nibble)) }
+
+pub short_bool : (v : Bool) (octets : List ℕ) → BeginsWith 0 1 (bool_byte v) octets → BeginsShort (AppBool v) octets
+short_bool v octets b = record { some = b.some; least = least_bool v (take 1 octets) (first_of octets b.some ∙ ap (λ (o : ℕ). o ∷ []) b.octet ∙ sym (one_opening 0 1 (bool_byte v) b.nibble)) }
 
 -- ---- and nothing else is
 
@@ -98,6 +102,11 @@ close_begins n octets b =
     let p = number_in_nibble n (omega arith) in
     let same = IsLeast-one (Heads (Close n)) (take 1 octets) (narrow_opening 1 n 7) b.least (least_close n _ b.least.member.valid refl) in
     record { some = b.some; nibble = p; octet = octet_is octets _ b.some (same ∙ one_opening 1 n 7 p) }
+
+pub bool_begins : (v : Bool) (octets : List ℕ) → BeginsShort (AppBool v) octets → get_or octets 0 0 ≡ 16 + bool_byte v
+bool_begins v octets b =
+    let same = IsLeast-one (Heads (AppBool v)) (take 1 octets) (narrow_opening 0 1 (bool_byte v)) b.least (least_bool v _ refl) in
+    octet_is octets _ b.some (same ∙ one_opening 0 1 (bool_byte v) (omega arith))
 
 -- ---- a head of one octet is the least
 

@@ -46,6 +46,16 @@ module _ {X : Type 0} where
     pub within : found.1 ≤ length input
     pub spelled : Spells found.0 (take found.1 input)
 
+  -- so many octets of the input are the canonical ones of some value
+  pub record TakesLeast (Spells : X → List ℕ → Type 0) (input : List ℕ) (taken : ℕ) : Type 0 where
+    pub value : X
+    pub within : taken ≤ length input
+    pub least : IsLeast (Spells value) (take taken input)
+
+  -- the octets as a whole are the canonical ones of some value
+  abbrev pub IsCanonical : (X → List ℕ → Type 0) → List ℕ → Type 0
+  IsCanonical Spells octets = (x : X) × IsLeast (Spells x) octets
+
   -- So many octets of the input begin a spelling, and one more do not.
   pub record IsFurthest (Spells : X → List ℕ → Type 0) (input : List ℕ) (place : ℕ) : Type 0 where
     pub within : place ≤ length input

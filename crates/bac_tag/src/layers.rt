@@ -8,4 +8,4 @@ pub use crate::marks::{first_difference, joined_marks, mark_head, mark_read_head
 pub use crate::numbers::{first_hopeless, number_of, number_within};
 pub use crate::quick_heads::{begins_long, long_length, quick_head};
 pub use crate::reading::{read_expected, read_one_of};
-pub use crate::short::{is_short_closing, is_short_opening, short_len};
+pub use crate::short::{is_short_closing, is_short_opening, short_boolean, short_len};

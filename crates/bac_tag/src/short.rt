@@ -1,8 +1,8 @@
 //! Heads of one octet.
 
-ghost use Rattle.std.specs.Prelude.{◌<◌, ◌↔◌, ℕ, IsTrue, IfSome, IfNone, true};
+ghost use Rattle.std.specs.Prelude.{◌<◌, ◌↔◌, ℕ, Bool, IsTrue, IfSome, IfNone, true};
 ghost use Rattle.bac_tag.specs.Heads.{IsValid, class_bit};
-ghost use Rattle.bac_tag.specs.declared.heads.TagHead.TheVariants.{Open, Close};
+ghost use Rattle.bac_tag.specs.declared.heads.TagHead.TheVariants.{AppBool, Open, Close};
 ghost use Rattle.bac_tag.specs.Short.{headed, BeginsShort, BeginsWith};
 
 use crate::reading::initial_parts;
@@ -31,6 +31,20 @@ pub fn short_len(octets: &[u8], context: bool, number: u8) -> Option<usize>
         Some(usize::from(lvt))
     } else {
         None
+    }
+}
+
+/// Returns the value of the application Boolean (clause 20.2.3) that the first octet alone spells, which has no other
+/// octet. Else it returns None.
+#[inline(always)]
+pub fn short_boolean(octets: &[u8]) -> Option<bool>
+    ensures some { IfSome result (λ value. BeginsShort (AppBool value) octets.now) }
+    ensures none { IfNone result ((value : Bool) → BeginsShort (AppBool value) octets.now → ⊥) }
+{
+    match octets {
+        [0x10, ..] => Some(false),
+        [0x11, ..] => Some(true),
+        _ => None,
     }
 }
 

@@ -6,11 +6,11 @@ use Rattle.std.proofs.lemmas.List.{length-append, take-append-le, take-append-dr
 use Rattle.bac_tag.specs.declared.refusals.Refusal.{Refusal}
 use Rattle.bac_tag.specs.declared.refusals.Why.{Why}
 use Rattle.bac_tag.specs.declared.refusals.Why.TheVariants.{Short}
-use Rattle.std.specs.Prelude.{slice_get, nat_eq, nat_lt, cond, ◌&&◌, Bool, true, false}
+use Rattle.std.specs.Prelude.{slice_get, nat_eq, nat_lt, cond, ◌&&◌, Bool, true, false, Option, None, Some}
 use Rattle.bac_tag.specs.Refusals.{weight_of, farther_of}
 use Rattle.bac_tag.specs.Octets.{FirstDifference}
 use Rattle.bac_tag.specs.Laws.Octets.{NoGreater-antisym, NoGreater-append}
-use Rattle.bac_tag.specs.Spelling.{IsLeast, IsViable, NoFront, EndsItself, IsRefusal, JoinedBy, IsPartway, CanFollow, OneOf}
+use Rattle.bac_tag.specs.Spelling.{IsLeast, HasMark, IsViable, NoFront, EndsItself, IsRefusal, JoinedBy, IsPartway, CanFollow, OneOf}
 
 -- Of two ways to split a list one has the longer first part, which begins with the other's.
 pub splits : (a b r s : List ℕ) → a ++ r ≡ b ++ s → length a ≤ length b → (m : List ℕ) × (b ≡ a ++ m) × (r ≡ m ++ s)
@@ -208,6 +208,11 @@ refused_either First Second input r s f g =
 -- one set has one least list
 pub IsLeast-one : (Among : List ℕ → Type 0) (b c : List ℕ) → IsLeast Among b → IsLeast Among c → b ≡ c
 IsLeast-one Among b c p q = NoGreater-antisym b c (p.least c q.member) (q.least b p.member)
+
+-- octets without a mark are the least ones
+pub unmarked_least : {Among : List ℕ → Type 0} {octets : List ℕ} (mark : Option ℕ) → mark ≡ None → HasMark Among octets mark → IsLeast Among octets
+unmarked_least {Among} None e h = subst (λ (c : List ℕ). IsLeast Among c) (sym h.is_mark) h.is_least
+unmarked_least {Among} (Some place) e h = absurd (let i : Some place ≡ None = e in cc)
 
 -- where no list spells two values, least spellings tell them
 pub IsLeast-tells : {X : Type 0} (Spells : X → List ℕ → Type 0) → ((x y : X) (b : List ℕ) → Spells x b → Spells y b → x ≡ y) → (x y : X) (b c : List ℕ) → IsLeast (Spells x) b → IsLeast (Spells y) c → (x ≡ y) ↔ (b ≡ c)

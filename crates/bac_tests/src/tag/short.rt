@@ -1,10 +1,11 @@
 //! Heads of one octet (clause 20.2.1): the number, 0 to 14, and the class, with an LVT of 0 to 4 for a length, 6 for an
-//! opening tag and 7 for a closing one. A head that is not the least of its spellings is none of them.
+//! opening tag and 7 for a closing one; and the two heads that are application Booleans (clause 20.2.3). A head that is not
+//! the least of its spellings is none of them.
 
 use crate::expectations::{assert_same, assert_same_of};
 use bac_tables::octets_of;
 use bac_tag::TagHead;
-use bac_tag::layers::{is_short_closing, is_short_opening, short_len};
+use bac_tag::layers::{is_short_closing, is_short_opening, short_boolean, short_len};
 use std::process::Abort;
 
 /// The length of the head of context class with this number.
@@ -172,4 +173,27 @@ fn longer_spellings_are_not_short(rt: HostRuntime) {
     is_no_application(&rt, "25 FE 00 04", 2);
     is_no_application(&rt, "F4 0C", 12);
     is_no_application(&rt, "C5 04", 12);
+}
+
+/// The octets begin with the short head of this application Boolean, or with none.
+fn tells_boolean(rt: &impl Abort, octets: &str, wanted: Option<bool>) {
+    let found = octets_of(octets).expect(rt, "octets");
+    assert_same_of(rt, short_boolean(&found), wanted, octets);
+}
+
+// By clause 20.2.3: the LVT is the value, and there are no contents, whatever stands behind. Another class, number or LVT is
+// no such head, and neither is one whose number stands in a second octet.
+#[test]
+fn application_booleans_are_told_by_their_octet(rt: HostRuntime) {
+    tells_boolean(&rt, "10", Some(false));
+    tells_boolean(&rt, "11", Some(true));
+    tells_boolean(&rt, "10 11", Some(false));
+    tells_boolean(&rt, "11 FF 55", Some(true));
+    let others = [
+        "none", "12", "14", "15 00", "16", "17", "18", "19 01", "00", "01", "20", "21 01", "91 01",
+        "F0 01", "F1 01", "FF",
+    ];
+    for octets in others {
+        tells_boolean(&rt, octets, None);
+    }
 }
