@@ -5,8 +5,8 @@ use Rattle.std.proofs.lemmas.List.{length-take-le}
 use Rattle.bac_tag.specs.declared.refusals.Refusal.{Refusal}
 use Rattle.bac_tag.specs.Octets.{IsMark, joined_mark}
 use Rattle.bac_tag.specs.Refusals.{behind}
-use Rattle.bac_tag.specs.Spelling.{IsLeast, HasMark, IsWholeRefusal}
-use Rattle.bac_data.specs.CanonicalFronts.{IsCanonical}
+use Rattle.bac_tag.specs.Laws.Spelling.{unmarked_least}
+use Rattle.bac_tag.specs.Spelling.{HasMark, IsWholeRefusal, IsCanonical}
 use Rattle.bac_service.specs.declared.kind.Kind.{Kind}
 use Rattle.bac_service.specs.ServiceTable.{production_of, is_small as is_small_service}
 use Rattle.bac_service.specs.ServiceValues.{ServiceValue, opaque}
@@ -78,4 +78,4 @@ canonical_behind k c b least e (service, l) = (
 
 -- an APDU without a mark is canonical
 pub canonical_apdu : (v : ApduValue) (b : List ℕ) → SpellsApdu v b × HasMark (SpellsApdu v) b None → IsCanonical SpellsApdu b
-canonical_apdu v b (s, m) = (v, subst (IsLeast (SpellsApdu v)) (sym m.is_mark) m.is_least)
+canonical_apdu v b (s, m) = (v, unmarked_least None refl m)

@@ -1,7 +1,7 @@
 //! APDUs in canonical octets, which are found without the APDU.
 
 ghost use Rattle.std.specs.Prelude.{IsTrue};
-ghost use Rattle.bac_data.specs.CanonicalFronts.{IsCanonical};
+ghost use Rattle.bac_tag.specs.Spelling.{IsCanonical};
 ghost use Rattle.bac_apdu.specs.Apdus.{SpellsApdu};
 
 use crate::complex_ack::is_canonical_complex_ack;
@@ -10,10 +10,8 @@ use crate::heads::has_bit;
 use crate::unconfirmed_request::is_canonical_unconfirmed_request;
 use std::alloc::Global;
 
-/// Whether the octets are the canonical ones of an APDU that carries a service, if that is found at once. False tells
-/// nothing of the octets: it is always told of segments, of errors and of APDUs that end behind their head.
-///
-/// No octet is kept, however many there are.
+/// Whether the octets are the canonical ones of an APDU (clause 20.1) that carries a service, if that is found at once. False
+/// tells nothing of the octets: it is always told of segments, of errors and of APDUs that end behind their head.
 pub fn is_canonical_apdu(alloc: Global, octets: &[u8]) -> bool
     ensures { IsTrue result → IsCanonical SpellsApdu octets.now }
 {

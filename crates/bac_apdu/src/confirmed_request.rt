@@ -2,8 +2,7 @@
 
 ghost use Rattle.std.specs.Prelude.{◌≡◌, ◌↔◌, ◌/◌, ◌%◌, ◌^◌, IsTrue, IsOk, IfOk, IfErr, OnOk, OnErr};
 ghost use Rattle.bac_tag.specs.HeadOctets.{bit_of, least_head};
-ghost use Rattle.bac_tag.specs.Spelling.{AppendsLeast};
-ghost use Rattle.bac_data.specs.CanonicalFronts.{IsCanonical};
+ghost use Rattle.bac_tag.specs.Spelling.{AppendsLeast, IsCanonical};
 ghost use Rattle.bac_service.specs.declared.kind.Kind.TheVariants.{Confirmed};
 ghost use Rattle.bac_service.specs.ServiceValues.{value_of as service_of};
 ghost use Rattle.bac_apdu.specs.ConfirmedRequest.{confirmed_request_head};

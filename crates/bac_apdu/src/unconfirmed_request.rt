@@ -1,8 +1,7 @@
 //! Requests that want no answer (Unconfirmed-Request, clause 20.1.3).
 
 ghost use Rattle.std.specs.Prelude.{◌≡◌, ◌↔◌, IsTrue, IsOk, IfOk, IfErr, OnOk, OnErr};
-ghost use Rattle.bac_tag.specs.Spelling.{AppendsLeast};
-ghost use Rattle.bac_data.specs.CanonicalFronts.{IsCanonical};
+ghost use Rattle.bac_tag.specs.Spelling.{AppendsLeast, IsCanonical};
 ghost use Rattle.bac_service.specs.declared.kind.Kind.TheVariants.{Unconfirmed};
 ghost use Rattle.bac_service.specs.ServiceValues.{value_of as service_of};
 ghost use Rattle.bac_apdu.specs.FirstOctet.{HasType};

@@ -3,7 +3,7 @@ use Rattle.std.specs.Prelude.{◌≡◌, ◌≢◌, ◌⊎◌, ℕ, ◌<◌, ◌
 use Rattle.bac_tag.specs.declared.refusals.Refusal.{Refusal}
 use Rattle.bac_tag.specs.declared.refusals.Why.{Why}
 use Rattle.bac_tag.specs.declared.refusals.Why.TheVariants.{Short, Trailing, Version, Address, PduType, Window, Tag, Length, Content, Depth, NotCanonical, OutOfMemory}
-use Rattle.bac_tag.specs.Spelling.{IsLeast, IsWholeRefusal}
+use Rattle.bac_tag.specs.Spelling.{IsWholeRefusal, IsCanonical as IsCanonicalOf}
 use Rattle.bac_npdu.specs.Frames.{FrameValue, SpellsFrame}
 use Rattle.bac_npdu.specs.Decoded.{IsReasoned}
 use Rattle.bac_npdu.specs.Meanings.{IsFirstFlaw}
@@ -51,7 +51,7 @@ without_memory = record { why = number_of OutOfMemory; place = 0; count = 0 }
 
 -- of all that spell some frame the least
 abbrev pub IsCanonical : List ℕ → Type 0
-IsCanonical octets = (frame : FrameValue) × IsLeast (SpellsFrame frame) octets
+IsCanonical octets = IsCanonicalOf SpellsFrame octets
 
 -- The octets spell no frame, and the refusal says where they stop to begin one, and why.
 pub record IsHopeless (octets : List ℕ) (refusal : Refusal) : Type 0 where

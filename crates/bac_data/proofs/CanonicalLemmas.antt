@@ -5,10 +5,9 @@ use Rattle.bac_tag.specs.declared.heads.TagHead.TheVariants.{Open, Close}
 use Rattle.bac_tag.specs.Laws.Spelling.{IsLeast-one}
 use Rattle.bac_tag.specs.Heads.{Heads}
 use Rattle.bac_tag.specs.Short.{BeginsShort}
-use Rattle.bac_tag.specs.Spelling.{IsLeast}
+use Rattle.bac_tag.specs.Spelling.{IsLeast, TakesLeast}
 use Rattle.bac_data.specs.declared.items.Item.{Item}
 use Rattle.bac_data.specs.Spells.{SpellsOpen}
-use Rattle.bac_data.specs.CanonicalFronts.{TakesLeast}
 use Rattle.bac_data.specs.Events.{Event, opening, closing, SpellsEvent}
 use Rattle.bac_data.specs.Laws.Events.{value_of_events}
 use Rattle.bac_data.specs.Building.{AreOpen, MayFollow, closing_number}

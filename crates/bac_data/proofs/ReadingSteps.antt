@@ -145,7 +145,7 @@ closed_mark number input place es m small within b marked =
 
 stays : (i : Item) → IsApplication i → (s : List ℕ) → Opens 32 s (item_event i ∷ []) s
 stays (item.Application number contents written) a s = refl
-stays (item.Boolean bit) a s = absurd a
+stays (item.Boolean bit) a s = refl
 stays (item.Context number octets) a s = absurd a
 stays (item.Open number) a s = absurd a
 stays (item.Close number) a s = absurd a

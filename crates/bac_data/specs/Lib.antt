@@ -10,5 +10,4 @@ pub mod Under
 pub mod Reading
 pub mod Marks
 pub mod Same
-pub mod CanonicalFronts
 pub mod Laws

@@ -93,8 +93,9 @@ pub record LiesInFront (item : Item) (start taken : ℕ) (octets : List ℕ) : T
   pub headed : Heads (item_head item) (take start octets)
   pub octets_are : take taken octets ≡ take start octets ++ item_contents item
 
--- it is an application primitive, and no Boolean
+-- it is an application primitive
 abbrev pub IsApplication : Item → Type 0
+IsApplication (item.Boolean bit) = Unit {0}
 IsApplication (item.Application number contents written) = Unit {0}
 IsApplication _ = ⊥
 

@@ -1,16 +1,77 @@
 //! Open values in canonical octets, which are found without the value.
 
-ghost use Rattle.std.specs.Prelude.{◌≡◌, ◌≤◌, ◌<◌, ◌+◌, ℕ, IfSome};
+ghost use Rattle.std.specs.Prelude.{◌≡◌, ◌≤◌, ◌<◌, ◌+◌, ◌++◌, ℕ, IfSome, length, take};
+ghost use Rattle.bac_tag.specs.Spelling.{IsLeast, Takes, TakesLeast};
 ghost use Rattle.bac_data.specs.Spells.{SpellsOpen};
-ghost use Rattle.bac_data.specs.CanonicalFronts.{TakesLeast};
+ghost use Rattle.bac_data.specs.Under.{Under, HasContents};
+ghost use Rattle.bac_data.specs.Events.{SpellsEvent};
+ghost use Rattle.bac_data.specs.Reading.{SpellsStanding, item_event, item_contents, item_head, IsItem, LiesInFront};
 
-use crate::items::{is_least, least_primitive, read_item};
+use crate::items::{Item, is_least, least_primitive, may_stand};
 use crate::reading::{ends, follow, place_in};
 use arrayvec::ArrayVec;
 use bac_tag::layers::{is_short_closing, is_short_opening};
+use bac_tag::{TagHead, read_head};
+use bac_value::layers::are_written;
 
-/// How many octets the open value at the front takes with its tags, where these are its canonical ones and each tag around
-/// it has one octet. None tells nothing of the octets. `number` must be at most 254.
+/// What stands under a head at the front of the octets, if its contents are those that are written, and how many octets they
+/// have. None tells nothing of the octets.
+fn written_under(head: TagHead, octets: &[u8]) -> Option<(Item<'_>, usize)>
+    requires { HasContents head }
+    ensures within { IfSome result (λ found. found.1 ≤ length octets.now) }
+    ensures found { IfSome result (λ found. Under head (item_event found.0) (take found.1 octets.now)) }
+    ensures contents { IfSome result (λ found. take found.1 octets.now ≡ item_contents found.0) }
+    ensures head { IfSome result (λ found. item_head found.0 ≡ head) }
+    ensures item { IfSome result (λ found. IsItem found.0) }
+{
+    match head {
+        TagHead::App { number, len } => {
+            let size = len as usize;
+            let contents = octets.get(..size)?;
+            if !are_written(number, contents) {
+                return None;
+            }
+            let item = Item::Application {
+                number,
+                contents,
+                written: true,
+            };
+            Some((item, size))
+        }
+        TagHead::AppBool(bit) => Some((Item::Boolean(bit), 0)),
+        TagHead::Ctx { number, len } => {
+            let size = len as usize;
+            let octets = octets.get(..size)?;
+            Some((Item::Context { number, octets }, size))
+        }
+        TagHead::Open(number) => Some((Item::Open(number), 0)),
+        TagHead::Close(number) => Some((Item::Close(number), 0)),
+    }
+}
+
+/// What stands next, if it stands there in its canonical octets, and how many they are. A group may begin where there is
+/// room for one, and the innermost group, or the value, has this number. None tells nothing of the octets.
+fn least_item(octets: &[u8], room: bool, closing: u8) -> Option<(Item<'_>, usize)>
+    ensures found { IfSome result (λ found. Takes (SpellsStanding room closing) octets.now (item_event found.0, found.1)) }
+    ensures some { IfSome result (λ found. 0 < found.1) }
+    ensures item { IfSome result (λ found. IsItem found.0) }
+    ensures least { IfSome result (λ found. (start : ℕ) × LiesInFront found.0 start found.1 octets.now × IsLeast (SpellsEvent (item_event found.0)) (take start octets.now ++ item_contents found.0)) }
+{
+    let Ok((head, start)) = read_head(octets) else {
+        return None;
+    };
+    if !may_stand(head, room, closing) {
+        return None;
+    }
+    let (item, size) = written_under(head, &octets[start..])?;
+    if !is_least(&octets[..start], item) {
+        return None;
+    }
+    Some((item, start + size))
+}
+
+/// How many octets the open value (clause 20.2) at the front takes with its tags, where these are its canonical ones and each
+/// tag around it has one octet. None tells nothing of the octets. `number` must be at most 254.
 ///
 /// It takes no memory, however long the value is.
 pub fn canonical_any_len(octets: &[u8], number: u8) -> Option<usize>
@@ -31,13 +92,8 @@ pub fn canonical_any_len(octets: &[u8], number: u8) -> Option<usize>
             return Some(place + 1);
         }
         let (room, closing) = place_in(&groups, number);
-        let Ok((item, head, taken)) = read_item(&octets[place..], room, closing) else {
-            return None;
-        };
+        let (item, taken) = least_item(&octets[place..], room, closing)?;
         if groups.is_empty() && ends(item, number) {
-            return None;
-        }
-        if !is_least(&octets[place..place + head], item) {
             return None;
         }
         follow(&mut groups, item);

@@ -14,7 +14,9 @@ ghost use Rattle.bac_data.specs.Under.{Under, HasContents};
 ghost use Rattle.bac_data.specs.Events.{SpellsEvent};
 ghost use Rattle.bac_data.specs.Reading.{SpellsStanding, next_heads, item_event, item_contents, item_head, IsItem, HasLeastContents, LiesInFront, BeginsLeast};
 
-use bac_tag::layers::{Expected, is_short_closing, quick_head, read_one_of, short_len};
+use bac_tag::layers::{
+    Expected, is_short_closing, quick_head, read_one_of, short_boolean, short_len,
+};
 use bac_tag::{Refusal, TagHead, Why, head_len, read_head};
 use bac_value::layers::are_written;
 use bac_value::{
@@ -170,7 +172,7 @@ fn begins_group(octets: &[u8]) -> bool
 }
 
 /// Whether the head may stand next: it does not say that another one may not.
-fn may_stand(head: TagHead, room: bool, closing: u8) -> bool
+pub(crate) fn may_stand(head: TagHead, room: bool, closing: u8) -> bool
     requires { IsValid head }
     ensures { IsTrue result → FitsOne (next_heads room closing) head }
 {
@@ -250,8 +252,12 @@ pub(crate) fn least_primitive(octets: &[u8]) -> Option<usize>
     ensures found { IfSome result (λ taken. (item : Item) × BeginsLeast item taken octets.now) }
 {
     let number = *octets.first()? >> 4;
-    if number > 12 || number == 1 {
+    if number > 12 {
         return None;
+    }
+    if number == 1 {
+        short_boolean(octets)?;
+        return Some(1);
     }
     let size = short_len(octets, false, number)?;
     let contents = octets[1..].get(..size)?;

@@ -11,11 +11,11 @@ use Rattle.bac_tag.specs.declared.refusals.Why.TheVariants.{Trailing, Version, A
 use Rattle.bac_tag.specs.Octets.{IsOctets, IsMark, joined_mark}
 use Rattle.bac_tag.specs.Laws.Octets.{octets_at, octets_front, octets_back, mark-append, differs_at}
 use Rattle.bac_tag.specs.Refusals.{behind}
-use Rattle.bac_tag.specs.Spelling.{IsLeast, HasMark, IsWholeRefusal}
+use Rattle.bac_tag.specs.Laws.Spelling.{unmarked_least}
+use Rattle.bac_tag.specs.Spelling.{IsLeast, HasMark, IsWholeRefusal, IsCanonical}
 use Rattle.bac_tag.specs.HeadOctets.{HasBit, least_head}
 use Rattle.bac_tag.proofs.HeadOctetLemmas.{parts_are}
 use Rattle.bac_tag.proofs.BehindLemmas.{whole_body}
-use Rattle.bac_data.specs.CanonicalFronts.{IsCanonical}
 use Rattle.bac_apdu.specs.FirstOctet.{IsTypePlace, IsWindowPlace}
 use Rattle.bac_apdu.specs.Decoded.{IsApduReason, begins_small as begins_small_apdu}
 use Rattle.bac_npdu.specs.declared.frame.Frame.{Frame}
@@ -297,7 +297,7 @@ module _ (octets : List ℕ) (small : (k : ℕ) → slice_index octets k < 256) 
   behind_canonical x o is least control none =
       let found : IsBodyFound m rest x None = subst (λ (l : List ℕ). IsBodyFound m l x None) back_is (record { is = is; spelled = least.member; marked = record { least = back; is_least = least; is_mark = refl } }) in
       let marked = (body_found octets small c d s rest h m (flag_told 7 c m bit) bit n x None None size found (no_mark c o control none)).1 in
-      (frame_of c d s x, subst (IsLeast (SpellsFrame (frame_of c d s x))) (sym marked.is_mark) marked.is_least)
+      (frame_of c d s x, unmarked_least None refl marked)
     where
       no_mark : (c : ℕ) (o : Option ℕ) → IsControlMark c o → is_some o ≡ false → IsControlMark c None
       no_mark c None h e = h

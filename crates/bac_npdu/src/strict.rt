@@ -1,8 +1,7 @@
 //! Canonical octets alone, and canonical octets of what was read.
 
 ghost use Rattle.std.specs.Prelude.{◌≡◌, ◌≢◌, ◌↔◌, false, IsTrue, IfOk, IfErr};
-ghost use Rattle.bac_tag.specs.Spelling.{IsLeast, IsWholeRefusal};
-ghost use Rattle.bac_data.specs.CanonicalFronts.{IsCanonical};
+ghost use Rattle.bac_tag.specs.Spelling.{IsLeast, IsWholeRefusal, IsCanonical};
 ghost use Rattle.bac_npdu.specs.Frames.{SpellsFrame, value_of};
 ghost use Rattle.bac_npdu.specs.Heads.{IsVersionPlace, IsAddressPlace};
 ghost use Rattle.bac_npdu.specs.Decoded.{begins_small, IsPduTypePlace, IsFrameWindowPlace, IsFrameReason};
@@ -53,8 +52,8 @@ pub fn decode_strict(alloc: Global, octets: &[u8]) -> Result<Frame, Refusal>
     }
 }
 
-/// Whether the octets are the canonical ones of a frame with an APDU that carries a service, if that is found at once. False
-/// tells nothing of the octets. None of them is kept.
+/// Whether the octets are the canonical ones of a frame (clause 6.2) with an APDU that carries a service, if that is found at
+/// once. False tells nothing of the octets.
 fn is_canonical_frame(alloc: Global, octets: &[u8]) -> bool
     ensures { IsTrue result → IsCanonical SpellsFrame octets.now }
 {
@@ -68,7 +67,7 @@ fn is_canonical_frame(alloc: Global, octets: &[u8]) -> bool
     is_canonical_apdu(alloc, rest)
 }
 
-/// A frame of more octets holds a long value or many, of which a copy takes longer than to go through it.
+/// A frame of more octets is first told canonical, and then copied once: a long string is gone through faster than copied.
 const LONG: usize = 4096;
 
 /// Writes the canonical octets of a frame where it was decoded, so that it is not put together and moved.

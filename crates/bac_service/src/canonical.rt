@@ -1,7 +1,7 @@
 //! Services in canonical octets, which are found without the service.
 
 ghost use Rattle.std.specs.Prelude.{◌≡◌, true, IsTrue};
-ghost use Rattle.bac_data.specs.CanonicalFronts.{IsCanonical};
+ghost use Rattle.bac_tag.specs.Spelling.{IsCanonical};
 ghost use Rattle.bac_service.specs.declared.kind.Kind.TheVariants.{Confirmed, ComplexAck};
 ghost use Rattle.bac_service.specs.Services.{SpellsService};
 
@@ -38,10 +38,8 @@ fn is_canonical_complex_ack(alloc: Global, choice: u8, octets: &[u8]) -> bool
     }
 }
 
-/// Whether the octets are the canonical ones of a service of this kind and with this service choice, if that is found at
-/// once. False tells nothing of the octets: it is always told of services that want no memory, which are short.
-///
-/// No octet is kept, however many there are.
+/// Whether the octets are the canonical ones of a service (clause 21) of this kind and with this service choice, if that is
+/// found at once. False tells nothing of the octets: it is always told of services that want no memory, which are short.
 pub fn is_canonical_service(alloc: Global, kind: Kind, choice: u8, octets: &[u8]) -> bool
     ensures { IsTrue result → IsCanonical (SpellsService true 32 kind choice) octets.now }
 {

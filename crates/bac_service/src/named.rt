@@ -10,7 +10,7 @@ ghost use Rattle.bac_service.specs.ServiceValues.{value_of, notification_kind, n
 ghost use Rattle.bac_service.specs.Services.{SpellsService};
 ghost use Rattle.bac_service.specs.Laws.Service.{IsServiceOf};
 ghost use Rattle.bac_service.specs.Decoded.{IsDecoded};
-ghost use Rattle.bac_data.specs.CanonicalFronts.{IsCanonical};
+ghost use Rattle.bac_tag.specs.Spelling.{IsCanonical};
 
 use crate::production::Production;
 use crate::production::decoding::{are_canonical, decode};

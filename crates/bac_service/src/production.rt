@@ -1,9 +1,8 @@
 //! The parts of a production (clause 21): what each is spelled by, how it is read and how it is written.
 
 ghost use Rattle.std.specs.Prelude.{◌≡◌, ◌↔◌, ℕ, ◌+◌, ◌^◌, ◌<◌, ◌≤◌, Bool, List, take, length, IsTrue, IfSome, IfNone, IfOk, IfErr, OnOk, Err};
-ghost use Rattle.bac_tag.specs.Spelling.{IsRefusal, Takes, HasMark, AppendsLeast};
+ghost use Rattle.bac_tag.specs.Spelling.{IsRefusal, Takes, HasMark, AppendsLeast, TakesLeast};
 ghost use Rattle.bac_tag.specs.Octets.{Extends};
-ghost use Rattle.bac_data.specs.CanonicalFronts.{TakesLeast};
 ghost use Rattle.bac_service.specs.Leads.{Lead};
 ghost use Rattle.bac_service.specs.Productions.{Lawful, IsInhabited, HasLeast, IsLongest, IsReach, mark_within};
 ghost use Rattle.bac_service.specs.Reasons.{IsPartReason, IsReachReason};

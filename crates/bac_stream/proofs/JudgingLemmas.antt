@@ -7,7 +7,7 @@ use Rattle.bac_tag.specs.declared.refusals.Why.TheVariants.{Short, Trailing, Ver
 use Rattle.bac_tag.specs.Octets.{IsMark}
 use Rattle.bac_tag.specs.Laws.Octets.{NoGreater-length}
 use Rattle.bac_tag.specs.Spelling.{IsLeast, HasMark}
-use Rattle.bac_tag.specs.Laws.Spelling.{IsLeast-one}
+use Rattle.bac_tag.specs.Laws.Spelling.{IsLeast-one, unmarked_least}
 use Rattle.bac_npdu.specs.Frames.{FrameValue, SpellsFrame}
 use Rattle.bac_stream.specs.Judging.{IsCanonicalFor, IsCanonical, Accepts, IsJudged, IsRefused, IsHopeless, Refuses}
 use Rattle.bac_stream.specs.Lines.{IsChecked, said_of}
@@ -27,15 +27,10 @@ pub accepted_spelled : (mode : Mode) (frame : FrameValue) (octets : List ℕ) �
 accepted_spelled Tolerant frame octets a = a
 accepted_spelled Strict frame octets a = a.member
 
--- octets with no mark are canonical
-pub unmarked_canonical : (frame : FrameValue) (octets : List ℕ) (mark : Option ℕ) → HasMark (SpellsFrame frame) octets mark → mark ≡ None → IsCanonicalFor frame octets
-unmarked_canonical frame octets None m e = subst (IsLeast (SpellsFrame frame)) (sym m.is_mark) m.is_least
-unmarked_canonical frame octets (Some place) m e = absurd (let i : Some place ≡ None = e in cc)
-
 -- what is accepted where nothing is marked in mode Strict
 pub accepts_by : (mode : Mode) (frame : FrameValue) (octets : List ℕ) (mark : Option ℕ) → SpellsFrame frame octets → HasMark (SpellsFrame frame) octets mark → (mode ≡ Strict → mark ≡ None) → Accepts mode frame octets
 accepts_by Tolerant frame octets mark s m none = s
-accepts_by Strict frame octets mark s m none = unmarked_canonical frame octets mark m (none refl)
+accepts_by Strict frame octets mark s m none = unmarked_least mark (none refl) m
 
 -- the refusals of each mode
 pub hopeless_refused : (mode : Mode) (octets : List ℕ) (refusal : Refusal) → IsHopeless octets refusal → Refuses mode octets refusal
@@ -71,7 +66,7 @@ counted_as octets mark b p q = (λ t. q.0 (p.0 t), λ c. p.1 (q.1 c))
 
 -- what check says of what is accepted
 pub accepted_checked : (mode : Mode) (frame : FrameValue) (octets : List ℕ) (mark : Option ℕ) → Accepts mode frame octets → HasMark (SpellsFrame frame) octets mark → IsChecked mode octets (said_of mark)
-accepted_checked mode frame octets None a m = (frame, unmarked_canonical frame octets None m refl)
+accepted_checked mode frame octets None a m = (frame, unmarked_least None refl m)
 accepted_checked mode frame octets (Some place) a m = (tolerant mode a, frame, m.least, accepted_spelled mode frame octets a, m.is_least, m.is_mark)
   where
     tolerant : (mode : Mode) → Accepts mode frame octets → mode ≡ Tolerant
@@ -90,7 +85,7 @@ module _ (frames : (f g : FrameValue) (b : List ℕ) → SpellsFrame f b → Spe
 
   -- exactly octets without a mark are canonical
   pub told_by_mark : (frame : FrameValue) (octets : List ℕ) (mark : Option ℕ) → SpellsFrame frame octets → HasMark (SpellsFrame frame) octets mark → (mark ≡ None) ↔ IsCanonical octets
-  told_by_mark frame octets None s m = (λ _. (frame, unmarked_canonical frame octets None m refl), λ _. refl)
+  told_by_mark frame octets None s m = (λ _. (frame, unmarked_least None refl m), λ _. refl)
   told_by_mark frame octets (Some place) s m = (λ e. absurd (let i : Some place ≡ None = e in cc), λ c. absurd (marked_not_canonical frame octets place s m c))
 
   pub marked_none : (mode : Mode) (frame : FrameValue) (octets : List ℕ) (mark : Option ℕ) (place : ℕ) → mode ≡ Strict → mark ≡ Some place → SpellsFrame frame octets → HasMark (SpellsFrame frame) octets mark → IsRefused mode octets

@@ -1,12 +1,13 @@
 -- What normalise makes of a record.
 use Rattle.std.proofs.Common.{◌≡◌, ◌≢◌, ℕ, ◌++◌, List, Option, None, Some, refl, ap, ◌∙◌, false, ◌↔◌, IsTrue}
+use Rattle.bac_tag.specs.Laws.Spelling.{unmarked_least}
 use Rattle.bac_record.specs.declared.dealing.Dealt.{Dealt}
 use Rattle.bac_record.specs.Deals.{IsDealt}
 use Rattle.bac_record.specs.Records.{IsRecord, record_of}
 use Rattle.bac_stream.specs.declared.modes.Mode.{Mode}
 use Rattle.bac_stream.specs.Judging.{IsCanonical, IsAccepted, IsRefused}
 use Rattle.bac_stream.specs.Lines.{AppendsRecord, IsRewritten, NormalisesTo}
-use Rattle.bac_stream.proofs.JudgingLemmas.{accepted_spelled, unmarked_canonical, written_fits, accepted_not_counted, counted_as}
+use Rattle.bac_stream.proofs.JudgingLemmas.{accepted_spelled, written_fits, accepted_not_counted, counted_as}
 
 module _ (mode : Mode) (number : ℕ) (octets old middle : List ℕ) (dealt : Dealt) where
   -- canonical octets stay as they are
@@ -14,7 +15,7 @@ module _ (mode : Mode) (number : ℕ) (octets old middle : List ℕ) (dealt : De
       → IsDealt (NormalisesTo mode) IsCanonical (IsRefused mode) number octets old new dealt
   kept_dealt new None a none m e p r = record {
     output = record_of octets;
-    is_output = (a.frame, octets, a.accepted, unmarked_canonical a.frame octets None a.marked refl, refl);
+    is_output = (a.frame, octets, a.accepted, unmarked_least None refl a.marked, refl);
     appended = e ∙ ap (λ (l : List ℕ). l ++ record_of octets) a.appended;
     canonical = counted_as octets None dealt.is_canonical p m;
     refused = accepted_not_counted mode a.frame octets dealt.is_refused a.accepted r;

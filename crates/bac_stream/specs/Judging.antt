@@ -3,7 +3,7 @@ use Rattle.std.specs.Prelude.{◌≡◌, ◌≢◌, ◌⊎◌, ℕ, List, Option
 use Rattle.bac_tag.specs.declared.refusals.Refusal.{Refusal}
 use Rattle.bac_tag.specs.declared.refusals.Why.TheVariants.{NotCanonical, OutOfMemory}
 use Rattle.bac_tag.specs.Octets.{IsMark}
-use Rattle.bac_tag.specs.Spelling.{IsLeast, HasMark, IsWholeRefusal}
+use Rattle.bac_tag.specs.Spelling.{IsLeast, HasMark, IsWholeRefusal, IsCanonical as IsCanonicalOf}
 use Rattle.bac_npdu.specs.Frames.{FrameValue, SpellsFrame}
 use Rattle.bac_npdu.specs.Decoded.{IsFrameReason}
 use Rattle.bac_record.specs.declared.dealing.DealFault.{DealFault}
@@ -17,7 +17,7 @@ IsCanonicalFor frame octets = IsLeast (SpellsFrame frame) octets
 
 -- canonical for some frame
 abbrev pub IsCanonical : List ℕ → Type 0
-IsCanonical octets = (frame : FrameValue) × IsCanonicalFor frame octets
+IsCanonical octets = IsCanonicalOf SpellsFrame octets
 
 -- In the mode the octets are accepted as the frame.
 abbrev pub Accepts : Mode → FrameValue → List ℕ → Type 0

@@ -6,8 +6,8 @@ use Rattle.std.proofs.lemmas.List.{take_all}
 use Rattle.bac_tag.specs.declared.heads.TagHead.TheVariants.{Open, Close}
 use Rattle.bac_tag.specs.Octets.{IsOctets}
 use Rattle.bac_tag.specs.Laws.Octets.{NoGreater-same}
-use Rattle.bac_tag.specs.Spelling.{IsLeast, HasMark, Takes, Joined, OneOf}
-use Rattle.bac_data.specs.CanonicalFronts.{TakesLeast, IsCanonical}
+use Rattle.bac_tag.specs.Laws.Spelling.{unmarked_least}
+use Rattle.bac_tag.specs.Spelling.{IsLeast, HasMark, Takes, Joined, OneOf, TakesLeast, IsCanonical}
 use Rattle.bac_service.specs.declared.kind.Kind.{Kind}
 use Rattle.bac_service.specs.Leads.{Lead, disjoint}
 use Rattle.bac_service.specs.Productions.{Optional, Items, Grouped, IsRecordOf, Lawful}
@@ -18,11 +18,6 @@ use Rattle.bac_service.specs.Laws.Production.{Head, sound_parts, not_empty, uniq
 use Rattle.bac_service.specs.Laws.Longest.{some_spelled, take_add}
 use Rattle.bac_service.specs.Laws.Least.{least_joined, least_alike, least_nothing, least_item}
 use Rattle.bac_service.specs.Laws.Service.{IsServiceOf}
-
--- octets without a mark are the canonical ones
-pub unmarked_least : {P : List ℕ → Type 0} {a : List ℕ} (m : Option ℕ) → m ≡ None → HasMark P a m → IsLeast P a
-unmarked_least {P} None e D = subst (IsLeast P) (sym D.is_mark) D.is_least
-unmarked_least {P} (Some place) e D = absurd (let i : Some place ≡ None = e in cc)
 
 pub canonical_found : {V : Type 0} {S : V → List ℕ → Type 0} {input : List ℕ} {v : V} {n : ℕ} (m : Option ℕ) → Takes S input (v, n) → HasMark (S v) (take n input) m → m ≡ None → TakesLeast S input n
 canonical_found {v} m T D e = record { value = v; within = T.within; least = unmarked_least m e D }

@@ -1,8 +1,7 @@
 //! Decoding a value that takes all the octets.
 
 ghost use Rattle.std.specs.Prelude.{◌≡◌, ◌≢◌, IsTrue, IfOk, IfErr};
-ghost use Rattle.bac_tag.specs.Spelling.{HasMark, IsWholeRefusal};
-ghost use Rattle.bac_data.specs.CanonicalFronts.{IsCanonical};
+ghost use Rattle.bac_tag.specs.Spelling.{HasMark, IsWholeRefusal, IsCanonical};
 ghost use Rattle.bac_service.specs.Reasons.{IsServiceReason};
 
 use crate::production::{Production, ReadFault};

@@ -3,10 +3,9 @@
 ghost use Rattle.std.specs.Prelude.{◌≡◌, ◌↔◌, ◌≤◌, ◌<◌, ◌&&◌, ◌∷◌, ◌++◌, [], false, not, nat_le, nat_eq, Some, None, Err, IsTrue, IfSome, IfOk, IfErr, OnOk, length, take};
 ghost use Rattle.bac_tag.specs.Heads.{Heads};
 ghost use Rattle.bac_tag.specs.Short.{BeginsShort};
-ghost use Rattle.bac_tag.specs.Spelling.{IsLeast, IsRefusal, Takes, HasMark, AppendsLeast};
+ghost use Rattle.bac_tag.specs.Spelling.{IsLeast, IsRefusal, Takes, HasMark, AppendsLeast, TakesLeast};
 ghost use Rattle.bac_value.specs.Primitives.{OfSize};
 ghost use Rattle.bac_tag.specs.Octets.{Extends};
-ghost use Rattle.bac_data.specs.CanonicalFronts.{TakesLeast};
 ghost use Rattle.bac_service.specs.Leads.{context, application};
 ghost use Rattle.bac_service.specs.Fields.{heading, expected_heading, number_in, IsHeading, IsField};
 ghost use Rattle.bac_service.specs.Laws.Field.{field_lawful, field_inhabited, application_heading};

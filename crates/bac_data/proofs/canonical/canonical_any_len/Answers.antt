@@ -1,9 +1,7 @@
-use Rattle.std.proofs.Common.{◌≡◌, ◌+◌, ◌-◌, ◌++◌, ℕ, false, true, take, drop, length, sym, ◌∙◌, subst, arith}
+use Rattle.std.proofs.Common.{◌≡◌, false, true, length, sym, ◌∙◌}
 use Rattle.std.proofs.lemmas.Bool.{eqb-true, eq-eqb}
 use Rattle.std.proofs.lemmas.List.{take_rest}
-use Rattle.bac_tag.specs.Spelling.{IsLeast}
-use Rattle.bac_data.specs.Events.{SpellsEvent}
-use Rattle.bac_data.specs.Reading.{item_event, item_contents}
+use Rattle.bac_data.specs.Reading.{item_event}
 use Rattle.bac_data.proofs.CanonicalLemmas.{scanned_opening, scanned_primitive, scanned_follows, scanned_item, scanned_closing}
 use Rattle.bac_data.proofs.canonical.canonical_any_len.Goals.{else-is_empty-2-via-then-is_empty-2+else-ends, else-is_empty-2-via-else-is_empty-2}
 use Rattle.bac_data.proofs.canonical.canonical_any_len.Goals as goal
@@ -22,10 +20,10 @@ returns-then-is_short_closing c =
 
 pub follow-requires-clause-follows : goal.follow-requires-clause-follows
 follow-requires-clause-follows c =
-    let stand = rw take_rest at c.in-Ok.ensures.found in (
+    let stand = rw take_rest at c.in_ok-item.ensures.found in (
       c.loop-taken.invariant.1.es,
       c.loop-taken.invariant.1.are_open,
-      scanned_follows c.args.number c.args.octets.now c.loop-taken.place c.loop-taken.groups.items c.place_in-room.result.0 c.place_in-room.result.1 (item_event c.in-Ok.item) c.place_in-room.ensures.room c.place_in-room.ensures.closing stand.spelled.stands c.loop-taken.invariant (λ none e.
+      scanned_follows c.args.number c.args.octets.now c.loop-taken.place c.loop-taken.groups.items c.place_in-room.result.0 c.place_in-room.result.1 (item_event c.in_ok-item.item) c.place_in-room.ensures.room c.place_in-room.ensures.closing stand.spelled.stands c.loop-taken.invariant (λ none e.
           elim c.else-is_empty-2.branch [
             | else-is_empty-2-via-then-is_empty-2+else-ends w ↦ absurd (let i : false ≡ true = sym w.if-ends.false ∙ w.ends.ensures.1 e in cc)
             | else-is_empty-2-via-else-is_empty-2 w ↦ absurd (let i : false ≡ true = sym w.if-is_empty-2.false ∙ c.is_empty-in-loop-taken.ensures ∙ eq-eqb (length c.loop-taken.groups.items) 0 none in cc)
@@ -34,14 +32,11 @@ follow-requires-clause-follows c =
 
 pub loop-taken-preserved : goal.loop-taken-preserved
 loop-taken-preserved c =
-    let stand = rw take_rest at c.in-Ok.ensures.found in
-    let lies = rw take_rest at c.in-Ok.ensures.parts in
-    let start : c.loop-taken.place + c.in-Ok.head - c.loop-taken.place ≡ c.in-Ok.head = omega arith in
-    let least = c.is_least.ensures.0 c.if-not-is_least.false in
-    scanned_item c.args.number c.args.octets.now c.loop-taken.place c.in-Ok.head c.in-Ok.taken c.loop-taken.groups.items c.follow.new.groups.items c.in-Ok.item c.in-Ok.ensures.item lies stand.within
-    (subst (λ (n : ℕ). IsLeast (SpellsEvent (item_event c.in-Ok.item)) (take n (drop c.loop-taken.place c.args.octets.now) ++ item_contents c.in-Ok.item)) start least) c.loop-taken.invariant
+    let stand = rw take_rest at c.in_ok-item.ensures.found in
+    let (start, lies, least) = rw take_rest at c.in_ok-item.ensures.least in
+    scanned_item c.args.number c.args.octets.now c.loop-taken.place start c.in_ok-item.taken c.loop-taken.groups.items c.follow.new.groups.items c.in_ok-item.item c.in_ok-item.ensures.item lies stand.within least c.loop-taken.invariant
     (c.follow.ensures c.loop-taken.invariant.1.es c.loop-taken.invariant.1.are_open
-    (scanned_follows c.args.number c.args.octets.now c.loop-taken.place c.loop-taken.groups.items c.place_in-room.result.0 c.place_in-room.result.1 (item_event c.in-Ok.item) c.place_in-room.ensures.room c.place_in-room.ensures.closing stand.spelled.stands c.loop-taken.invariant (λ none e.
+    (scanned_follows c.args.number c.args.octets.now c.loop-taken.place c.loop-taken.groups.items c.place_in-room.result.0 c.place_in-room.result.1 (item_event c.in_ok-item.item) c.place_in-room.ensures.room c.place_in-room.ensures.closing stand.spelled.stands c.loop-taken.invariant (λ none e.
     elim c.else-is_empty-2.branch [
       | else-is_empty-2-via-then-is_empty-2+else-ends w ↦ absurd (let i : false ≡ true = sym w.if-ends.false ∙ w.ends.ensures.1 e in cc)
       | else-is_empty-2-via-else-is_empty-2 w ↦ absurd (let i : false ≡ true = sym w.if-is_empty-2.false ∙ c.is_empty-in-loop-taken.ensures ∙ eq-eqb (length c.loop-taken.groups.items) 0 none in cc)

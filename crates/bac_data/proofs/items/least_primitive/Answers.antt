@@ -1,5 +1,5 @@
 use Rattle.std.proofs.Common.{◌≡◌, ℕ, true, refl, ◌-◌, ◌/◌, List, ◌++◌, take, drop, length, sym, ◌∙◌, ap, subst, arith, take-add}
-use Rattle.std.proofs.lemmas.List.{take_rest}
+use Rattle.std.proofs.lemmas.List.{append-nil, take_rest}
 use Rattle.bac_tag.specs.Heads.{Heads}
 use Rattle.bac_tag.specs.declared.heads.TagHead.TheVariants.{App}
 use Rattle.bac_value.specs.PrimContents.{prim_written}
@@ -23,5 +23,17 @@ returns-then-are_written-clause-found c =
           octets_are = take-add 1 c.in_ok-size.size c.args.octets.now ∙ ap (λ (l : List ℕ). take 1 c.args.octets.now ++ l) (ap (λ (n : ℕ). take n (drop 1 c.args.octets.now)) all ∙ sym lookup.0.2);
         };
         least = λ prim s. is.is ∙ ap prim_written (prim_once is.value prim c.in_ok-contents.contents.now (is.spelled.0 ∙ sym s.0) is.spelled.1 s.1);
+      },
+    )
+
+pub returns-then-number-eq1-clause-found : goal.returns-then-number-eq1-clause-found
+returns-then-number-eq1-clause-found c =
+    let short = c.in_ok-short_boolean.ensures.some in (
+      item.Boolean c.in_ok-short_boolean.field-0,
+      record {
+        is_item = tt;
+        primitive = tt;
+        lies = record { within = omega arith; headed = short.least.member; octets_are = sym (append-nil (take 1 c.args.octets.now)) };
+        least = tt;
       },
     )

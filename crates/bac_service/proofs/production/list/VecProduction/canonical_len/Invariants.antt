@@ -1,5 +1,5 @@
 use Rattle.std.proofs.Common.{◌-◌, length}
-use Rattle.bac_data.specs.CanonicalFronts.{TakesLeast}
+use Rattle.bac_tag.specs.Spelling.{TakesLeast}
 use Rattle.bac_service.specs.Productions.{Items}
 use Rattle.bac_service.proofs.production.list.VecProduction.canonical_len.Given as goal
 
