@@ -70,9 +70,9 @@ IsJoined s (Ok taken.Complete) octets result = (message : List ℕ) × (octets �
 IsJoined s (Err refused) octets result = result ≡ Err (Take refused)
 
 -- What joining answers, and what it leaves of the desk, where the frame holds such a segment or none.
-abbrev pub Joins : List Reassembled → ℕ → Option Delivery → Result Joined JoinFault → List Reassembled → Type 0
-Joins old peer None result new = (result ≡ Ok NotSegment) × (new ≡ old)
-Joins old peer (Some s) result new =
+abbrev pub DeskJoins : List Reassembled → ℕ → Option Delivery → Result Joined JoinFault → List Reassembled → Type 0
+DeskJoins old peer None result new = (result ≡ Ok NotSegment) × (new ≡ old)
+DeskJoins old peer (Some s) result new =
     (answer : Answer) × DeskTakes old peer s answer new × IsJoined s answer (whole (held_of new (key_of peer s))) result
 
 -- The segment was taken.

@@ -3,7 +3,7 @@
 ghost use Rattle.std.specs.Prelude.{◌≡◌, IfErr, MatchOption, None, Some, false};
 ghost use Rattle.bac_npdu.specs.Frames.{value_of};
 ghost use Rattle.bac_segment.specs.Deliveries.{delivery};
-ghost use Rattle.bac_stream.specs.Joining.{IsFromMessage, Joins, delivered, is_taken, kind_of};
+ghost use Rattle.bac_stream.specs.Joining.{DeskJoins, IsFromMessage, delivered, is_taken, kind_of};
 
 use crate::{JoinFault, Joined};
 use bac_apdu::{Apdu, SegHead, Segment};
@@ -71,7 +71,7 @@ fn message_of(alloc: Global, segment: &Segment, octets: &[u8]) -> Result<Joined,
 /// assert_eq!(rt; service.choice(), 14);
 /// ```
 pub fn join(alloc: Global, desk: &mut Desk, peer: u32, frame: &Frame) -> Result<Joined, JoinFault>
-    ensures step { Joins desk.old peer (delivered (value_of frame.now)) result desk.new }
+    ensures step { DeskJoins desk.old peer (delivered (value_of frame.now)) result desk.new }
     ensures unchanged { IfErr result (λ fault. is_taken fault ≡ false → desk.new ≡ desk.old) }
 {
     let Some(segment) = segment_of(frame) else {
