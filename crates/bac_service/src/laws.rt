@@ -3,14 +3,19 @@
 ghost use Rattle.std.specs.Prelude.{◌≡◌, ◌↔◌, ◌⊎◌, ℕ, List, true, false, IsTrue, IsNone};
 ghost use Rattle.bac_tag.specs.Octets.{IsOctets};
 ghost use Rattle.bac_tag.specs.Spelling.{IsLeast, IsViable, IsPartway, OneOf, Joined};
+ghost use Rattle.bac_data.specs.Spells.{SpellsOpen};
 ghost use Rattle.bac_service.specs.declared.kind.Kind.{Kind};
-ghost use Rattle.bac_service.specs.Productions.{IsWellSpelled};
+ghost use Rattle.bac_service.specs.Productions.{Grouped, IsWellSpelled};
+ghost use Rattle.bac_service.specs.Contents.{ApplicationEnumerated};
+ghost use Rattle.bac_service.specs.ErrorCause.{SpellsErrorCause};
+ghost use Rattle.bac_service.specs.PropertyResult.{SpellsReadResult};
 ghost use Rattle.bac_service.specs.ServiceTable.{ServiceProduction, IsUnchanged};
 ghost use Rattle.bac_service.specs.Same.{same_service};
 ghost use Rattle.bac_service.specs.ServiceValues.{ServiceValue, opaque, value_of};
 ghost use Rattle.bac_service.specs.Services.{SpellsBy, SpellsService, IsPlaced};
 
 use crate::production::Production;
+use crate::production::field::ApplicationField;
 use crate::production::record::Fields;
 use crate::service::Service;
 use crate::services::cov_notification::CovNotification;
@@ -25,6 +30,7 @@ use crate::services::who_is::WhoIs;
 use crate::services::write_property::WriteProperty;
 use crate::services::write_property_multiple::WriteAccessSpecification;
 use crate::services::write_property_multiple_error::WritePropertyMultipleError;
+use bac_value::Enumerated;
 
 /// No list spells two values of a part, and each value that is spelled has a least spelling.
 fn parts_are_well_spelled<P: Production>()
@@ -93,6 +99,19 @@ pub fn former_services_are_kept()
     ensures spelled { (kind : Kind) (choice : ℕ) (v : ServiceValue) (b : List ℕ) → IsUnchanged kind choice → SpellsService false 16 kind choice v b → SpellsService true 32 kind choice v b }
     ensures least { (kind : Kind) (choice : ℕ) (v : ServiceValue) (b : List ℕ) → IsUnchanged kind choice → IsLeast (SpellsService false 16 kind choice v) b → IsLeast (SpellsService true 32 kind choice v) b }
 {}
+
+/// A list begins what reading a property gave (clause 21) exactly where it begins a value, or an error between its tags.
+pub fn results_are_viable_in_a_case()
+    ensures { (b : List ℕ) → IsViable (SpellsReadResult 32) b ↔ (IsViable (SpellsOpen 32 4) b ⊎ IsViable (Grouped 5 SpellsErrorCause) b) }
+{}
+
+/// A list begins a class and a code (clause 21) exactly where it begins a class, or is a class with the beginning of a code
+/// behind it.
+pub fn causes_are_viable_in_turn()
+    ensures { (b : List ℕ) → IsViable SpellsErrorCause b ↔ (IsViable ApplicationEnumerated b ⊎ IsPartway ApplicationEnumerated (λ _. ApplicationEnumerated) b) }
+{
+    joined_parts_are_viable_in_turn::<ApplicationField<Enumerated>, ApplicationField<Enumerated>>();
+}
 
 /// A list begins a spelling of one part or another exactly where it begins one of either.
 pub(crate) fn choices_are_viable_in_a_case<A: Production, B: Production>()

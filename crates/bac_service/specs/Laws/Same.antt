@@ -24,19 +24,20 @@ use Rattle.bac_service.specs.declared.service.Service.{Service}
 use Rattle.bac_service.specs.declared.service.Service.TheVariants as held
 use Rattle.bac_service.specs.Productions.{Optional, Items, Grouped, IsRecordOf}
 use Rattle.bac_service.specs.Contents.{EnumeratedField, UnsignedField}
-use Rattle.bac_service.specs.PropertyValue.{SpellsPropertyValue, property_value_parts}
+use Rattle.bac_service.specs.PropertyValue.{SpellsPropertyValue}
 use Rattle.bac_service.specs.PropertyResult.{SpellsReadResult, SpellsPropertyResult}
-use Rattle.bac_service.specs.ReadPropertyAck.{SpellsReadPropertyAck, read_property_ack_parts}
-use Rattle.bac_service.specs.WriteProperty.{SpellsWriteProperty, write_property_parts}
-use Rattle.bac_service.specs.ReadAccessSpecification.{Specification, specification_of, SpellsSpecification, specification_parts}
-use Rattle.bac_service.specs.ReadAccessResult.{AccessResult, access_result_of, SpellsAccessResult, access_result_parts}
-use Rattle.bac_service.specs.WriteAccessSpecification.{WriteSpecification, write_specification_of, SpellsWriteSpecification, write_specification_parts}
-use Rattle.bac_service.specs.CovNotification.{notification_of, SpellsNotification, notification_parts}
+use Rattle.bac_service.specs.ReadPropertyAck.{SpellsReadPropertyAck}
+use Rattle.bac_service.specs.WriteProperty.{SpellsWriteProperty}
+use Rattle.bac_service.specs.ReadAccessSpecification.{Specification, specification_of, SpellsSpecification}
+use Rattle.bac_service.specs.ReadAccessResult.{AccessResult, access_result_of, SpellsAccessResult}
+use Rattle.bac_service.specs.WriteAccessSpecification.{WriteSpecification, write_specification_of, SpellsWriteSpecification}
+use Rattle.bac_service.specs.CovNotification.{notification_of, SpellsNotification}
 use Rattle.bac_service.specs.Opaques.{OpaqueValue, kind_number, opaque_key}
 use Rattle.bac_service.specs.ServiceTable.{ServiceProduction, read_property, read_property_ack, read_property_multiple, read_property_multiple_ack, write_property, write_property_multiple, write_property_multiple_error, who_is, i_am, subscribe_cov, cov_notification, service_error}
 use Rattle.bac_service.specs.ServiceValues.{SaidBy, Said, ServiceValue, typed, opaque, notification_kind, notification_choice, value_of}
 use Rattle.bac_service.specs.Services.{SpellsService}
 use Rattle.bac_service.specs.Same.{same_object, same_index, same_object_property, same_cause, same_reference, same_property_value, same_read_result, same_property_result, same_read_property, same_specification, same_access_result, same_write_specification, same_write_error, same_who_is, same_i_am, same_subscribe_cov, same_notification, same_service}
+use Rattle.bac_service.specs.Laws.Parts.{property_value_parts, read_property_ack_parts, write_property_parts, specification_parts, access_result_parts, write_specification_parts, notification_parts}
 
 -- ---- tests that decide whether any two values are the same
 

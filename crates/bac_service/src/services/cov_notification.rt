@@ -1,6 +1,7 @@
 //! ConfirmedCOVNotification and UnconfirmedCOVNotification (clauses 13.6, 13.7 and 21).
 
-ghost use Rattle.bac_service.specs.CovNotification.{SpellsNotification, notification_parts};
+ghost use Rattle.bac_service.specs.CovNotification.{SpellsNotification};
+ghost use Rattle.bac_service.specs.Laws.Parts.{notification_parts};
 
 use crate::production::Production;
 use crate::production::field::Field;

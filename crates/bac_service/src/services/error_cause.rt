@@ -1,6 +1,7 @@
 //! Error (clause 21).
 
-ghost use Rattle.bac_service.specs.ErrorCause.{SpellsErrorCause, error_cause_parts};
+ghost use Rattle.bac_service.specs.ErrorCause.{SpellsErrorCause};
+ghost use Rattle.bac_service.specs.Laws.Parts.{error_cause_parts};
 
 use crate::production::Production;
 use crate::production::field::ApplicationField;

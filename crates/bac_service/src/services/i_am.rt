@@ -1,6 +1,7 @@
 //! I-Am (clauses 16.10 and 21).
 
-ghost use Rattle.bac_service.specs.IAm.{SpellsIAm, i_am_parts};
+ghost use Rattle.bac_service.specs.IAm.{SpellsIAm};
+ghost use Rattle.bac_service.specs.Laws.Parts.{i_am_parts};
 
 use crate::named::Named;
 use crate::production::Production;

@@ -1,6 +1,7 @@
 //! References to properties (BACnetPropertyReference, clause 21).
 
-ghost use Rattle.bac_service.specs.PropertyReference.{SpellsPropertyReference, property_reference_parts};
+ghost use Rattle.bac_service.specs.PropertyReference.{SpellsPropertyReference};
+ghost use Rattle.bac_service.specs.Laws.Parts.{property_reference_parts};
 
 use crate::production::Production;
 use crate::production::field::Field;

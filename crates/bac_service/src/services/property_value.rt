@@ -1,6 +1,7 @@
 //! Values of properties (BACnetPropertyValue, clause 21).
 
-ghost use Rattle.bac_service.specs.PropertyValue.{SpellsPropertyValue, property_value_parts};
+ghost use Rattle.bac_service.specs.PropertyValue.{SpellsPropertyValue};
+ghost use Rattle.bac_service.specs.Laws.Parts.{property_value_parts};
 
 use crate::production::Production;
 use crate::production::field::Field;

@@ -1,6 +1,7 @@
 //! ReadProperty (clauses 15.5 and 21).
 
-ghost use Rattle.bac_service.specs.ReadProperty.{SpellsReadProperty, read_property_parts};
+ghost use Rattle.bac_service.specs.ReadProperty.{SpellsReadProperty};
+ghost use Rattle.bac_service.specs.Laws.Parts.{read_property_parts};
 
 use crate::named::Named;
 use crate::production::option::bare;

@@ -1,6 +1,7 @@
 //! ReadProperty-ACK (clauses 15.5 and 21).
 
-ghost use Rattle.bac_service.specs.ReadPropertyAck.{SpellsReadPropertyAck, read_property_ack_parts};
+ghost use Rattle.bac_service.specs.ReadPropertyAck.{SpellsReadPropertyAck};
+ghost use Rattle.bac_service.specs.Laws.Parts.{read_property_ack_parts};
 
 use crate::named::Named;
 use crate::production::open_value::{OpenValue, write_open};

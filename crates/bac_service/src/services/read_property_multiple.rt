@@ -1,6 +1,7 @@
 //! ReadPropertyMultiple (clauses 15.7 and 21).
 
-ghost use Rattle.bac_service.specs.ReadAccessSpecification.{SpellsSpecification, specification_parts};
+ghost use Rattle.bac_service.specs.ReadAccessSpecification.{SpellsSpecification};
+ghost use Rattle.bac_service.specs.Laws.Parts.{specification_parts};
 
 use crate::named::NamedList;
 use crate::production::Production;

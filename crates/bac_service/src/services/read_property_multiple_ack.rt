@@ -1,6 +1,7 @@
 //! ReadPropertyMultiple-ACK (clauses 15.7 and 21).
 
-ghost use Rattle.bac_service.specs.ReadAccessResult.{SpellsAccessResult, access_result_parts};
+ghost use Rattle.bac_service.specs.ReadAccessResult.{SpellsAccessResult};
+ghost use Rattle.bac_service.specs.Laws.Parts.{access_result_parts};
 
 use crate::named::NamedList;
 use crate::production::Production;

@@ -1,6 +1,7 @@
 //! Who-Is (clauses 16.10 and 21).
 
-ghost use Rattle.bac_service.specs.WhoIs.{SpellsWhoIs, who_is_parts};
+ghost use Rattle.bac_service.specs.WhoIs.{SpellsWhoIs};
+ghost use Rattle.bac_service.specs.Laws.Parts.{who_is_parts};
 
 use crate::named::Named;
 use crate::production::Production;

@@ -1,6 +1,7 @@
 //! WriteProperty (clauses 15.9 and 21).
 
-ghost use Rattle.bac_service.specs.WriteProperty.{SpellsWriteProperty, write_property_parts};
+ghost use Rattle.bac_service.specs.WriteProperty.{SpellsWriteProperty};
+ghost use Rattle.bac_service.specs.Laws.Parts.{write_property_parts};
 
 use crate::named::Named;
 use crate::production::Production;

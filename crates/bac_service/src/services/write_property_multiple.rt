@@ -1,6 +1,7 @@
 //! WritePropertyMultiple (clauses 15.10 and 21).
 
-ghost use Rattle.bac_service.specs.WriteAccessSpecification.{SpellsWriteSpecification, write_specification_parts};
+ghost use Rattle.bac_service.specs.WriteAccessSpecification.{SpellsWriteSpecification};
+ghost use Rattle.bac_service.specs.Laws.Parts.{write_specification_parts};
 
 use crate::named::NamedList;
 use crate::production::Production;

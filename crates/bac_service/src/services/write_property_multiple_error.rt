@@ -1,6 +1,7 @@
 //! The error of WritePropertyMultiple (clauses 15.10 and 21).
 
-ghost use Rattle.bac_service.specs.WritePropertyMultipleError.{SpellsWriteError, write_error_parts};
+ghost use Rattle.bac_service.specs.WritePropertyMultipleError.{SpellsWriteError};
+ghost use Rattle.bac_service.specs.Laws.Parts.{write_error_parts};
 
 use crate::named::Named;
 use crate::production::Production;
