@@ -6,7 +6,7 @@
 #   make bench   measures the program on a million records, the calls from C on the same, and values, services, APDUs
 #                and frames of the library
 #   make memory  runs tests of the library with each of the first twelve allocations refused in turn, and the program
-#                with each of the first sixty (by hand: it takes three quarters of an hour)
+#                with each of the first sixty (by hand: it takes an hour)
 #   make wrong-bodies  tries the wrong bodies that the gate leaves out (by hand: it takes an hour and more)
 #   make lib     proves and builds the library for C, and leaves it in lib/libbactool.a and lib/libbactool.so
 #   make try-library  runs it from C, Python and Rust on the examples, and then tries hostile use of it (some seconds)
