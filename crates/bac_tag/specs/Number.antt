@@ -23,7 +23,7 @@ pub record BeginsNumber (low high : ℕ) (front : List ℕ) (width : ℕ) : Type
   pub least : low ≤ number (front ++ rest)
   pub most : number (front ++ rest) ≤ high
 
--- The octets before the place can still become a number in the range, and those with the one at the place can not.
+-- The octets before the place can still become a number in the range, and those with the one at the place cannot.
 abbrev pub MissesAt : ℕ → ℕ → List ℕ → ℕ → ℕ → Type 0
 MissesAt low high front width place =
     (place < length front) × BeginsNumber low high (take place front) width × (BeginsNumber low high (take (place + 1) front) width → ⊥)

@@ -8,8 +8,8 @@ use std::error::Error;
 use std::fmt;
 use std::fmt::Display;
 
-/// Why an input is refused.
-#[derive(Clone, Copy, Debug, PartialEq, Eq)]
+/// Why an input is refused. The reasons are in order as they stand here.
+#[derive(Clone, Copy, Debug, PartialEq, Eq, PartialOrd, Ord, Hash)]
 pub enum Why {
     /// The input ends where more must come.
     Short = 1,

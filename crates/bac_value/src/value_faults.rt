@@ -4,7 +4,7 @@ use std::error::Error;
 use std::fmt;
 use std::fmt::Display;
 
-/// Why a constructor made no value. TooLong comes first.
+/// Why a constructor made no value. `TooLong` is told first.
 #[derive(Clone, Copy, Debug, PartialEq, Eq)]
 pub enum ValueFault {
     /// Its contents would have more than 1,048,576 octets.

@@ -1,6 +1,6 @@
 //! Each primitive type as one of the thirteen.
 
-ghost use Rattle.std.specs.Prelude.{◌≡◌, ◌≢◌, ◌↔◌, IsTrue, ◌≤◌, ◌++◌, [], IfSome, IfNone, length, IfOk, IfErr, OnOk, OnErr};
+ghost use Rattle.std.specs.Prelude.{◌≡◌, ◌≢◌, ◌↔◌, IsTrue, ◌≤◌, ◌++◌, ℕ, List, [], IfSome, IfNone, length, IfOk, IfErr, OnOk, OnErr};
 ghost use Rattle.std.proofs.Common.{refl};
 ghost use Rattle.bac_tag.specs.Octets.{FirstDifference};
 ghost use Rattle.bac_value.specs.declared.prim.PrimitiveValue.{PrimitiveValue};
@@ -45,6 +45,20 @@ pub(crate) trait Variant: Primitive {
         ensures value { (value : Self) → Self.contents value octets.now → prim_of result ≡ wrapped value }
         ensures packed { IsPackedRef result };
 
+    /// The values under the type's application number are those of the type.
+    ghost is_variant: { IsVariant Self.APP Self.contents wrapped };
+
+    /// What is written of a value is what is written of it as one of any type.
+    ghost is_written: { (value : Self) → prim_written (wrapped value) ≡ Self.written value };
+}
+
+/// Such a type, whose contents are always those that are written.
+pub(crate) trait Kept: Variant {
+    ghost kept: { (value : Self) (octets : List ℕ) → Self.contents value octets → octets ≡ Self.written value };
+}
+
+/// Such a type, with what is written of its contents where they lie.
+pub(crate) trait Rewritten: Variant {
     /// Appends what is written of the value whose contents these are.
     ///
     /// # Errors
@@ -65,12 +79,6 @@ pub(crate) trait Variant: Primitive {
         requires { (value : Self) × Self.contents value octets.now }
         ensures none { IfNone result ((value : Self) → Self.contents value octets.now → octets.now ≡ Self.written value) }
         ensures some { IfSome result (λ place. (value : Self) → Self.contents value octets.now → FirstDifference octets.now (Self.written value) place) };
-
-    /// The values under the type's application number are those of the type.
-    ghost is_variant: { IsVariant Self.APP Self.contents wrapped };
-
-    /// What is written of a value is what is written of it as one of any type.
-    ghost is_written: { (value : Self) → prim_written (wrapped value) ≡ Self.written value };
 }
 
 /// The number of the application tag of the value's type.
@@ -112,7 +120,7 @@ pub(crate) fn borrow_variant<T: Variant>(octets: &[u8]) -> PrimRef<'_>
 ///
 /// # Errors
 /// `OutOfMemory` where memory is refused. `out` then stays as it was.
-pub(crate) fn append_variant<T: Variant>(
+pub(crate) fn append_variant<T: Rewritten>(
     octets: &[u8],
     out: &mut Vec<u8>,
 ) -> Result<(), OutOfMemory>
@@ -124,7 +132,7 @@ pub(crate) fn append_variant<T: Variant>(
 }
 
 /// How many octets are written of the value of this type whose contents these are.
-pub(crate) fn written_len_variant<T: Variant>(octets: &[u8]) -> usize
+pub(crate) fn written_len_variant<T: Rewritten>(octets: &[u8]) -> usize
     requires { (prim : PrimitiveValue) × ContentsOf T.APP prim octets.now }
     ensures { (prim : PrimitiveValue) → ContentsOf T.APP prim octets.now → result ≡ length (prim_written prim) }
 {
@@ -133,7 +141,7 @@ pub(crate) fn written_len_variant<T: Variant>(octets: &[u8]) -> usize
 
 /// Returns the first place, counted from 0, at which contents of a value of this type differ from those that are
 /// written, or None where they are the same.
-pub(crate) fn mark_variant<T: Variant>(octets: &[u8]) -> Option<usize>
+pub(crate) fn mark_variant<T: Rewritten>(octets: &[u8]) -> Option<usize>
     requires { (prim : PrimitiveValue) × ContentsOf T.APP prim octets.now }
     ensures none { IfNone result ((prim : PrimitiveValue) → ContentsOf T.APP prim octets.now → octets.now ≡ prim_written prim) }
     ensures some { IfSome result (λ place. (prim : PrimitiveValue) → ContentsOf T.APP prim octets.now → FirstDifference octets.now (prim_written prim) place) }
@@ -162,7 +170,7 @@ pub(crate) fn hopeless_variant<T: Variant>(front: &[u8], size: usize) -> Option<
 
 /// Whether the octets are the written contents of some value of this type.
 #[inline(always)]
-pub(crate) fn is_written_variant<T: Variant>(octets: &[u8]) -> bool
+pub(crate) fn is_written_variant<T: Rewritten>(octets: &[u8]) -> bool
     ensures { IsTrue result ↔ IsWrittenOf T.APP octets.now }
 {
     let size = octets.len();
@@ -183,19 +191,6 @@ impl Variant for Null {
         PrimRef::Null(Null)
     }
 
-    fn append_written(octets: &[u8], out: &mut Vec<u8>) -> Result<(), OutOfMemory> {
-        out.extend_from_slice(octets)?;
-        Ok(())
-    }
-
-    fn written_len_of(octets: &[u8]) -> usize {
-        octets.len()
-    }
-
-    fn mark_contents(_octets: &[u8]) -> Option<usize> {
-        None
-    }
-
     ghost is_variant = { null_variant };
 
     ghost is_written = { λ value. refl };
@@ -210,19 +205,6 @@ impl Variant for Boolean {
 
     fn borrowed(octets: &[u8]) -> PrimRef<'_> {
         PrimRef::Boolean(Boolean(octets[0] == 1))
-    }
-
-    fn append_written(octets: &[u8], out: &mut Vec<u8>) -> Result<(), OutOfMemory> {
-        out.extend_from_slice(octets)?;
-        Ok(())
-    }
-
-    fn written_len_of(octets: &[u8]) -> usize {
-        octets.len()
-    }
-
-    fn mark_contents(_octets: &[u8]) -> Option<usize> {
-        None
     }
 
     ghost is_variant = { boolean_variant };
@@ -241,6 +223,12 @@ impl Variant for Unsigned {
         PrimRef::Unsigned(Unsigned(number_of(octets)))
     }
 
+    ghost is_variant = { unsigned_variant };
+
+    ghost is_written = { λ value. refl };
+}
+
+impl Rewritten for Unsigned {
     fn append_written(octets: &[u8], out: &mut Vec<u8>) -> Result<(), OutOfMemory> {
         out.extend_from_slice(significant(octets))?;
         Ok(())
@@ -253,10 +241,6 @@ impl Variant for Unsigned {
     fn mark_contents(octets: &[u8]) -> Option<usize> {
         mark_number(octets)
     }
-
-    ghost is_variant = { unsigned_variant };
-
-    ghost is_written = { λ value. refl };
 }
 
 impl Variant for Signed {
@@ -270,6 +254,12 @@ impl Variant for Signed {
         PrimRef::Signed(Signed(signed_of(octets)))
     }
 
+    ghost is_variant = { signed_variant };
+
+    ghost is_written = { λ value. refl };
+}
+
+impl Rewritten for Signed {
     fn append_written(octets: &[u8], out: &mut Vec<u8>) -> Result<(), OutOfMemory> {
         out.extend_from_slice(significant_signed(octets))?;
         Ok(())
@@ -282,10 +272,6 @@ impl Variant for Signed {
     fn mark_contents(octets: &[u8]) -> Option<usize> {
         first_difference(octets, significant_signed(octets))
     }
-
-    ghost is_variant = { signed_variant };
-
-    ghost is_written = { λ value. refl };
 }
 
 #[tactic(auto, unfolding(crate::specs::RealContents::real_octets))]
@@ -300,19 +286,6 @@ impl Variant for RealBits {
         PrimRef::RealBits(RealBits(u32::from_be_bytes([
             octets[0], octets[1], octets[2], octets[3],
         ])))
-    }
-
-    fn append_written(octets: &[u8], out: &mut Vec<u8>) -> Result<(), OutOfMemory> {
-        out.extend_from_slice(octets)?;
-        Ok(())
-    }
-
-    fn written_len_of(octets: &[u8]) -> usize {
-        octets.len()
-    }
-
-    fn mark_contents(_octets: &[u8]) -> Option<usize> {
-        None
     }
 
     ghost is_variant = { real_variant };
@@ -332,19 +305,6 @@ impl Variant for DoubleBits {
         PrimRef::DoubleBits(DoubleBits(number_of(octets)))
     }
 
-    fn append_written(octets: &[u8], out: &mut Vec<u8>) -> Result<(), OutOfMemory> {
-        out.extend_from_slice(octets)?;
-        Ok(())
-    }
-
-    fn written_len_of(octets: &[u8]) -> usize {
-        octets.len()
-    }
-
-    fn mark_contents(_octets: &[u8]) -> Option<usize> {
-        None
-    }
-
     ghost is_variant = { double_variant };
 
     ghost is_written = { λ value. refl };
@@ -359,19 +319,6 @@ impl Variant for Octets {
 
     fn borrowed(octets: &[u8]) -> PrimRef<'_> {
         PrimRef::Octets(octets)
-    }
-
-    fn append_written(octets: &[u8], out: &mut Vec<u8>) -> Result<(), OutOfMemory> {
-        out.extend_from_slice(octets)?;
-        Ok(())
-    }
-
-    fn written_len_of(octets: &[u8]) -> usize {
-        octets.len()
-    }
-
-    fn mark_contents(_octets: &[u8]) -> Option<usize> {
-        None
     }
 
     ghost is_variant = { octets_variant };
@@ -393,19 +340,6 @@ impl Variant for Text {
         }
     }
 
-    fn append_written(octets: &[u8], out: &mut Vec<u8>) -> Result<(), OutOfMemory> {
-        out.extend_from_slice(octets)?;
-        Ok(())
-    }
-
-    fn written_len_of(octets: &[u8]) -> usize {
-        octets.len()
-    }
-
-    fn mark_contents(_octets: &[u8]) -> Option<usize> {
-        None
-    }
-
     ghost is_variant = { text_variant };
 
     ghost is_written = { λ value. refl };
@@ -425,6 +359,12 @@ impl Variant for Bits {
         }
     }
 
+    ghost is_variant = { bits_variant };
+
+    ghost is_written = { λ value. refl };
+}
+
+impl Rewritten for Bits {
     fn append_written(octets: &[u8], out: &mut Vec<u8>) -> Result<(), OutOfMemory> {
         append_cleared(octets, out)
     }
@@ -436,10 +376,6 @@ impl Variant for Bits {
     fn mark_contents(octets: &[u8]) -> Option<usize> {
         mark_unused(octets)
     }
-
-    ghost is_variant = { bits_variant };
-
-    ghost is_written = { λ value. refl };
 }
 
 impl Variant for Enumerated {
@@ -453,6 +389,12 @@ impl Variant for Enumerated {
         PrimRef::Enumerated(Enumerated(number_of(octets) as u32))
     }
 
+    ghost is_variant = { enumerated_variant };
+
+    ghost is_written = { λ value. refl };
+}
+
+impl Rewritten for Enumerated {
     fn append_written(octets: &[u8], out: &mut Vec<u8>) -> Result<(), OutOfMemory> {
         out.extend_from_slice(significant_of_four(octets))?;
         Ok(())
@@ -465,10 +407,6 @@ impl Variant for Enumerated {
     fn mark_contents(octets: &[u8]) -> Option<usize> {
         mark_number(octets)
     }
-
-    ghost is_variant = { enumerated_variant };
-
-    ghost is_written = { λ value. refl };
 }
 
 impl Variant for Date {
@@ -480,19 +418,6 @@ impl Variant for Date {
 
     fn borrowed(octets: &[u8]) -> PrimRef<'_> {
         PrimRef::Date(Date([octets[0], octets[1], octets[2], octets[3]]))
-    }
-
-    fn append_written(octets: &[u8], out: &mut Vec<u8>) -> Result<(), OutOfMemory> {
-        out.extend_from_slice(octets)?;
-        Ok(())
-    }
-
-    fn written_len_of(octets: &[u8]) -> usize {
-        octets.len()
-    }
-
-    fn mark_contents(_octets: &[u8]) -> Option<usize> {
-        None
     }
 
     ghost is_variant = { date_variant };
@@ -509,19 +434,6 @@ impl Variant for Time {
 
     fn borrowed(octets: &[u8]) -> PrimRef<'_> {
         PrimRef::Time(Time([octets[0], octets[1], octets[2], octets[3]]))
-    }
-
-    fn append_written(octets: &[u8], out: &mut Vec<u8>) -> Result<(), OutOfMemory> {
-        out.extend_from_slice(octets)?;
-        Ok(())
-    }
-
-    fn written_len_of(octets: &[u8]) -> usize {
-        octets.len()
-    }
-
-    fn mark_contents(_octets: &[u8]) -> Option<usize> {
-        None
     }
 
     ghost is_variant = { time_variant };
@@ -541,6 +453,12 @@ impl Variant for ObjectId {
         PrimRef::ObjectId(ObjectId::of_octets([octets[0], octets[1], octets[2], octets[3]]))
     }
 
+    ghost is_variant = { object_id_variant };
+
+    ghost is_written = { λ value. refl };
+}
+
+impl<T: Kept> Rewritten for T {
     fn append_written(octets: &[u8], out: &mut Vec<u8>) -> Result<(), OutOfMemory> {
         out.extend_from_slice(octets)?;
         Ok(())
@@ -553,8 +471,40 @@ impl Variant for ObjectId {
     fn mark_contents(_octets: &[u8]) -> Option<usize> {
         None
     }
+}
 
-    ghost is_variant = { object_id_variant };
+impl Kept for Null {
+    ghost kept = { λ value octets h. h.is };
+}
 
-    ghost is_written = { λ value. refl };
+impl Kept for Boolean {
+    ghost kept = { λ value octets h. h.is };
+}
+
+impl Kept for RealBits {
+    ghost kept = { λ value octets h. h.is };
+}
+
+impl Kept for DoubleBits {
+    ghost kept = { λ value octets h. h.is };
+}
+
+impl Kept for Octets {
+    ghost kept = { λ value octets h. h.is };
+}
+
+impl Kept for Text {
+    ghost kept = { λ value octets h. h.is };
+}
+
+impl Kept for Date {
+    ghost kept = { λ value octets h. h.is };
+}
+
+impl Kept for Time {
+    ghost kept = { λ value octets h. h.is };
+}
+
+impl Kept for ObjectId {
+    ghost kept = { λ value octets h. h.is };
 }

@@ -60,6 +60,8 @@ fn canonical_octets_are_found(rt: HostRuntime) {
 #[test]
 fn other_octets_are_not_found(rt: HostRuntime) {
     let table = "
+        12             -> not
+        F1 01          -> not
         22 00 05       -> not
         33 00 00 80    -> not
         82 04 FF       -> not

@@ -1,9 +1,10 @@
 //! Values as keys, and how they are made of numbers.
 
 use crate::expectations::{assert_holds, assert_same, assert_shown};
+use bac_tag::Why;
 use bac_value::{
-    Bits, Boolean, DoubleBits, Enumerated, Instance, ObjectId, Priority, RangeFault, RealBits,
-    Signed, Unsigned, Unsigned16, Unsigned32, ValueFault,
+    Bits, Boolean, Date, DoubleBits, Enumerated, Instance, ObjectId, Priority, RangeFault,
+    RealBits, Signed, Time, Unsigned, Unsigned16, Unsigned32, ValueFault,
 };
 use std::alloc::{AllocError, Global};
 use std::collections::HashMap;
@@ -68,7 +69,10 @@ fn keys_are_in_order(rt: HostRuntime) {
     are_in_order(&rt, ObjectId::new(0, 4_194_303), ObjectId::new(1, 0));
     are_in_order(&rt, Some(Enumerated(1)), Some(Enumerated(2)));
     are_in_order(&rt, Some(Unsigned(1)), Some(Unsigned(256)));
+    are_in_order(&rt, Some(Signed(-1)), Some(Signed(0)));
+    are_in_order(&rt, Some(Boolean(false)), Some(Boolean(true)));
     are_in_order(&rt, Priority::new(1), Priority::new(16));
+    are_in_order(&rt, Some(Why::Short), Some(Why::Trailing));
 }
 
 /// A map with a name under each of two keys.
@@ -102,6 +106,13 @@ fn values_are_keys_of_maps(rt: HostRuntime) {
     are_kept_apart(&rt, alloc, Unsigned32(1), Unsigned32(1 << 16));
     are_kept_apart(&rt, alloc, Priority::new(1), Priority::new(16));
     are_kept_apart(&rt, alloc, Instance::new(0), Instance::new(4_194_303));
+    are_kept_apart(&rt, alloc, Signed(-1), Signed(255));
+    are_kept_apart(&rt, alloc, Boolean(false), Boolean(true));
+    are_kept_apart(&rt, alloc, RealBits(0), RealBits(1 << 31));
+    are_kept_apart(&rt, alloc, DoubleBits(0), DoubleBits(1 << 63));
+    are_kept_apart(&rt, alloc, Date([124, 1, 31, 3]), Date([124, 1, 3, 31]));
+    are_kept_apart(&rt, alloc, Time([0, 0, 0, 255]), Time([255, 0, 0, 0]));
+    are_kept_apart(&rt, alloc, Why::Tag, Why::Length);
 }
 
 #[test]

@@ -205,7 +205,7 @@ fn clear_unused(contents: &mut Vec<u8>)
     let last = contents.len() - 1;
     if last > 0 {
         let unused = contents[0];
-        contents[last] = contents[last] >> unused << unused;
+        contents[last] = cleared(contents[last], unused);
     }
 }
 

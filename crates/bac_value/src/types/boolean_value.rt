@@ -13,7 +13,7 @@ use std::alloc::Global;
 
 /// A Boolean. Its contents are those of the context form: one octet, 0 for false and 1 for true. The
 /// application form has no contents: its head says which.
-#[derive(Clone, Copy, Debug, PartialEq, Eq)]
+#[derive(Clone, Copy, Debug, PartialEq, Eq, PartialOrd, Ord, Hash)]
 pub struct Boolean(pub bool);
 
 /// The value that is true where `bit` is.

@@ -15,7 +15,7 @@ use std::alloc::Global;
 
 /// The bits of a real number of double precision, kept as they are: each pattern is a value, those that are
 /// no number too. Eight octets, the one with the sign first.
-#[derive(Clone, Copy, Debug, PartialEq, Eq)]
+#[derive(Clone, Copy, Debug, PartialEq, Eq, Hash)]
 pub struct DoubleBits(pub u64);
 
 /// The real number with these bits, the sign in the highest of them.

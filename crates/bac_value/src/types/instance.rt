@@ -36,7 +36,7 @@ impl Model for Instance {
 }
 
 impl Instance {
-    /// The instance with that number, where it is at most 4,194,303.
+    /// Returns the instance with this number, or None above 4,194,303.
     pub fn new(number: u32) -> Option<Instance>
         ensures some { IsSome result ↔ (number ≤ 4194303) }
         ensures value { IfSome result (λ instance. instance ≡ number) }
@@ -47,7 +47,7 @@ impl Instance {
         Some(Instance { number })
     }
 
-    /// Its number, at most 4,194,303.
+    /// Returns its number, at most 4,194,303.
     pub fn number(&self) -> u32
         ensures number { result ≡ self.now }
         ensures range { result ≤ 4194303 }

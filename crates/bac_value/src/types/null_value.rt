@@ -13,7 +13,7 @@ use bac_tag::{OutOfMemory, Refusal, Why};
 use std::alloc::Global;
 
 /// The one value Null. Its contents are no octets.
-#[derive(Clone, Copy, Debug, PartialEq, Eq)]
+#[derive(Clone, Copy, Debug, PartialEq, Eq, PartialOrd, Ord, Hash)]
 pub struct Null;
 
 impl Primitive for Null {

@@ -110,7 +110,8 @@ impl Hash for ObjectId {
 }
 
 impl ObjectId {
-    /// The identifier, where the kind is at most 1,023 and the instance at most 4,194,303.
+    /// Returns the identifier with this kind and this instance, or None where the kind is above 1,023 or the instance
+    /// above 4,194,303.
     pub fn new(kind: u16, instance: u32) -> Option<ObjectId>
         ensures some { IsSome result ↔ ((kind ≤ 1023) × (instance ≤ 4194303)) }
         ensures value { IfSome result (λ id. id ≡ record { kind = kind; instance = instance }) }

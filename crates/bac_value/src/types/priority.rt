@@ -39,7 +39,7 @@ impl Model for Priority {
 }
 
 impl Priority {
-    /// The priority with that number, where it is 1 to 16.
+    /// Returns the priority with this number, or None where it is not 1 to 16.
     pub fn new(number: u8) -> Option<Priority>
         ensures some { IsSome result ↔ ((1 ≤ number) × (number ≤ 16)) }
         ensures value { IfSome result (λ priority. priority ≡ number) }
@@ -50,7 +50,7 @@ impl Priority {
         Some(Priority { number })
     }
 
-    /// Its number, 1 to 16.
+    /// Returns its number, 1 to 16.
     pub fn number(&self) -> u8
         ensures number { result ≡ self.now }
         ensures range { (1 ≤ result) × (result ≤ 16) }

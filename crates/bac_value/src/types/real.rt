@@ -15,7 +15,7 @@ use std::alloc::Global;
 
 /// The bits of a real number of single precision, kept as they are: each pattern is a value, those that are
 /// no number too. Four octets, the one with the sign first.
-#[derive(Clone, Copy, Debug, PartialEq, Eq)]
+#[derive(Clone, Copy, Debug, PartialEq, Eq, Hash)]
 pub struct RealBits(pub u32);
 
 /// The real number with these bits, the sign in the highest of them.

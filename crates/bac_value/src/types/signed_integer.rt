@@ -15,7 +15,7 @@ use std::alloc::Global;
 
 /// A signed integer: 1 to 8 octets in two's complement, the most significant octet first. The fewest are
 /// written.
-#[derive(Clone, Copy, Debug, PartialEq, Eq)]
+#[derive(Clone, Copy, Debug, PartialEq, Eq, PartialOrd, Ord, Hash)]
 pub struct Signed(pub i64);
 
 /// The value with that number.

@@ -1,5 +1,5 @@
 use Rattle.bac_value.specs.Laws.Bits.{bits_same_length}
-use Rattle.bac_value.proofs.variants.BitsVariant.written_len_of.Goals as goal
+use Rattle.bac_value.proofs.variants.BitsRewritten.written_len_of.Goals as goal
 
 pub returns : goal.returns
 returns c = λ bits h. bits_same_length bits c.args.octets.now h
