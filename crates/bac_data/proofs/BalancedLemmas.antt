@@ -1,8 +1,7 @@
 -- Events that open and close in order are those of a value.
 use Rattle.std.proofs.Common.{◌≡◌, ℕ, ◌+◌, ◌≤◌, List, [], ◌∷◌, ◌++◌, length, refl, sym, ◌∙◌, ap, subst, arith, append_assoc}
 use Rattle.bac_data.specs.OpenValue.{Element, primitive, context, group, Elements, none, more, element_depth, depth}
-use Rattle.bac_data.specs.Events.{Event, application, contextual, opening, closing, element_events, events, Opens}
-use Rattle.bac_data.specs.Laws.Events.{levels, first_of, others_of, value_of_events}
+use Rattle.bac_data.specs.Events.{Event, application, contextual, opening, closing, element_events, events, Opens, levels, first_of, others_of, value_of_events}
 use Rattle.bac_data.proofs.OpenLemmas.{Opens-split, Opens-one, element-opens}
 
 -- how deep a value nests where its events fit

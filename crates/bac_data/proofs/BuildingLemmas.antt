@@ -7,7 +7,8 @@ use Rattle.std.proofs.lemmas.Bool.{eqb-false}
 use Rattle.std.proofs.lemmas.List.{length-reverse, reverse-append}
 use Rattle.bac_tag.specs.Spelling.{IsLeast, AppendsLeast}
 use Rattle.bac_data.specs.Events.{Event, opening, closing, Opens, SpellsEvent, SpellsEvents}
-use Rattle.bac_data.specs.Held.{Holds, held_events, held_events_are}
+use Rattle.bac_data.specs.Held.{Holds, held_events}
+use Rattle.bac_data.specs.Laws.Held.{held_events_are}
 use Rattle.bac_data.specs.Building.{HasOpen, AreOpen, IsBuilding, MayFollow}
 use Rattle.bac_data.specs.Laws.Alignment.{event_some, events_some}
 use Rattle.bac_data.proofs.LeastLemmas.{least_more}

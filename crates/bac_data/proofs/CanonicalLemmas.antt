@@ -8,8 +8,7 @@ use Rattle.bac_tag.specs.Short.{BeginsShort}
 use Rattle.bac_tag.specs.Spelling.{IsLeast, TakesLeast}
 use Rattle.bac_data.specs.declared.items.Item.{Item}
 use Rattle.bac_data.specs.Spells.{SpellsOpen}
-use Rattle.bac_data.specs.Events.{Event, opening, closing, SpellsEvent}
-use Rattle.bac_data.specs.Laws.Events.{value_of_events}
+use Rattle.bac_data.specs.Events.{Event, opening, closing, SpellsEvent, value_of_events}
 use Rattle.bac_data.specs.Building.{AreOpen, MayFollow, closing_number}
 use Rattle.bac_data.specs.Marks.{HasMark}
 use Rattle.bac_data.specs.Reading.{MayStand, item_event, item_contents, IsItem, LiesInFront, BeginsLeast}

@@ -4,10 +4,11 @@ use Rattle.std.specs.Bool.{one_answer}
 use Rattle.bac_tag.specs.Spelling.{IsLeast}
 use Rattle.bac_tag.specs.Laws.Spelling.{IsLeast-one}
 use Rattle.bac_data.specs.OpenValue.{Elements, AreElements, depth}
-use Rattle.bac_data.specs.Events.{Event, events, Opens, SpellsEvents}
-use Rattle.bac_data.specs.Held.{Holds, held_events, held_events_are}
+use Rattle.bac_data.specs.Events.{Event, events, Opens, SpellsEvents, value_of_events}
+use Rattle.bac_data.specs.Held.{Holds, held_events}
+use Rattle.bac_data.specs.Laws.Held.{held_events_are}
 use Rattle.bac_data.specs.Same.{same_values}
-use Rattle.bac_data.specs.Laws.Events.{value_of_events, value_of_events-events}
+use Rattle.bac_data.specs.Laws.Events.{value_of_events-events}
 use Rattle.bac_data.specs.Laws.Alignment.{events_once}
 use Rattle.bac_data.specs.Laws.Same.{same_values_tell}
 use Rattle.bac_data.proofs.BalancedLemmas.{events-value_of_events}

@@ -4,8 +4,8 @@ use Rattle.std.proofs.lemmas.List.{append_cancel_left}
 use Rattle.bac_tag.specs.Spelling.{EndsItself}
 use Rattle.bac_data.specs.OpenValue.{Element, primitive, context, group, Elements, none, more, element_depth, depth}
 use Rattle.bac_data.specs.Spells.{SpellsOpen}
-use Rattle.bac_data.specs.Events.{Event, application, contextual, opening, closing, element_events, events, Opens, NextIn, SpellsEvent, SpellsEvents}
-use Rattle.bac_data.specs.Laws.Events.{levels-append, value_of_events}
+use Rattle.bac_data.specs.Events.{Event, application, contextual, opening, closing, element_events, events, Opens, NextIn, SpellsEvent, SpellsEvents, value_of_events}
+use Rattle.bac_data.specs.Laws.Events.{levels-append}
 use Rattle.bac_data.proofs.EventLemmas.{whole, whole_spelled}
 use Rattle.bac_data.specs.Laws.Alignment.{Ahead, aligned}
 

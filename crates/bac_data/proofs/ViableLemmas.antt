@@ -5,8 +5,7 @@ use Rattle.bac_tag.specs.Spelling.{IsSpelling, IsViable, NoFront}
 use Rattle.bac_tag.specs.Heads.{Heads}
 use Rattle.bac_tag.proofs.WritingLemmas.{some_least}
 use Rattle.bac_data.specs.Spells.{SpellsOpen}
-use Rattle.bac_data.specs.Events.{Event, application, contextual, opening, closing, events, Opens, NextIn, SpellsEvent, SpellsEvents, SpellsNext}
-use Rattle.bac_data.specs.Laws.Events.{value_of_events}
+use Rattle.bac_data.specs.Events.{Event, application, contextual, opening, closing, events, Opens, NextIn, SpellsEvent, SpellsEvents, SpellsNext, value_of_events}
 use Rattle.bac_data.proofs.EventLemmas.{joins, one_event, SpellsEvents-append, spells_whole}
 use Rattle.bac_data.proofs.OpenLemmas.{two_cuts, Opens-append, what_follows}
 use Rattle.bac_data.proofs.BalancedLemmas.{events-value_of_events}

@@ -24,6 +24,29 @@ abbrev mutual
   events none = []
   events (more element rest) = element_events element ++ events rest
 
+-- What events build, read from the back: the elements up to the end of the group that is open there, and those that
+-- follow each end which stands behind them.
+abbrev pub first_of : List Elements → Elements
+first_of [] = none
+first_of (v ∷ vs) = v
+
+abbrev pub others_of : List Elements → List Elements
+others_of [] = []
+others_of (v ∷ vs) = vs
+
+abbrev pub with_event : Event → Elements × List Elements → Elements × List Elements
+with_event (application prim) s = (more (primitive prim) s.0, s.1)
+with_event (contextual number octets) s = (more (context number octets) s.0, s.1)
+with_event (opening number) s = (more (group number s.0) (first_of s.1), others_of s.1)
+with_event (closing number) s = (none, s.0 ∷ s.1)
+
+abbrev pub levels : List Event → Elements × List Elements
+levels [] = (none, [])
+levels (e ∷ es) = with_event e (levels es)
+
+abbrev pub value_of_events : List Event → Elements
+value_of_events es = (levels es).0
+
 -- From these open groups, by these events, to those open groups, the innermost first. No more than the limit nest.
 abbrev pub Opens : ℕ → List ℕ → List Event → List ℕ → Type 0
 Opens limit s [] t = s ≡ t

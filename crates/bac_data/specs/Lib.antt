@@ -2,6 +2,7 @@ pub mod OpenValue
 pub mod Spells
 pub mod Parts
 pub mod Events
+pub mod Codes
 pub mod Held
 pub mod Walks
 pub mod Building

@@ -1,8 +1,7 @@
 -- Whether two open values are the same.
 use Rattle.std.specs.Prelude.{ℕ, Bool, nat_eq, List, [], ◌∷◌, map}
 use Rattle.std.specs.Ordering.{on}
-use Rattle.std.specs.Cmp.{IsEquivalence, on_equiv}
-use Rattle.std.specs.Cmp.Lexicographic.{pointwise, lists_equiv, nat_list_eq_equiv}
+use Rattle.std.specs.Cmp.Lexicographic.{pointwise}
 use Rattle.bac_value.specs.PrimContents.{application_number, prim_written}
 use Rattle.bac_data.specs.OpenValue.{Elements}
 use Rattle.bac_data.specs.Events.{Event, application, contextual, opening, closing, events}
@@ -20,6 +19,3 @@ event_keys value = map event_key (events value)
 -- the keys of their events are the same; those of two open values are so exactly where the values are
 abbrev pub same_values : Elements → Elements → Bool
 same_values = on event_keys (pointwise (pointwise nat_eq))
-
-pub same_values_equiv : IsEquivalence same_values
-same_values_equiv = on_equiv event_keys (lists_equiv nat_list_eq_equiv)

@@ -3,7 +3,8 @@
 ghost use Rattle.std.specs.Prelude.{◌≡◌, ◌≢◌, ◌<◌, ◌↔◌, ◌⊎◌, ℕ, [], ◌∷◌, ◌++◌, length, IfOk, IfErr, IsOk, OnOk, OnErr, IsErrOf};
 ghost use Rattle.bac_data.specs.Events.{application, contextual, opening, closing, events};
 ghost use Rattle.bac_data.specs.Building.{HasOpen, IsInnermost};
-ghost use Rattle.bac_data.specs.Held.{Holds, Holds-prop};
+ghost use Rattle.bac_data.specs.Held.{Holds};
+ghost use Rattle.bac_data.specs.Laws.Held.{Holds-prop};
 
 use crate::build_faults::BuildFault;
 use crate::open_value::Any;
@@ -50,7 +51,7 @@ impl Model for AnyBuilder {
     ghost use Rattle.std.specs.Coded.{coded_list};
     ghost use Rattle.bac_data.specs.Events.{Event};
     ghost use Rattle.bac_data.specs.Held.{held_events};
-    ghost use Rattle.bac_data.specs.Laws.Events.{event_code};
+    ghost use Rattle.bac_data.specs.Codes.{event_code};
     ghost use Rattle.bac_data.specs.Building.{IsBuilding};
 
     ghost Value = { List Event };

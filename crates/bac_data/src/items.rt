@@ -1,6 +1,6 @@
 //! What stands next in an open value.
 
-ghost use Rattle.std.specs.Prelude.{◌≡◌, ◌↔◌, ◌≤◌, ◌<◌, ◌⊎◌, ◌++◌, true, false, Bool, IsTrue, IfSome, ℕ, List, length, take, [], IfOk, IfErr};
+ghost use Rattle.std.specs.Prelude.{◌≡◌, ◌↔◌, ◌≤◌, ◌<◌, ◌⊎◌, ◌++◌, true, false, IsTrue, IfSome, length, take, [], IfOk, IfErr};
 ghost use Rattle.bac_tag.specs.Spelling.{IsLeast, IsRefusal, Takes};
 ghost use Rattle.bac_tag.specs.Heads.{Heads, IsValid};
 ghost use Rattle.bac_tag.specs.Expected.{FitsOne, HeadsOfOne};

@@ -6,8 +6,10 @@ ghost use Rattle.bac_tag.specs.Spelling.{IsLeast};
 ghost use Rattle.bac_data.specs.OpenValue.{depth, IsOpenValue};
 ghost use Rattle.bac_data.specs.Spells.{SpellsAll};
 ghost use Rattle.bac_data.specs.Events.{Event as EventOf, events, Opens, SpellsEvents};
-ghost use Rattle.bac_data.specs.Held.{Holds, Holds-prop};
-ghost use Rattle.bac_data.specs.Same.{same_values, same_values_equiv};
+ghost use Rattle.bac_data.specs.Held.{Holds};
+ghost use Rattle.bac_data.specs.Laws.Held.{Holds-prop};
+ghost use Rattle.bac_data.specs.Same.{same_values};
+ghost use Rattle.bac_data.specs.Laws.Same.{same_values_equiv};
 
 use crate::walking::{Event, Events};
 use smallvec::SmallVec;
@@ -48,8 +50,8 @@ impl Model for Any {
     ghost use Rattle.bac_tag.specs.Spelling.{IsLeast};
     ghost use Rattle.bac_data.specs.OpenValue.{Elements};
     ghost use Rattle.bac_data.specs.Held.{held_events};
-    ghost use Rattle.bac_data.specs.Laws.Events.{elements_code, value_of_events};
-    ghost use Rattle.bac_data.specs.Events.{Opens, SpellsEvents};
+    ghost use Rattle.bac_data.specs.Events.{value_of_events, Opens, SpellsEvents};
+    ghost use Rattle.bac_data.specs.Codes.{elements_code};
 
     ghost Value = { Elements };
 

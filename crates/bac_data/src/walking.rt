@@ -5,7 +5,8 @@ ghost use Rattle.std.specs.Iterator.{item_count};
 ghost use Rattle.bac_tag.specs.Heads.{Heads};
 ghost use Rattle.bac_tag.specs.Spelling.{IsLeast, Takes};
 ghost use Rattle.bac_data.specs.Events.{Event as EventOf, SpellsEvents};
-ghost use Rattle.bac_data.specs.Held.{Holds, Holds-prop};
+ghost use Rattle.bac_data.specs.Held.{Holds};
+ghost use Rattle.bac_data.specs.Laws.Held.{Holds-prop};
 ghost use Rattle.bac_data.specs.Walks.{event_of, IsPackedStep, GivesStep};
 
 use bac_tag::layers::quick_head;
@@ -43,7 +44,7 @@ impl<'a> Model for Events<'a> {
     ghost use Rattle.bac_tag.specs.Spelling.{IsLeast};
     ghost use Rattle.bac_data.specs.Events.{Event, SpellsEvents};
     ghost use Rattle.bac_data.specs.Held.{held_events};
-    ghost use Rattle.bac_data.specs.Laws.Events.{event_code};
+    ghost use Rattle.bac_data.specs.Codes.{event_code};
 
     ghost Value = { List Event };
 

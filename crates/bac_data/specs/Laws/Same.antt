@@ -1,13 +1,17 @@
 -- Two open values are the same where the keys of their events are.
 use Rattle.std.proofs.Common.{◌≡◌, ◌↔◌, true, List, [], ◌∷◌, ◌++◌, map, refl, sym, ◌∙◌, ap, subst}
 use Rattle.std.specs.List.{AllByRecursion}
-use Rattle.std.specs.Cmp.Lexicographic.{pointwise_decides, bytes_decides}
+use Rattle.std.specs.Cmp.{IsEquivalence, on_equiv}
+use Rattle.std.specs.Cmp.Lexicographic.{pointwise_decides, bytes_decides, lists_equiv, nat_list_eq_equiv}
 use Rattle.bac_value.specs.PrimContents.{IsPrim, PrimContents, prim_written}
 use Rattle.bac_value.specs.Laws.Prim.{prim_once, prim_written_contents}
 use Rattle.bac_data.specs.OpenValue.{Element, primitive, context, group, Elements, none, more, IsElement, AreElements}
-use Rattle.bac_data.specs.Events.{Event, application, contextual, opening, closing, element_events, events}
+use Rattle.bac_data.specs.Events.{Event, application, contextual, opening, closing, element_events, events, value_of_events}
 use Rattle.bac_data.specs.Same.{event_key, event_keys, same_values}
-use Rattle.bac_data.specs.Laws.Events.{value_of_events, value_of_events-events}
+use Rattle.bac_data.specs.Laws.Events.{value_of_events-events}
+
+pub same_values_equiv : IsEquivalence same_values
+same_values_equiv = on_equiv event_keys (lists_equiv nat_list_eq_equiv)
 
 -- an application primitive of an event is a value
 abbrev HasPrim : Event → Type 0

@@ -1,7 +1,7 @@
 use Rattle.std.proofs.Common.{◌≡◌, ℕ, List, [], refl, sym, subst}
 use Rattle.bac_tag.specs.Spelling.{IsLeast}
 use Rattle.bac_data.specs.Events.{Event, SpellsEvents}
-use Rattle.bac_data.specs.Held.{held_events_are}
+use Rattle.bac_data.specs.Laws.Held.{held_events_are}
 use Rattle.bac_data.specs.Building.{IsBuilding}
 use Rattle.bac_data.proofs.LeastLemmas.{least_none}
 use Rattle.bac_data.proofs.BuildingLemmas.{none_open}

@@ -1,8 +1,8 @@
 use Rattle.std.proofs.Common.{◌∙◌, sym, subst, ap}
 use Rattle.bac_tag.specs.Spelling.{IsLeast}
-use Rattle.bac_data.specs.Events.{SpellsEvents}
-use Rattle.bac_data.specs.Held.{held_events, held_events_are}
-use Rattle.bac_data.specs.Laws.Events.{value_of_events}
+use Rattle.bac_data.specs.Events.{SpellsEvents, value_of_events}
+use Rattle.bac_data.specs.Held.{held_events}
+use Rattle.bac_data.specs.Laws.Held.{held_events_are}
 use Rattle.bac_data.proofs.HeldLemmas.{value_held}
 use Rattle.bac_data.proofs.open_value.AnyClone.clone.Goals as goal
 

@@ -1,4 +1,4 @@
-use Rattle.bac_data.specs.Held.{held_events_are}
+use Rattle.bac_data.specs.Laws.Held.{held_events_are}
 use Rattle.bac_data.proofs.HeldLemmas.{walk_held}
 use Rattle.bac_data.proofs.walking.Events.over.Goals as goal
 

@@ -2,7 +2,8 @@ use Rattle.std.proofs.Common.{List, ◌∷◌, length, sym, ◌∙◌, ap, subst
 use Rattle.std.proofs.lemmas.List.{take_rest}
 use Rattle.bac_tag.specs.Spelling.{IsLeast}
 use Rattle.bac_data.specs.Events.{Event, SpellsEvents}
-use Rattle.bac_data.specs.Held.{held_events, held_events_are}
+use Rattle.bac_data.specs.Held.{held_events}
+use Rattle.bac_data.specs.Laws.Held.{held_events_are}
 use Rattle.bac_data.specs.Walks.{event_of}
 use Rattle.bac_data.proofs.HeldLemmas.{walk_held}
 use Rattle.bac_data.proofs.WalkLemmas.{some_event}
