@@ -85,12 +85,11 @@ by_fields fields f = record { wider = λ v. f.wider (fields v); back = λ v. f.b
 ack : Widens (SpellsReadPropertyAck 16) (SpellsReadPropertyAck 32)
 ack = by_fields (λ (a : ReadPropertyAck). ((a.object, (a.property, a.index)), a.value)) (both (same SpellsObjectProperty) (open_value 3))
 
-write_parts : Widens (Joined (ObjectField 0) (Joined (EnumeratedField 1) (Joined (Optional (UnsignedField 2)) (Joined (SpellsOpen 16 3) (Optional (PriorityField 4))))))
-    (Joined (ObjectField 0) (Joined (EnumeratedField 1) (Joined (Optional (UnsignedField 2)) (Joined (SpellsOpen 32 3) (Optional (PriorityField 4))))))
-write_parts = both (same (ObjectField 0)) (both (same (EnumeratedField 1)) (both (same (Optional (UnsignedField 2))) (both (open_value 3) (same (Optional (PriorityField 4))))))
+write_parts : Widens (Joined SpellsObjectProperty (Joined (SpellsOpen 16 3) (Optional (PriorityField 4)))) (Joined SpellsObjectProperty (Joined (SpellsOpen 32 3) (Optional (PriorityField 4))))
+write_parts = both (same SpellsObjectProperty) (both (open_value 3) (same (Optional (PriorityField 4))))
 
 write : Widens (SpellsWriteProperty 16) (SpellsWriteProperty 32)
-write = by_fields (λ (r : WriteProperty). (r.object, (r.property, (r.index, (r.value, r.priority))))) write_parts
+write = by_fields (λ (r : WriteProperty). ((r.object, (r.property, r.index)), (r.value, r.priority))) write_parts
 
 value_parts : Widens (Joined (EnumeratedField 0) (Joined (Optional (UnsignedField 1)) (Joined (SpellsOpen 16 2) (Optional (PriorityField 3))))) (Joined (EnumeratedField 0) (Joined (Optional (UnsignedField 1)) (Joined (SpellsOpen 32 2) (Optional (PriorityField 3)))))
 value_parts = both (same (EnumeratedField 0)) (both (same (Optional (UnsignedField 1))) (both (open_value 2) (same (Optional (PriorityField 3)))))

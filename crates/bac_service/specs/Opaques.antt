@@ -1,8 +1,7 @@
 -- Services without a production.
 use Rattle.std.specs.Prelude.{ℕ, Bool, nat_eq, List, ◌∷◌, refl}
 use Rattle.std.specs.Ordering.{on}
-use Rattle.std.specs.Cmp.{IsEquivalence}
-use Rattle.std.specs.Cmp.Lexicographic.{pointwise, on_texts_equal}
+use Rattle.std.specs.Cmp.Lexicographic.{pointwise}
 use Rattle.std.specs.Coded.{Coded, code_by, coded×, coded_ℕ, coded_list}
 use Rattle.bac_service.specs.declared.kind.Kind.{Kind}
 use Rattle.bac_service.specs.declared.kind.Kind.TheVariants.{Confirmed, Unconfirmed, ComplexAck, Error}
@@ -34,6 +33,3 @@ opaque_key service = kind_number service.kind ∷ service.choice ∷ service.oct
 -- their keys are the same
 abbrev pub same_opaque : OpaqueValue → OpaqueValue → Bool
 same_opaque = on opaque_key (pointwise nat_eq)
-
-pub same_opaque_equiv : IsEquivalence same_opaque
-same_opaque_equiv = on_texts_equal opaque_key

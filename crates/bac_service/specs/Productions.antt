@@ -1,12 +1,21 @@
 -- The parts of a production (clause 21), and what a reader tells of them.
 use Rattle.std.specs.Prelude.{◌≡◌, ◌↔◌, ℕ, ◌≤◌, List, [], ◌∷◌, ◌++◌, length, take, Bool, ◌⊎◌, cond, nat_lt, IsTrue, Option, Some, None}
+use Rattle.std.proofs.Common.{inl, inr}
+use Rattle.bac_tag.specs.declared.heads.TagHead.{TagHead}
+use Rattle.bac_tag.specs.Heads.{Heads}
 use Rattle.bac_tag.specs.declared.refusals.Refusal.{Refusal}
 use Rattle.bac_tag.specs.declared.refusals.Why.TheVariants.{Short}
 use Rattle.bac_tag.specs.Spelling.{IsLeast, IsFurthest, Joins}
 use Rattle.bac_data.specs.Spells.{Encloses}
+use Rattle.bac_service.specs.declared.production.choice.Choice.{Choice}
+use Rattle.bac_service.specs.declared.production.choice.Choice.TheVariants.{First, Second}
 use Rattle.bac_service.specs.Leads.{Lead, BeginsIn}
 
 -- ---- what spells a part
+
+-- one head, which has no value
+abbrev pub Head : TagHead → Unit {0} → List ℕ → Type 0
+Head head u b = Heads head b
 
 -- an optional part: no octets where it is absent
 abbrev pub Optional : {V : Type 0} → (V → List ℕ → Type 0) → Option V → List ℕ → Type 0
@@ -21,6 +30,11 @@ Items S (v ∷ vs) b = Joins (S v) (Items S vs) b
 -- a group: the part between an opening and a closing tag of one number
 abbrev pub Grouped : {V : Type 0} → ℕ → (V → List ℕ → Type 0) → V → List ℕ → Type 0
 Grouped number S v = Encloses number (S v)
+
+-- what either case of a choice is seen as
+abbrev pub either_of : {A B V W : Type 0} → (A → V) → (B → W) → Choice A B → V ⊎ W
+either_of f g (First a) = inl (f a)
+either_of f g (Second b) = inr (g b)
 
 -- A value is its fields, and is spelled as they are.
 pub record IsRecordOf {V W : Type 0} (parts : W → List ℕ → Type 0) (whole : V → List ℕ → Type 0) : Type 0 where

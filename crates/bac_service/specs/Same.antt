@@ -66,7 +66,7 @@ same_read_property_ack a b = same_object_property (a.object, (a.property, a.inde
 
 abbrev pub same_write_property : WriteProperty → WriteProperty → Bool
 same_write_property a b =
-    same_object a.object b.object && (nat_eq a.property.0 b.property.0 && (same_index a.index b.index && (same_values a.value b.value && option_eq nat_eq a.priority b.priority)))
+    same_object_property (a.object, (a.property, a.index)) (b.object, (b.property, b.index)) && (same_values a.value b.value && option_eq nat_eq a.priority b.priority)
 
 abbrev pub same_specification : ReadAccessSpecification → ReadAccessSpecification → Bool
 same_specification a b = same_object a.object b.object && pointwise same_reference a.properties.items b.properties.items

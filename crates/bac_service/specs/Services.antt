@@ -1,5 +1,5 @@
 -- The lists that spell a service of a kind and a choice (clause 21).
-use Rattle.std.specs.Prelude.{◌≡◌, ℕ, ◌<◌, Bool, true, Option, None, Some, List}
+use Rattle.std.specs.Prelude.{◌≡◌, ◌↔◌, ℕ, ◌<◌, Bool, true, Option, None, Some, List}
 use Rattle.bac_tag.specs.Octets.{IsOctets}
 use Rattle.bac_service.specs.declared.kind.Kind.{Kind}
 use Rattle.bac_service.specs.Productions.{Items}
@@ -50,3 +50,8 @@ pub record SpellsService (multiple : Bool) (groups : ℕ) (kind : Kind) (choice 
 pub record IsPlaced (service : ServiceValue) : Type 0 where
   pub choice_fits : service.choice < 256
   pub production_is : service.production ≡ production_of true service.kind service.choice
+
+-- The same lists spell the values, and the services of that kind and choice.
+pub record IsServiceOf {V : Type 0} (spells : V → List ℕ → Type 0) (kind : Kind) (choice : ℕ) : Type 0 where
+  pub every : (v : V) → (x : ServiceValue) × ((b : List ℕ) → spells v b ↔ SpellsService true 32 kind choice x b)
+  pub only : (x : ServiceValue) (b : List ℕ) → SpellsService true 32 kind choice x b → (v : V) × spells v b

@@ -7,8 +7,7 @@ ghost use Rattle.bac_service.specs.Leads.{disjoint};
 ghost use Rattle.bac_service.specs.Productions.{Items};
 ghost use Rattle.bac_service.specs.ServiceTable.{service_error, production_of, is_small};
 ghost use Rattle.bac_service.specs.ServiceValues.{value_of, notification_kind, notification_choice};
-ghost use Rattle.bac_service.specs.Services.{SpellsService};
-ghost use Rattle.bac_service.specs.Laws.Service.{IsServiceOf};
+ghost use Rattle.bac_service.specs.Services.{SpellsService, IsServiceOf};
 ghost use Rattle.bac_service.specs.Decoded.{IsDecoded};
 ghost use Rattle.bac_tag.specs.Spelling.{IsCanonical};
 

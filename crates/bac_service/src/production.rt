@@ -66,6 +66,34 @@ impl<T: Drop> Spelling<T> {
             None
         }
     }
+
+    /// The value, and what else is told.
+    #[inline(always)]
+    pub(crate) fn split(self) -> (T, Spelling<()>)
+        ensures { result ≡ (self.value, record { value = tt; taken = self.taken; same = self.same }) }
+    {
+        let Spelling { value, taken, same } = self;
+        let rest = Spelling {
+            value: (),
+            taken,
+            same,
+        };
+        (value, rest)
+    }
+}
+
+impl Spelling<()> {
+    /// The same of another value.
+    #[inline(always)]
+    pub(crate) fn with<T: Drop>(self, value: T) -> Spelling<T>
+        ensures { result ≡ record { value = value; taken = self.taken; same = self.same } }
+    {
+        Spelling {
+            value,
+            taken: self.taken,
+            same: self.same,
+        }
+    }
 }
 
 /// How many of so many octets stand in front of the first that differs from the canonical ones.
@@ -114,6 +142,26 @@ pub(crate) struct Front<T> {
 }
 
 impl<T: Drop> Front<T> {
+    /// The value, and what else is told.
+    #[inline(always)]
+    pub(crate) fn split(self) -> (T, Front<()>)
+        ensures { result ≡ (self.value, record { value = tt; taken = self.taken; mark = self.mark; reach = self.reach }) }
+    {
+        let Front {
+            value,
+            taken,
+            mark,
+            reach,
+        } = self;
+        let rest = Front {
+            value: (),
+            taken,
+            mark,
+            reach,
+        };
+        (value, rest)
+    }
+
     /// The spelling alone.
     #[inline(always)]
     pub(crate) fn into_spelling(self) -> Spelling<T>
@@ -126,6 +174,21 @@ impl<T: Drop> Front<T> {
             value: self.value,
             taken: self.taken,
             same: same_octets(self.taken, self.mark),
+        }
+    }
+}
+
+impl Front<()> {
+    /// The same of another value.
+    #[inline(always)]
+    pub(crate) fn with<T: Drop>(self, value: T) -> Front<T>
+        ensures { result ≡ record { value = value; taken = self.taken; mark = self.mark; reach = self.reach } }
+    {
+        Front {
+            value,
+            taken: self.taken,
+            mark: self.mark,
+            reach: self.reach,
         }
     }
 }

@@ -10,14 +10,13 @@ use Rattle.bac_tag.specs.Laws.Spelling.{unmarked_least}
 use Rattle.bac_tag.specs.Spelling.{IsLeast, HasMark, Takes, Joined, OneOf, TakesLeast, IsCanonical}
 use Rattle.bac_service.specs.declared.kind.Kind.{Kind}
 use Rattle.bac_service.specs.Leads.{Lead, disjoint}
-use Rattle.bac_service.specs.Productions.{Optional, Items, Grouped, IsRecordOf, Lawful}
+use Rattle.bac_service.specs.Productions.{Optional, Items, Grouped, IsRecordOf, Lawful, Head}
 use Rattle.bac_service.specs.ServiceTable.{ServiceProduction, production_of}
 use Rattle.bac_service.specs.ServiceValues.{opaque}
-use Rattle.bac_service.specs.Services.{SpellsService}
-use Rattle.bac_service.specs.Laws.Production.{Head, sound_parts, not_empty, unique}
+use Rattle.bac_service.specs.Services.{SpellsService, IsServiceOf}
+use Rattle.bac_service.specs.Laws.Production.{sound_parts, not_empty, unique}
 use Rattle.bac_service.specs.Laws.Longest.{some_spelled, take_add}
 use Rattle.bac_service.specs.Laws.Least.{least_joined, least_alike, least_nothing, least_item}
-use Rattle.bac_service.specs.Laws.Service.{IsServiceOf}
 
 pub canonical_found : {V : Type 0} {S : V → List ℕ → Type 0} {input : List ℕ} {v : V} {n : ℕ} (m : Option ℕ) → Takes S input (v, n) → HasMark (S v) (take n input) m → m ≡ None → TakesLeast S input n
 canonical_found {v} m T D e = record { value = v; within = T.within; least = unmarked_least m e D }

@@ -1,16 +1,9 @@
 -- Choices.
-use Rattle.std.specs.Prelude.{ℕ, List, ◌⊎◌, Bool, ◌&&◌, not, IsTrue}
+use Rattle.std.specs.Prelude.{ℕ, List, Bool, ◌&&◌, not, IsTrue}
 use Rattle.std.proofs.lemmas.Bool.{and_parts}
-use Rattle.std.proofs.Common.{inl, inr}
+use Rattle.std.proofs.Common.{inl}
 use Rattle.bac_tag.specs.Spelling.{OneOf}
-use Rattle.bac_service.specs.declared.production.choice.Choice.{Choice}
-use Rattle.bac_service.specs.declared.production.choice.Choice.TheVariants.{First, Second}
 use Rattle.bac_service.specs.Productions.{IsInhabited}
-
--- what either case is seen as
-abbrev pub either_of : {A B V W : Type 0} → (A → V) → (B → W) → Choice A B → V ⊎ W
-either_of f g (First a) = inl (f a)
-either_of f g (Second b) = inr (g b)
 
 pub either_inhabited : {V W : Type 0} {S : V → List ℕ → Type 0} {T : W → List ℕ → Type 0} (a e d : Bool) → (IsTrue a → IsInhabited S) → IsTrue ((a && not e) && d) → IsInhabited (OneOf S T)
 either_inhabited a e d inhabited h =

@@ -6,8 +6,8 @@ use Rattle.bac_tag.specs.Spelling.{IsRefusal, Joined}
 use Rattle.bac_tag.specs.Laws.Spelling.{refused_alike}
 use Rattle.bac_service.specs.Leads.{Lead, closing, disjoint, and_where}
 use Rattle.bac_service.specs.Laws.Lead.{disjoint_nil}
-use Rattle.bac_service.specs.Productions.{Grouped, IsInhabited, IsLongest, IsReach}
-use Rattle.bac_service.specs.Laws.Production.{Head, sound_parts}
+use Rattle.bac_service.specs.Productions.{Grouped, IsInhabited, IsLongest, IsReach, Head}
+use Rattle.bac_service.specs.Laws.Production.{sound_parts}
 use Rattle.bac_service.specs.Laws.Longest.{longest_alike}
 use Rattle.bac_service.specs.Laws.Refusal.{reach_alike}
 use Rattle.bac_service.specs.Laws.Tag.{opening_inhabited, closing_inhabited}

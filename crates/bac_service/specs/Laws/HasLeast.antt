@@ -12,8 +12,7 @@ use Rattle.bac_data.proofs.ValueLemmas.{least_open_value}
 use Rattle.bac_service.specs.Fields.{heading, IsHeading, IsField}
 use Rattle.bac_service.specs.Laws.Field.{heading_least, least_field}
 use Rattle.bac_service.specs.Laws.Least.{least_joined, least_alike, least_nothing}
-use Rattle.bac_service.specs.Laws.Production.{Head}
-use Rattle.bac_service.specs.Productions.{Optional, Items, Grouped, IsRecordOf, HasLeast}
+use Rattle.bac_service.specs.Productions.{Optional, Items, Grouped, IsRecordOf, HasLeast, Head}
 
 pub tag_least : (head : TagHead) → LengthFits head → HasLeast (Head head)
 tag_least head fits v b p = some_least head p.valid fits

@@ -38,10 +38,10 @@ read_property_ack_parts groups = record {
   joined = λ p b s. s;
 }
 
-unfoldable pub write_property_parts : (groups : ℕ) → IsRecordOf (Joined (ObjectField 0) (Joined (EnumeratedField 1) (Joined (Optional (UnsignedField 2)) (Joined (SpellsOpen groups 3) (Optional (PriorityField 4)))))) (SpellsWriteProperty groups)
+unfoldable pub write_property_parts : (groups : ℕ) → IsRecordOf (Joined SpellsObjectProperty (Joined (SpellsOpen groups 3) (Optional (PriorityField 4)))) (SpellsWriteProperty groups)
 write_property_parts groups = record {
-  fields = λ r. (r.object, (r.property, (r.index, (r.value, r.priority))));
-  of_fields = λ p. record { object = p.0; property = p.1.0; index = p.1.1.0; value = p.1.1.1.0; priority = p.1.1.1.1 };
+  fields = λ r. ((r.object, (r.property, r.index)), (r.value, r.priority));
+  of_fields = λ p. record { object = p.0.0; property = p.0.1.0; index = p.0.1.1; value = p.1.0; priority = p.1.1 };
   same = λ r. refl;
   split = λ r b s. s;
   joined = λ p b s. s;

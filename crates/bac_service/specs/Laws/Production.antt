@@ -5,12 +5,11 @@ use Rattle.std.proofs.lemmas.List.{append_cancel_left}
 use Rattle.std.proofs.lemmas.Bool.{and_parts, not-true}
 use Rattle.bac_tag.specs.declared.heads.TagHead.{TagHead}
 use Rattle.bac_tag.specs.declared.heads.TagHead.TheVariants.{Open, Close}
-use Rattle.bac_tag.specs.Heads.{Heads}
 use Rattle.bac_tag.specs.Laws.Heads.{heads_end}
 use Rattle.bac_tag.specs.Spelling.{EndsItself, OneOf, Joined}
 use Rattle.bac_service.specs.Leads.{Lead, opening, closing, lead_of, disjoint, and_where, BeginsIn}
 use Rattle.bac_service.specs.Laws.Lead.{begins_apart, begins_more, begins_not_nil, begins_first, begins_also, head_begins, disjoint_nil}
-use Rattle.bac_service.specs.Productions.{Optional, Items, Grouped, IsRecordOf, Aligned, Lawful}
+use Rattle.bac_service.specs.Productions.{Optional, Items, Grouped, IsRecordOf, Aligned, Lawful, Head}
 use Rattle.bac_service.specs.Productions.Aligned.{same, shorter, longer}
 
 flip : {V : Type 0} (ts : List Lead) (v w : V) (b c : List ℕ) → Aligned ts v w b c → Aligned ts w v c b
@@ -129,10 +128,6 @@ module _ {V : Type 0} (S : V → List ℕ → Type 0) (os cs : List Lead) (L : L
 
     pub items_lawful : Lawful (Items S) os (os ++ cs) true
     items_lawful = record { opens = items_opens; aligned = items_aligned }
-
--- one head, which has no value
-abbrev pub Head : TagHead → Unit {0} → List ℕ → Type 0
-Head head u b = Heads head b
 
 pub head_lawful : (head : TagHead) → Lawful (Head head) (lead_of head ∷ []) [] false
 head_lawful head = record {

@@ -259,9 +259,7 @@ module _ (open_only : (number : ℕ) (v : Elements) (b : List ℕ) → SpellsOpe
 
   tells_write_property : Tells (SpellsWriteProperty 32) (λ v w. same_service (held.WriteProperty v) (held.WriteProperty w))
   unfolding write_property_parts
-  tells_write_property =
-      tells_record (write_property_parts 32)
-      (tells_joined (tells_plain _ objects) (tells_joined (tells_plain _ enumerated) (tells_joined (tells_optional (tells_plain _ unsigned32)) (tells_joined (tells_open 3) (tells_optional (tells_plain _ unsigned_Decides))))))
+  tells_write_property = tells_record (write_property_parts 32) (tells_joined (tells_plain _ object_properties) (tells_joined (tells_open 3) (tells_optional (tells_plain _ unsigned_Decides))))
 
   abbrev specification_test : Specification → Specification → Bool
   specification_test v w = same_object v.object w.object && pointwise same_reference v.properties w.properties

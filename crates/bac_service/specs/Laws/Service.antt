@@ -13,7 +13,7 @@ use Rattle.bac_service.specs.declared.kind.Kind.{Kind}
 use Rattle.bac_service.specs.declared.kind.Kind.TheVariants.{Error}
 use Rattle.bac_service.specs.ServiceTable.{ServiceProduction, write_property_multiple_error, cov_notification, service_error, production_of, is_small}
 use Rattle.bac_service.specs.ServiceValues.{SaidBy, Said, ServiceValue, typed, opaque, notification_kind, notification_choice}
-use Rattle.bac_service.specs.Services.{SpellsBy, SpellsSaid, SpellsService, IsPlaced}
+use Rattle.bac_service.specs.Services.{SpellsBy, SpellsSaid, SpellsService, IsPlaced, IsServiceOf}
 use Rattle.bac_service.specs.Laws.Least.{least_alike}
 use Rattle.bac_service.specs.Productions.{HasLeast}
 
@@ -42,11 +42,6 @@ pub cause_choices : (choice : ℕ) → (list_any (λ c. nat_eq c choice) (1 ∷ 
 cause_choices choice = cause_tests (nat_eq 1 choice) (nat_eq 5 choice) (nat_eq 12 choice) (nat_eq 14 choice) (nat_eq 15 choice) (nat_eq 16 choice)
 
 -- ---- what a kind and a choice name
-
--- the same lists spell the values, and the services of that kind and choice
-pub record IsServiceOf {V : Type 0} (spells : V → List ℕ → Type 0) (kind : Kind) (choice : ℕ) : Type 0 where
-  pub every : (v : V) → (x : ServiceValue) × ((b : List ℕ) → spells v b ↔ SpellsService true 32 kind choice x b)
-  pub only : (x : ServiceValue) (b : List ℕ) → SpellsService true 32 kind choice x b → (v : V) × spells v b
 
 -- a service of the production is spelled as what it says
 pub spelled_as : (k : Kind) (c : ℕ) (p : ServiceProduction) (v : SaidBy p) → c < 256 → production_of true k c ≡ Some p → (b : List ℕ) → SpellsBy 32 p v b ↔ SpellsService true 32 k c (typed k c p v) b

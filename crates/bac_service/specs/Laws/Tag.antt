@@ -15,10 +15,9 @@ use Rattle.bac_tag.specs.Heads.{Heads}
 use Rattle.bac_tag.specs.Short.{BeginsShort}
 use Rattle.bac_tag.specs.Expected.{ExpectedHeads}
 use Rattle.bac_tag.proofs.WritingLemmas.{some_least}
-use Rattle.bac_service.specs.Productions.{IsInhabited, IsLongest, IsReach}
+use Rattle.bac_service.specs.Productions.{IsInhabited, IsLongest, IsReach, Head}
 use Rattle.bac_service.specs.Laws.Longest.{leaf_longest}
 use Rattle.bac_service.specs.Laws.Refusal.{leaf_reach}
-use Rattle.bac_service.specs.Laws.Production.{Head}
 
 pub number_within : (n : ℕ) → IsTrue (nat_le n 254) → n ≤ 254
 number_within n h = leb-true n 254 h

@@ -4,7 +4,8 @@ ghost use Rattle.std.specs.Prelude.{◌&&◌, ◌||◌, ◌++◌, ◌⊎◌, not
 ghost use Rattle.bac_tag.specs.Spelling.{OneOf};
 ghost use Rattle.bac_service.specs.Leads.{disjoint};
 ghost use Rattle.bac_service.specs.Laws.Longest.{either_lawful};
-ghost use Rattle.bac_service.specs.Laws.Choice.{either_of, either_inhabited};
+ghost use Rattle.bac_service.specs.Productions.{either_of};
+ghost use Rattle.bac_service.specs.Laws.Choice.{either_inhabited};
 ghost use Rattle.bac_service.specs.Laws.HasLeast.{choice_least};
 
 use crate::production::{Front, Production, ReadFault, Spelling};
@@ -39,18 +40,12 @@ impl<A: Production, B: Production> Production for Choice<A, B> {
 
     fn read_spelling(alloc: Global, octets: &[u8], wanted: bool) -> Option<Spelling<Choice<A, B>>> {
         if let Some(found) = A::read_spelling(alloc, octets, wanted) {
-            return Some(Spelling {
-                value: Choice::First(found.value),
-                taken: found.taken,
-                same: found.same,
-            });
+            let (part, found) = found.split();
+            return Some(found.with(Choice::First(part)));
         }
         let found = B::read_spelling(alloc, octets, wanted)?;
-        Some(Spelling {
-            value: Choice::Second(found.value),
-            taken: found.taken,
-            same: found.same,
-        })
+        let (part, found) = found.split();
+        Some(found.with(Choice::Second(part)))
     }
 
     fn canonical_len(alloc: Global, octets: &[u8]) -> Option<usize> {
@@ -63,12 +58,8 @@ impl<A: Production, B: Production> Production for Choice<A, B> {
     fn read(alloc: Global, octets: &[u8]) -> Result<Front<Choice<A, B>>, ReadFault> {
         let refused = match A::read(alloc, octets) {
             Ok(front) => {
-                return Ok(Front {
-                    value: Choice::First(front.value),
-                    taken: front.taken,
-                    mark: front.mark,
-                    reach: front.reach,
-                });
+                let (part, front) = front.split();
+                return Ok(front.with(Choice::First(part)));
             }
             Err(ReadFault::Refused(refusal)) => refusal,
             Err(ReadFault::OutOfMemory) => return Err(ReadFault::OutOfMemory),

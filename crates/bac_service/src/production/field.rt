@@ -377,11 +377,8 @@ impl<T: Primitive, const N: u8> Production for Field<T, N> {
     #[inline(always)]
     fn read_spelling(alloc: Global, octets: &[u8], wanted: bool) -> Option<Spelling<Field<T, N>>> {
         let found = find_field::<T>(alloc, octets, Some(N), wanted)?;
-        Some(Spelling {
-            value: Field(found.value),
-            taken: found.taken,
-            same: found.same,
-        })
+        let (value, found) = found.split();
+        Some(found.with(Field(value)))
     }
 
     fn canonical_len(alloc: Global, octets: &[u8]) -> Option<usize> {
@@ -391,12 +388,8 @@ impl<T: Primitive, const N: u8> Production for Field<T, N> {
     #[inline(always)]
     fn read(alloc: Global, octets: &[u8]) -> Result<Front<Field<T, N>>, ReadFault> {
         let front = read_field::<T>(alloc, octets, Some(N))?;
-        Ok(Front {
-            value: Field(front.value),
-            taken: front.taken,
-            mark: front.mark,
-            reach: front.reach,
-        })
+        let (value, front) = front.split();
+        Ok(front.with(Field(value)))
     }
 
     #[inline(always)]
@@ -435,11 +428,8 @@ impl<T: Primitive> Production for ApplicationField<T> {
         wanted: bool,
     ) -> Option<Spelling<ApplicationField<T>>> {
         let found = find_field::<T>(alloc, octets, None, wanted)?;
-        Some(Spelling {
-            value: ApplicationField(found.value),
-            taken: found.taken,
-            same: found.same,
-        })
+        let (value, found) = found.split();
+        Some(found.with(ApplicationField(value)))
     }
 
     fn canonical_len(alloc: Global, octets: &[u8]) -> Option<usize> {
@@ -449,12 +439,8 @@ impl<T: Primitive> Production for ApplicationField<T> {
     #[inline(always)]
     fn read(alloc: Global, octets: &[u8]) -> Result<Front<ApplicationField<T>>, ReadFault> {
         let front = read_field::<T>(alloc, octets, None)?;
-        Ok(Front {
-            value: ApplicationField(front.value),
-            taken: front.taken,
-            mark: front.mark,
-            reach: front.reach,
-        })
+        let (value, front) = front.split();
+        Ok(front.with(ApplicationField(value)))
     }
 
     #[inline(always)]

@@ -54,12 +54,8 @@ impl<P: Production, const N: u8> Production for Group<P, N> {
     #[inline(always)]
     fn read_spelling(alloc: Global, octets: &[u8], wanted: bool) -> Option<Spelling<Group<P, N>>> {
         let found = <(Opening<N>, (P, Closing<N>))>::read_spelling(alloc, octets, wanted)?;
-        let (_, (part, _)) = found.value;
-        Some(Spelling {
-            value: Group(part),
-            taken: found.taken,
-            same: found.same,
-        })
+        let ((_, (part, _)), found) = found.split();
+        Some(found.with(Group(part)))
     }
 
     fn canonical_len(alloc: Global, octets: &[u8]) -> Option<usize> {
@@ -69,13 +65,8 @@ impl<P: Production, const N: u8> Production for Group<P, N> {
     #[inline(always)]
     fn read(alloc: Global, octets: &[u8]) -> Result<Front<Group<P, N>>, ReadFault> {
         let front = <(Opening<N>, (P, Closing<N>))>::read(alloc, octets)?;
-        let (_, (part, _)) = front.value;
-        Ok(Front {
-            value: Group(part),
-            taken: front.taken,
-            mark: front.mark,
-            reach: front.reach,
-        })
+        let ((_, (part, _)), front) = front.split();
+        Ok(front.with(Group(part)))
     }
 
     #[inline(always)]

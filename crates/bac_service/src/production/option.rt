@@ -33,18 +33,15 @@ impl<P: Production> Production for Option<P> {
 
     #[inline(always)]
     fn read_spelling(alloc: Global, octets: &[u8], wanted: bool) -> Option<Spelling<Option<P>>> {
-        Some(match P::read_spelling(alloc, octets, wanted) {
-            Some(found) => Spelling {
-                value: Some(found.value),
-                taken: found.taken,
-                same: found.same,
-            },
-            None => Spelling {
+        let Some(found) = P::read_spelling(alloc, octets, wanted) else {
+            return Some(Spelling {
                 value: None,
                 taken: 0,
                 same: 0,
-            },
-        })
+            });
+        };
+        let (part, found) = found.split();
+        Some(found.with(Some(part)))
     }
 
     fn canonical_len(alloc: Global, octets: &[u8]) -> Option<usize> {
@@ -54,12 +51,10 @@ impl<P: Production> Production for Option<P> {
     #[inline(always)]
     fn read(alloc: Global, octets: &[u8]) -> Result<Front<Option<P>>, ReadFault> {
         match P::read(alloc, octets) {
-            Ok(front) => Ok(Front {
-                value: Some(front.value),
-                taken: front.taken,
-                mark: front.mark,
-                reach: front.reach,
-            }),
+            Ok(front) => {
+                let (part, front) = front.split();
+                Ok(front.with(Some(part)))
+            }
             Err(ReadFault::Refused(reach)) => Ok(Front {
                 value: None,
                 taken: 0,

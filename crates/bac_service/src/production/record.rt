@@ -62,11 +62,8 @@ impl<R: Record> Production for Fields<R> {
 
     fn read_spelling(alloc: Global, octets: &[u8], wanted: bool) -> Option<Spelling<Fields<R>>> {
         let found = R::Parts::read_spelling(alloc, octets, wanted)?;
-        Some(Spelling {
-            value: Fields(R::from_parts(found.value)),
-            taken: found.taken,
-            same: found.same,
-        })
+        let (parts, found) = found.split();
+        Some(found.with(Fields(R::from_parts(parts))))
     }
 
     fn canonical_len(alloc: Global, octets: &[u8]) -> Option<usize> {
@@ -75,12 +72,8 @@ impl<R: Record> Production for Fields<R> {
 
     fn read(alloc: Global, octets: &[u8]) -> Result<Front<Fields<R>>, ReadFault> {
         let front = R::Parts::read(alloc, octets)?;
-        Ok(Front {
-            value: Fields(R::from_parts(front.value)),
-            taken: front.taken,
-            mark: front.mark,
-            reach: front.reach,
-        })
+        let (parts, front) = front.split();
+        Ok(front.with(Fields(R::from_parts(parts))))
     }
 
     fn write(&self, out: &mut Vec<u8>) -> Result<(), OutOfMemory> {

@@ -3,7 +3,8 @@
 ghost use Rattle.std.specs.Prelude.{◌∷◌, [], false, nat_le};
 ghost use Rattle.bac_tag.specs.declared.heads.TagHead.TheVariants.{Open, Close};
 ghost use Rattle.bac_service.specs.Leads.{opening, closing};
-ghost use Rattle.bac_service.specs.Laws.Production.{Head, head_lawful};
+ghost use Rattle.bac_service.specs.Productions.{Head};
+ghost use Rattle.bac_service.specs.Laws.Production.{head_lawful};
 ghost use Rattle.bac_service.specs.Laws.Tag.{opening_inhabited, closing_inhabited};
 ghost use Rattle.bac_service.specs.Laws.HasLeast.{tag_least};
 

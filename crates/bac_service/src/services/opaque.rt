@@ -2,9 +2,10 @@
 
 ghost use Rattle.std.specs.Prelude.{◌≡◌, ◌↔◌, IsTrue, IsErrOf, IsNone, IsSome, IfOk, OnOk, true};
 ghost use Rattle.std.specs.Cmp.{partial_equiv_from_equiv};
+ghost use Rattle.std.specs.Cmp.Lexicographic.{on_texts_equal};
 ghost use Rattle.bac_tag.specs.Spelling.{AppendsLeast};
 ghost use Rattle.bac_tag.specs.Octets.{Extends};
-ghost use Rattle.bac_service.specs.Opaques.{same_opaque, same_opaque_equiv};
+ghost use Rattle.bac_service.specs.Opaques.{opaque_key, same_opaque};
 ghost use Rattle.bac_service.specs.ServiceTable.{production_of};
 ghost use Rattle.bac_service.specs.ServiceValues.{opaque};
 ghost use Rattle.bac_service.specs.Services.{SpellsSaid, IsPlaced};
@@ -75,7 +76,7 @@ impl Model for Opaque {
 impl PartialEq for Opaque {
     ghost eq = { same_opaque };
 
-    ghost laws = { partial_equiv_from_equiv same_opaque_equiv };
+    ghost laws = { partial_equiv_from_equiv (on_texts_equal opaque_key) };
 
     fn eq(&self, other: &Opaque) -> bool
         ensures answer { result ≡ same_opaque self.now other.now }
@@ -87,7 +88,7 @@ impl PartialEq for Opaque {
 }
 
 impl Eq for Opaque {
-    ghost laws = { same_opaque_equiv };
+    ghost laws = { on_texts_equal opaque_key };
 }
 
 /// A copy is the same service.
@@ -157,6 +158,7 @@ impl Opaque {
         ensures ok { OnOk result (AppendsLeast (SpellsSaid 32 None self.now.octets) out.old.items out.new.items) }
         ensures kept { Extends out.old.items out.new.items }
     {
+        // The clause of `choice` says that it is below 256.
         let _choice = self.choice();
         let octets = self.octets();
         out.extend_from_slice(octets)?;

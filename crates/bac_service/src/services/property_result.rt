@@ -1,7 +1,7 @@
 //! What reading a property gave (the listOfResults of ReadAccessResult, clause 21).
 
 ghost use Rattle.std.specs.Prelude.{◌≡◌};
-ghost use Rattle.bac_service.specs.Laws.Choice.{either_of};
+ghost use Rattle.bac_service.specs.Productions.{either_of};
 ghost use Rattle.bac_service.specs.PropertyResult.{SpellsPropertyResult, read_result_of};
 ghost use Rattle.bac_service.specs.Laws.PropertyResult.{property_result_parts};
 

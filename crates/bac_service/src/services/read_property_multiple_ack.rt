@@ -42,10 +42,7 @@ impl Record for ReadAccessResult {
         let (object, results) = parts;
         ReadAccessResult {
             object: object.0,
-            results: match results {
-                Some(group) => Some(group.0),
-                None => None,
-            },
+            results: results.map(|group| group.0),
         }
     }
 

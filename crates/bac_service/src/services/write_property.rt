@@ -10,6 +10,7 @@ use crate::production::open_value::{OpenValue, write_open};
 use crate::production::option::{bare, under};
 use crate::production::record::{Fields, Record};
 use crate::service::Service;
+use crate::services::object_property::{ObjectProperty, write_object_property};
 use bac_data::Any;
 use bac_tag::OutOfMemory;
 use bac_value::{Enumerated, ObjectId, Priority, Unsigned32};
@@ -32,18 +33,8 @@ pub struct WriteProperty {
     pub priority: Option<Priority>,
 }
 
-/// Its fields. The first three spell an `ObjectProperty`. They stand one by one, since that part is read by a call of
-/// its own, which makes a WriteProperty slower to read.
-type Parts = (
-    Field<ObjectId, 0>,
-    (
-        Field<Enumerated, 1>,
-        (
-            Option<Field<Unsigned32, 2>>,
-            (OpenValue<3>, Option<Field<Priority, 4>>),
-        ),
-    ),
-);
+/// Its fields.
+type Parts = (ObjectProperty, (OpenValue<3>, Option<Field<Priority, 4>>));
 
 impl Record for WriteProperty {
     ghost use Rattle.bac_service.specs.declared.services.write_property.WriteProperty.{WriteProperty};
@@ -57,7 +48,7 @@ impl Record for WriteProperty {
     ghost spells = { SpellsWriteProperty 32 };
 
     fn from_parts(parts: Parts) -> WriteProperty {
-        let (object, (property, (index, (value, priority)))) = parts;
+        let ((object, (property, index)), (value, priority)) = parts;
         WriteProperty {
             object: object.0,
             property: property.0,
@@ -68,9 +59,7 @@ impl Record for WriteProperty {
     }
 
     fn write_fields(&self, out: &mut Vec<u8>) -> Result<(), OutOfMemory> {
-        Field::<ObjectId, 0>(self.object).write(out)?;
-        Field::<Enumerated, 1>(self.property).write(out)?;
-        under::<Unsigned32, 2>(self.index).write(out)?;
+        write_object_property(self.object, self.property, self.index, out)?;
         write_open::<3>(&self.value, out)?;
         under::<Priority, 4>(self.priority).write(out)
     }

@@ -3,7 +3,7 @@
 use super::{canonical, is_written, object};
 use crate::expectations::{assert_holds, assert_same};
 use bac_service::{
-    CovNotification, Kind, PropertyReference, ReadAccessSpecification, ReadProperty,
+    CovNotification, ErrorCause, Kind, PropertyReference, ReadAccessSpecification, ReadProperty,
     ReadPropertyMultiple, Service, Unsigned32, WhoIs, decode_service, laws,
 };
 use bac_tables::octets_of;
@@ -150,6 +150,25 @@ fn property_references_are_in_order(rt: HostRuntime) {
     };
     assert_holds(&rt, whole < size, "indices");
     assert_holds(&rt, size < other, "properties");
+}
+
+// By the class, then by the code.
+#[test]
+fn causes_are_in_order(rt: HostRuntime) {
+    let cause = ErrorCause {
+        class: Enumerated(2),
+        code: Enumerated(31),
+    };
+    let of_code = ErrorCause {
+        code: Enumerated(32),
+        ..cause
+    };
+    let of_class = ErrorCause {
+        class: Enumerated(3),
+        code: Enumerated(0),
+    };
+    assert_holds(&rt, cause < of_code, "codes");
+    assert_holds(&rt, of_code < of_class, "classes");
 }
 
 // The laws are functions that do nothing: their contracts are what they say.

@@ -41,7 +41,8 @@ service_is (held.ReadPropertyMultipleAck a) (held.ReadPropertyMultipleAck b) =
 service_is (held.ReadProperty a) (held.ReadProperty b) = refl
 service_is (held.ReadPropertyAck a) (held.ReadPropertyAck b) =
     reference_first (same_object a.object b.object) (nat_eq a.property.0 b.property.0) (same_index a.index b.index) (same_values a.value b.value)
-service_is (held.WriteProperty a) (held.WriteProperty b) = refl
+service_is (held.WriteProperty a) (held.WriteProperty b) =
+    reference_first (same_object a.object b.object) (nat_eq a.property.0 b.property.0) (same_index a.index b.index) (same_values a.value b.value && option_eq nat_eq a.priority b.priority)
 service_is (held.ReadPropertyMultiple a) (held.ReadPropertyMultiple b) = refl
 service_is (held.WritePropertyMultiple a) (held.WritePropertyMultiple b) = refl
 service_is (held.WhoIs a) (held.WhoIs b) = refl

@@ -4,11 +4,12 @@ use Rattle.bac_service.specs.Laws.Refusal.{reach_first, reach_either, reach_take
 use Rattle.bac_service.proofs.production.choice.ChoiceProduction.read.Goals as goal
 
 pub returns-in-Ok-clause-found : goal.returns-in-Ok-clause-found
-returns-in-Ok-clause-found g c = either_first g.A.Production.is_sound g.B.Production.is_sound g.met.A.Production.lawful g.met.B.Production.lawful c.requires c.in-Ok.ensures.found
+returns-in-Ok-clause-found g c =
+    rw (c.with.ensures, c.split-part.ensures) (either_first g.A.Production.is_sound g.B.Production.is_sound g.met.A.Production.lawful g.met.B.Production.lawful c.requires c.in-Ok.ensures.found)
 
 pub returns-in-Ok-clause-reach : goal.returns-in-Ok-clause-reach
 returns-in-Ok-clause-reach g c =
-    reach_first g.A.Production.is_sound g.B.Production.is_sound g.met.A.Production.lawful g.met.B.Production.lawful c.requires c.in-Ok.ensures.found c.in-Ok.ensures.reach (reach_taken c.in-Ok.ensures.found c.in-Ok.ensures.reach)
+    rw (c.with.ensures, c.split-part.ensures) (reach_first g.A.Production.is_sound g.B.Production.is_sound g.met.A.Production.lawful g.met.B.Production.lawful c.requires c.in-Ok.ensures.found c.in-Ok.ensures.reach (reach_taken c.in-Ok.ensures.found c.in-Ok.ensures.reach))
 
 pub returns-in-Ok-read-clause-reach : goal.returns-in-Ok-read-clause-reach
 returns-in-Ok-read-clause-reach g c =

@@ -3,8 +3,9 @@ use Rattle.bac_service.specs.Laws.Field.{field_longest, field_reach}
 use Rattle.bac_service.proofs.production.field.ApplicationFieldProduction.read.Goals as goal
 
 pub returns-clause-found : goal.returns-clause-found
-returns-clause-found g c = field_longest g.T.Primitive.contents None g.T.Primitive.APP g.met.T.Primitive.one_value c.args.octets.now c.in_ok-front.front.value c.in_ok-front.front.taken c.in_ok-front.ensures.found
+returns-clause-found g c =
+    rw (c.with.ensures, c.split-value.ensures) (field_longest g.T.Primitive.contents None g.T.Primitive.APP g.met.T.Primitive.one_value c.args.octets.now c.in_ok-front.front.value c.in_ok-front.front.taken c.in_ok-front.ensures.found)
 
 pub returns-clause-reach : goal.returns-clause-reach
 returns-clause-reach g c =
-    field_reach g.T.Primitive.contents None g.T.Primitive.APP g.met.T.Primitive.one_value c.args.octets.now c.in_ok-front.front.value c.in_ok-front.front.taken c.in_ok-front.front.reach c.in_ok-front.ensures.found c.in_ok-front.ensures.place c.in_ok-front.ensures.short
+    rw (c.with.ensures, c.split-value.ensures) (field_reach g.T.Primitive.contents None g.T.Primitive.APP g.met.T.Primitive.one_value c.args.octets.now c.in_ok-front.front.value c.in_ok-front.front.taken c.in_ok-front.front.reach c.in_ok-front.ensures.found c.in_ok-front.ensures.place c.in_ok-front.ensures.short)

@@ -7,10 +7,13 @@ pub read-requires : goal.read-requires
 read-requires g c = group_sound g.P.Production.openers g.P.Production.continuers g.P.Production.may_be_empty g.row.N g.P.Production.is_sound c.requires
 
 pub returns-clause-found : goal.returns-clause-found
-returns-clause-found g c = group_longest g.row.N c.in_ok-front.ensures.found
+returns-clause-found g c = rw (c.with.ensures, c.split-part.ensures) (group_longest g.row.N c.in_ok-front.ensures.found)
+
+pub returns-clause-mark : goal.returns-clause-mark
+returns-clause-mark g c = rw (c.with.ensures, c.split-part.ensures) c.in_ok-front.ensures.mark
 
 pub returns-clause-reach : goal.returns-clause-reach
-returns-clause-reach g c = group_reach g.row.N c.in_ok-front.ensures.reach
+returns-clause-reach g c = rw (c.with.ensures, c.split-part.ensures) (group_reach g.row.N c.in_ok-front.ensures.reach)
 
 pub returns-in_err-front-clause-refused : goal.returns-in_err-front-clause-refused
 returns-in_err-front-clause-refused g c =

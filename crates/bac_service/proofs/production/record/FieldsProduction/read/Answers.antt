@@ -10,4 +10,4 @@ returns-in_err-front-clause-refused g c =
     rw (p.1, p.2) (refused_also c.in_err-front.field-0.0 (λ refusal h. record_refused g.met.R.Record.of_parts h) c.in_err-front.ensures.refused)
 
 pub returns-clause-mark : goal.returns-clause-mark
-returns-clause-mark g c = mark_alike c.from_parts.ensures c.in_ok-front.ensures.mark
+returns-clause-mark g c = rw c.with.ensures (mark_alike c.from_parts.ensures (rw c.split-parts.ensures c.in_ok-front.ensures.mark))

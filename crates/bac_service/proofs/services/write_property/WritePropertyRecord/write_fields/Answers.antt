@@ -4,4 +4,4 @@ use Rattle.bac_service.proofs.services.write_property.WritePropertyRecord.write_
 
 pub returns-clause-ok : goal.returns-clause-ok
 returns-clause-ok c =
-    on_ok_weaker c.write-4.result (λ last. appends_joined c.in_ok-write.ensures.ok (appends_joined c.in_ok-write-2.ensures.ok (appends_joined (rw c.under.ensures at c.in_ok-write-3.ensures.ok) (appends_joined c.in_ok-write_open.ensures.ok (rw c.under-2.ensures at last))))) c.write-4.ensures.ok
+    on_ok_weaker c.write.result (λ last. appends_joined c.in_ok-write_object_property.ensures.ok (appends_joined c.in_ok-write_open.ensures.ok (rw c.under.ensures at last))) c.write.ensures.ok
