@@ -21,7 +21,7 @@ pub enum Apdu {
     SimpleAck(SimpleAck),
     /// Type 3, in one piece: an answer with contents.
     ComplexAck(ComplexAck),
-    /// Type 4: what was received of segments.
+    /// Type 4: the acknowledgement of segments.
     SegmentAck(SegmentAck),
     /// Type 5: the answer to a request that failed.
     Error(ErrorPdu),

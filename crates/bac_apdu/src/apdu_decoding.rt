@@ -52,7 +52,7 @@ fn decode_pdu<V: ApduVisitor>(
 /// Decodes the APDU that all the octets spell, and gives it to a visitor. Returns what the visitor made of it.
 ///
 /// # Errors
-/// As [`decode_apdu_marked`]. The visitor is then given nothing, and the place stays as it was.
+/// As those of [`decode_apdu`]. The visitor is then given nothing, and the place stays as it was.
 #[inline(always)]
 pub fn visit_apdu<V: ApduVisitor>(
     alloc: Global,
@@ -88,14 +88,11 @@ impl ApduVisitor for Keep {
     }
 }
 
-/// Decodes the APDU that all the octets spell, and gives the place of the first octet that differs from the canonical
-/// ones.
+/// Decodes the APDU that all the octets spell. Returns it with its mark: the place of the first octet that differs from
+/// the canonical ones.
 ///
 /// # Errors
-/// At the first octet with which no spelling of an APDU goes on: `PduType` at the first, `Window` at an octet for a
-/// window that is not 1 to 127, `Trailing` where the octets in front of it spell one, else the reasons of
-/// [`bac_service::decode_service_marked`]; `Short` where all the octets begin a spelling. `OutOfMemory` at 0 where
-/// memory is refused, which is told neither of SimpleACK, SegmentACK, Reject and Abort nor of services that want none.
+/// As those of [`decode_apdu`].
 pub fn decode_apdu_marked(alloc: Global, octets: &[u8]) -> Result<(Apdu, Option<usize>), Refusal>
     ensures found { IfOk result (λ found. SpellsApdu (value_of found.0) octets.now) }
     ensures mark { IfOk result (λ found. HasMark (SpellsApdu (value_of found.0)) octets.now found.1) }
@@ -108,7 +105,7 @@ pub fn decode_apdu_marked(alloc: Global, octets: &[u8]) -> Result<(Apdu, Option<
     decode_pdu(alloc, octets, Keep, &mut ())
 }
 
-/// Keeps the APDU alone.
+/// Keeps the APDU without its mark.
 #[derive(Drop)]
 struct KeepApdu;
 
@@ -128,7 +125,15 @@ impl ApduVisitor for KeepApdu {
 /// Decodes the APDU that all the octets spell.
 ///
 /// # Errors
-/// As [`decode_apdu_marked`].
+/// The place is that of the first octet with which no spelling of an APDU goes on. The reason is one of these:
+///
+/// - `Short` where all the octets begin a spelling, and nowhere else: the place is their number;
+/// - `Trailing` where the octets in front of the place spell an APDU, and nowhere else;
+/// - `PduType` at the first octet, where the type is above 7;
+/// - `Window` at the octet of a window that is not 1 to 127;
+/// - `Tag`, `Length`, `Content` or `Depth` in a service;
+/// - `OutOfMemory` where memory is refused: the place is 0. It is never told of a SimpleACK, SegmentACK, Reject or Abort,
+///   nor of a service that needs no memory.
 ///
 /// # Examples
 /// ```rust

@@ -8,7 +8,7 @@ use crate::apdu::Apdu;
 use bac_tag::OutOfMemory;
 use std::alloc::Global;
 
-/// For how many octets there is room at first, as most APDUs want.
+/// How many octets there is room for at first: as many as most APDUs need.
 const FIRST_ROOM: usize = 64;
 
 /// Appends the canonical octets of an APDU, its least spelling, behind what stands in `out`.
@@ -32,7 +32,7 @@ pub fn append_apdu(apdu: &Apdu, out: &mut Vec<u8>) -> Result<(), OutOfMemory>
     }
 }
 
-/// The canonical octets of an APDU: its least spelling.
+/// Returns the canonical octets of an APDU: its least spelling.
 ///
 /// # Errors
 /// `OutOfMemory` where memory is refused.

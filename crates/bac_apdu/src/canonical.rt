@@ -1,4 +1,4 @@
-//! APDUs in canonical octets, which are found without the APDU.
+//! APDUs in canonical octets, which are recognised without making the APDU.
 
 ghost use Rattle.std.specs.Prelude.{IsTrue};
 ghost use Rattle.bac_tag.specs.Spelling.{IsCanonical};
@@ -10,8 +10,9 @@ use crate::heads::has_bit;
 use crate::unconfirmed_request::is_canonical_unconfirmed_request;
 use std::alloc::Global;
 
-/// Whether the octets are the canonical ones of an APDU (clause 20.1) that carries a service, if that is found at once. False
-/// tells nothing of the octets: it is always told of segments, of errors and of APDUs that end behind their head.
+/// Returns whether the octets are found at once to be the canonical ones of an APDU (clause 20.1) that carries a
+/// service. False tells nothing of the octets: it is always told of segments, of errors and of APDUs that end behind
+/// their head.
 pub fn is_canonical_apdu(alloc: Global, octets: &[u8]) -> bool
     ensures { IsTrue result → IsCanonical SpellsApdu octets.now }
 {

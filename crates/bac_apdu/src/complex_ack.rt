@@ -18,7 +18,7 @@ use std::marker::Model;
 
 /// An answer with contents, in one piece.
 ///
-/// Octets (clause 20.1.5): type 3 in bits 7 to 4, SEG 0 in bit 3; the invoke id; the service choice; those of the
+/// Octets (clause 20.1.5): type 3 in bits 7 to 4, SEG 0 in bit 3; the invoke id; the service choice; the octets of the
 /// service. Bits 2 to 0 of the first octet are ignored, and 0 in canonical form.
 #[derive(Clone, Debug, PartialEq, Eq)]
 pub struct ComplexAck {
@@ -55,10 +55,10 @@ impl Model for ComplexAck {
 }
 
 impl ComplexAck {
-    /// The answer with this invoke id and service.
+    /// Returns the answer with this invoke id and service.
     ///
     /// # Errors
-    /// The service, where its kind is another.
+    /// The service itself, where it is of another kind.
     pub fn new(invoke: u8, service: Service) -> Result<ComplexAck, Service>
         ensures ok { IsOk result ↔ ((service_of service).kind ≡ of_complex_ack) }
         ensures value { IfOk result (λ ack. ack ≡ record { invoke = invoke; service = service }) }
@@ -70,7 +70,7 @@ impl ComplexAck {
         Ok(ComplexAck { invoke, service })
     }
 
-    /// The invoke id of the request.
+    /// Returns the invoke id of the request.
     #[inline(always)]
     pub fn invoke(&self) -> u8
         ensures { result ≡ self.now.invoke }
@@ -78,7 +78,7 @@ impl ComplexAck {
         self.invoke
     }
 
-    /// Its service.
+    /// Returns its service.
     #[inline(always)]
     pub fn service(&self) -> &Service
         ensures service { result.now ≡ self.now.service }
@@ -87,7 +87,7 @@ impl ComplexAck {
         &self.service
     }
 
-    /// Appends the canonical octets. Where memory is refused `out` stays as it was.
+    /// Appends the canonical octets. Where memory is refused, `out` stays as it was.
     pub(crate) fn append(&self, out: &mut Vec<u8>) -> Result<(), OutOfMemory>
         ensures written { OnOk result (AppendsLeast (SpellsApdu (complex_ack self.now.invoke (service_of self.now.service))) out.old.items out.new.items) }
         ensures unchanged { OnErr result (out.new.items ≡ out.old.items) }
@@ -98,8 +98,8 @@ impl ComplexAck {
     }
 }
 
-/// Whether the octets are the canonical ones of an answer in one piece, if that is found at once. False tells nothing of
-/// them.
+/// Returns whether the octets are found at once to be the canonical ones of an answer in one piece. False tells nothing
+/// of them.
 pub(crate) fn is_canonical_complex_ack(alloc: Global, octets: &[u8]) -> bool
     requires pdu { HasType 3 octets.now }
     requires whole { HasSeg 0 octets.now }

@@ -21,7 +21,7 @@ use bac_tag::{OutOfMemory, Refusal, Why};
 use std::alloc::Global;
 use std::marker::Model;
 
-/// What the head of a request says, in one piece or in segments, beside its service choice.
+/// What the head of a request, in one piece or in segments, says besides its service choice.
 #[derive(Clone, Copy, Debug, PartialEq, Eq)]
 pub struct RequestHead {
     /// The invoke id, which the answer repeats.
@@ -36,9 +36,9 @@ pub struct RequestHead {
 
 /// A request that wants an answer, in one piece.
 ///
-/// Octets (clause 20.1.2): type 0 in bits 7 to 4, SEG 0 in bit 3, SA in bit 1; max-segments in bits 6 to 4 and
-/// max-response in bits 3 to 0; the invoke id; the service choice; those of the service. Bits 2 and 0 of the first
-/// octet and bit 7 of the second are ignored, and 0 in canonical form.
+/// Octets (clause 20.1.2): type 0 in bits 7 to 4, SEG 0 in bit 3, SA in bit 1; max-segments-accepted in bits 6 to 4 and
+/// max-APDU-length-accepted in bits 3 to 0; the invoke id; the service choice; the octets of the service. Bits 2 and 0
+/// of the first octet and bit 7 of the second are ignored, and 0 in canonical form.
 #[derive(Clone, Debug, PartialEq, Eq)]
 pub struct ConfirmedRequest {
     head: RequestHead,
@@ -74,10 +74,10 @@ impl Model for ConfirmedRequest {
 }
 
 impl ConfirmedRequest {
-    /// The request with this head and service.
+    /// Returns the request with this head and service.
     ///
     /// # Errors
-    /// The service, where its kind is another.
+    /// The service itself, where it is of another kind.
     pub fn new(head: RequestHead, service: Service) -> Result<ConfirmedRequest, Service>
         ensures ok { IsOk result ↔ ((service_of service).kind ≡ Confirmed) }
         ensures value { IfOk result (λ request. request ≡ record { head = head; service = service }) }
@@ -89,14 +89,14 @@ impl ConfirmedRequest {
         Ok(ConfirmedRequest { head, service })
     }
 
-    /// Its head.
+    /// Returns its head.
     pub fn head(&self) -> RequestHead
         ensures { result ≡ self.now.head }
     {
         self.head
     }
 
-    /// Its service.
+    /// Returns its service.
     pub fn service(&self) -> &Service
         ensures service { result.now ≡ self.now.service }
         ensures kind { (service_of result.now).kind ≡ Confirmed }
@@ -104,7 +104,7 @@ impl ConfirmedRequest {
         &self.service
     }
 
-    /// Appends the canonical octets. Where memory is refused `out` stays as it was.
+    /// Appends the canonical octets. Where memory is refused, `out` stays as it was.
     pub(crate) fn append(&self, out: &mut Vec<u8>) -> Result<(), OutOfMemory>
         ensures written { OnOk result (AppendsLeast (SpellsApdu (confirmed_request self.now.head (service_of self.now.service))) out.old.items out.new.items) }
         ensures unchanged { OnErr result (out.new.items ≡ out.old.items) }
@@ -121,7 +121,7 @@ impl ConfirmedRequest {
     }
 }
 
-/// The head that the octets in front of a service say, and the canonical ones of it.
+/// Returns the head that the octets in front of a service spell, and its canonical octets.
 #[inline(always)]
 fn read_head(first: u8, limits: u8, invoke: u8, choice: u8) -> (RequestHead, [u8; 4])
     ensures sa { first / 2 ^ 1 % 2 ≡ bit_of result.0.sa }
@@ -145,8 +145,8 @@ fn read_head(first: u8, limits: u8, invoke: u8, choice: u8) -> (RequestHead, [u8
     (head, least)
 }
 
-/// Whether the octets are the canonical ones of a request in one piece, if that is found at once. False tells nothing of
-/// them.
+/// Returns whether the octets are found at once to be the canonical ones of a request in one piece. False tells nothing
+/// of them.
 pub(crate) fn is_canonical_confirmed_request(alloc: Global, octets: &[u8]) -> bool
     requires pdu { HasType 0 octets.now }
     requires whole { HasSeg 0 octets.now }

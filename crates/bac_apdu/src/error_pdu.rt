@@ -18,8 +18,8 @@ use std::marker::Model;
 
 /// The answer to a request that failed.
 ///
-/// Octets (clause 20.1.7): type 5 in bits 7 to 4; the invoke id; the service choice; those of the error. Bits 3 to 0 of
-/// the first octet are ignored, and 0 in canonical form.
+/// Octets (clause 20.1.7): type 5 in bits 7 to 4; the invoke id; the service choice; the octets of the error.
+/// Bits 3 to 0 of the first octet are ignored, and 0 in canonical form.
 #[derive(Clone, Debug, PartialEq, Eq)]
 pub struct ErrorPdu {
     invoke: u8,
@@ -55,10 +55,10 @@ impl Model for ErrorPdu {
 }
 
 impl ErrorPdu {
-    /// The answer with this invoke id and error.
+    /// Returns the answer with this invoke id and error.
     ///
     /// # Errors
-    /// The service, where its kind is another.
+    /// The service itself, where it is of another kind.
     pub fn new(invoke: u8, service: Service) -> Result<ErrorPdu, Service>
         ensures ok { IsOk result ↔ ((service_of service).kind ≡ of_error) }
         ensures value { IfOk result (λ answer. answer ≡ record { invoke = invoke; service = service }) }
@@ -70,7 +70,7 @@ impl ErrorPdu {
         Ok(ErrorPdu { invoke, service })
     }
 
-    /// The invoke id of the request.
+    /// Returns the invoke id of the request.
     #[inline(always)]
     pub fn invoke(&self) -> u8
         ensures { result ≡ self.now.invoke }
@@ -78,7 +78,7 @@ impl ErrorPdu {
         self.invoke
     }
 
-    /// The error, as a service.
+    /// Returns the error, as a service.
     #[inline(always)]
     pub fn service(&self) -> &Service
         ensures service { result.now ≡ self.now.service }
@@ -87,7 +87,7 @@ impl ErrorPdu {
         &self.service
     }
 
-    /// Appends the canonical octets. Where memory is refused `out` stays as it was.
+    /// Appends the canonical octets. Where memory is refused, `out` stays as it was.
     pub(crate) fn append(&self, out: &mut Vec<u8>) -> Result<(), OutOfMemory>
         ensures written { OnOk result (AppendsLeast (SpellsApdu (error self.now.invoke (service_of self.now.service))) out.old.items out.new.items) }
         ensures unchanged { OnErr result (out.new.items ≡ out.old.items) }

@@ -9,7 +9,7 @@ ghost use Rattle.bac_apdu.specs.Apdus.{ApduValue, segment, SpellsApdu, IsSegment
 ghost use Rattle.bac_apdu.specs.Decoded.{is_small, begins_small};
 ghost use Rattle.bac_apdu.specs.FormerApdus.{SpellsFormerApdu, IsKept};
 
-/// No list spells two APDUs.
+/// No list of octets spells two APDUs.
 pub fn apdus_have_one_value()
     ensures { (v w : ApduValue) (b : List ℕ) → SpellsApdu v b → SpellsApdu w b → v ≡ w }
 {
@@ -23,15 +23,15 @@ pub fn canonical_octets_tell_the_apdu()
     apdus_have_one_value();
 }
 
-/// Each APDU that is spelled has canonical octets.
+/// Each APDU that some octets spell has canonical octets.
 pub fn apdus_have_canonical_octets()
     ensures { (v : ApduValue) (b : List ℕ) → SpellsApdu v b → (c : List ℕ) × IsLeast (SpellsApdu v) c }
 {
     bac_service::laws::services_have_canonical_octets();
 }
 
-/// The canonical octets of a segment are a head, of 6 octets for one of a request and 5 for one of an answer, and
-/// behind it its piece.
+/// The canonical octets of a segment are a head and behind it its piece. The head has 6 octets for a segment of a
+/// request, and 5 for one of an answer.
 pub fn segments_are_heads_and_pieces()
     ensures { (head : SegHead) (seq size : ℕ) (more : Bool) (choice : ℕ) (piece b : List ℕ) → IsLeast (SpellsApdu (segment head seq size more choice piece)) b → (front : List ℕ) × (b ≡ front ++ piece) × (length front ≡ segment_head_size head) }
 {}
@@ -42,13 +42,13 @@ pub fn segmented_apdus_are_segments()
     ensures answers { (v : ApduValue) (o : ℕ) (b : List ℕ) → type_at o ≡ 3 → seg_at o ≡ 1 → SpellsApdu v (o ∷ b) → IsSegment v }
 {}
 
-/// Whether an APDU is small is told by each list that spells it, as decoding tells it of any octets.
+/// Each list that spells an APDU tells whether the APDU is small, as decoding tells it of any octets.
 pub fn octets_tell_small_apdus()
     ensures { (v : ApduValue) (b : List ℕ) → SpellsApdu v b → begins_small b ≡ is_small v }
 {}
 
-/// Formerly WritePropertyMultiple and its error were opaque, and at most 16 groups nested. Each other APDU that was
-/// spelled then is still spelled by the same lists, and has the same canonical octets.
+/// Formerly, WritePropertyMultiple and its error were opaque, and at most 16 groups nested. Each other APDU that was
+/// spelled then is still spelled by the same lists of octets, and has the same canonical octets.
 pub fn former_apdus_are_kept()
     ensures spelled { (v : ApduValue) (b : List ℕ) → IsKept v → SpellsFormerApdu v b → SpellsApdu v b }
     ensures least { (v : ApduValue) (b : List ℕ) → IsKept v → IsLeast (SpellsFormerApdu v) b → IsLeast (SpellsApdu v) b }

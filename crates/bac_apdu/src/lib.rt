@@ -1,7 +1,9 @@
 //! APDUs (clause 20.1): the head of each of the eight, and behind it a service, a segment's piece or nothing.
 //!
-//! [`decode_apdu`] reads an APDU, and [`encode_apdu`] and [`append_apdu`] write one. [`visit_apdu`] makes of an APDU what
-//! an [`ApduVisitor`] makes, where the APDU was decoded.
+//! [`decode_apdu`] reads an APDU, and [`encode_apdu`] and [`append_apdu`] write one. What only the layers above call
+//! stands in [`layers`].
+//!
+//! In the examples `rt` is the program's `HostRuntime`.
 #![tactic(auto)]
 
 mod abort;
@@ -28,7 +30,7 @@ mod window;
 
 pub use abort::Abort;
 pub use apdu::Apdu;
-pub use apdu_decoding::{decode_apdu, decode_apdu_marked, visit_apdu};
+pub use apdu_decoding::{decode_apdu, decode_apdu_marked};
 pub use apdu_encoding::{append_apdu, encode_apdu};
 pub use complex_ack::ComplexAck;
 pub use confirmed_request::{ConfirmedRequest, RequestHead};
@@ -40,5 +42,4 @@ pub use segment::{SegHead, Segment};
 pub use segment_ack::SegmentAck;
 pub use simple_ack::SimpleAck;
 pub use unconfirmed_request::UnconfirmedRequest;
-pub use visiting::ApduVisitor;
 pub use window::Window;

@@ -23,7 +23,7 @@ impl Model for MaxResp {
 }
 
 impl MaxResp {
-    /// The number, where it is 0 to 15.
+    /// Returns the limit with this number, or None above 15.
     pub fn new(number: u8) -> Option<MaxResp>
         ensures some { IsSome result ↔ (number < 16) }
         ensures value { IfSome result (λ resp. resp ≡ number) }
@@ -34,7 +34,7 @@ impl MaxResp {
         Some(MaxResp { number })
     }
 
-    /// Bits 3 to 0 of an octet.
+    /// Returns the limit with the number in bits 3 to 0 of an octet.
     #[inline(always)]
     pub(crate) fn of_octet(octet: u8) -> MaxResp
         ensures { result ≡ octet % 16 }
@@ -42,7 +42,7 @@ impl MaxResp {
         MaxResp { number: octet & 15 }
     }
 
-    /// Its number, 0 to 15.
+    /// Returns its number, 0 to 15.
     #[inline(always)]
     pub fn number(&self) -> u8
         ensures number { result ≡ self.now }

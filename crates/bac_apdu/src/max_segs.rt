@@ -23,7 +23,7 @@ impl Model for MaxSegs {
 }
 
 impl MaxSegs {
-    /// The number, where it is 0 to 7.
+    /// Returns the limit with this number, or None above 7.
     pub fn new(number: u8) -> Option<MaxSegs>
         ensures some { IsSome result ↔ (number < 8) }
         ensures value { IfSome result (λ segs. segs ≡ number) }
@@ -34,7 +34,7 @@ impl MaxSegs {
         Some(MaxSegs { number })
     }
 
-    /// Bits 6 to 4 of an octet.
+    /// Returns the limit with the number in bits 6 to 4 of an octet.
     #[inline(always)]
     pub(crate) fn of_octet(octet: u8) -> MaxSegs
         ensures { result ≡ octet / 16 % 8 }
@@ -44,7 +44,7 @@ impl MaxSegs {
         }
     }
 
-    /// Its number, 0 to 7.
+    /// Returns its number, 0 to 7.
     #[inline(always)]
     pub fn number(&self) -> u8
         ensures number { result ≡ self.now }

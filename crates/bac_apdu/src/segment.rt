@@ -17,12 +17,12 @@ use bac_tag::layers::first_difference;
 use bac_tag::{OutOfMemory, Refusal, Why};
 use std::alloc::Global;
 
-/// Of what a segment is one.
+/// What a segment is part of: a request or an answer.
 #[derive(Clone, Copy, Debug, PartialEq, Eq)]
 pub enum SegHead {
-    /// Of a Confirmed-Request, with its head.
+    /// A Confirmed-Request, with its head.
     Request(RequestHead),
-    /// Of a ComplexACK.
+    /// A ComplexACK.
     Ack {
         /// The invoke id of the request.
         invoke: u8,
@@ -32,19 +32,19 @@ pub enum SegHead {
 /// One segment of a request or of an answer.
 ///
 /// Octets of a segment of a request (clause 20.1.2): type 0 in bits 7 to 4, SEG 1 in bit 3, MOR in bit 2, SA in bit 1;
-/// max-segments in bits 6 to 4 and max-response in bits 3 to 0; the invoke id; the sequence number; the proposed
-/// window; the service choice; the piece. Bit 0 of the first octet and bit 7 of the second are ignored, and 0 in
-/// canonical form.
+/// max-segments-accepted in bits 6 to 4 and max-APDU-length-accepted in bits 3 to 0; the invoke id; the sequence
+/// number; the proposed window; the service choice; the piece. Bit 0 of the first octet and bit 7 of the second are
+/// ignored, and 0 in canonical form.
 ///
-/// Of an answer (clause 20.1.5): type 3 in bits 7 to 4, SEG 1 in bit 3, MOR in bit 2; the invoke id; the sequence
-/// number; the proposed window; the service choice; the piece. Bits 1 and 0 of the first octet are ignored, and 0 in
-/// canonical form.
+/// Octets of a segment of an answer (clause 20.1.5): type 3 in bits 7 to 4, SEG 1 in bit 3, MOR in bit 2; the invoke
+/// id; the sequence number; the proposed window; the service choice; the piece. Bits 1 and 0 of the first octet are
+/// ignored, and 0 in canonical form.
 #[derive(Clone, Debug, PartialEq, Eq, Drop)]
 pub struct Segment {
     // Words stand in front of octets, so that an APDU is moved in whole words.
-    /// Its part of the octets of the service, of which it may have none.
+    /// Its part of the octets of the service, which may be empty.
     pub piece: Vec<u8>,
-    /// Of what it is a segment.
+    /// What the segment is part of: a request or an answer.
     pub head: SegHead,
     /// Its number among the segments.
     pub seq: u8,
@@ -56,7 +56,7 @@ pub struct Segment {
     pub choice: u8,
 }
 
-/// Appends the octets of a head, and a piece behind it. Where memory is refused `out` stays as it was.
+/// Appends the octets of a head, and a piece behind it. Where memory is refused, `out` stays as it was.
 fn append_piece(head: &[u8], piece: &[u8], out: &mut Vec<u8>) -> Result<(), OutOfMemory>
     ensures written { OnOk result (out.new.items ≡ (out.old.items ++ head.now) ++ piece.now) }
     ensures unchanged { OnErr result (out.new.items ≡ out.old.items) }
@@ -71,7 +71,7 @@ fn append_piece(head: &[u8], piece: &[u8], out: &mut Vec<u8>) -> Result<(), OutO
 }
 
 impl Segment {
-    /// Appends the canonical octets. Where memory is refused `out` stays as it was.
+    /// Appends the canonical octets. Where memory is refused, `out` stays as it was.
     pub(crate) fn append(&self, out: &mut Vec<u8>) -> Result<(), OutOfMemory>
         ensures written { OnOk result (AppendsLeast (SpellsApdu (segment self.now.head self.now.seq self.now.window self.now.more self.now.choice self.now.piece.items)) out.old.items out.new.items) }
         ensures unchanged { OnErr result (out.new.items ≡ out.old.items) }

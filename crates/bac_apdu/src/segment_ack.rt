@@ -1,4 +1,4 @@
-//! What was received of segments (SegmentACK, clause 20.1.6).
+//! Acknowledgements of segments (SegmentACK, clause 20.1.6).
 
 ghost use Rattle.std.specs.Prelude.{◌≡◌, OnOk, OnErr};
 ghost use Rattle.bac_tag.specs.Spelling.{AppendsLeast};
@@ -12,7 +12,7 @@ use crate::visiting::ApduVisitor;
 use crate::window::Window;
 use bac_tag::{OutOfMemory, Refusal, Why};
 
-/// What was received of segments.
+/// The acknowledgement of segments.
 ///
 /// Octets (clause 20.1.6): type 4 in bits 7 to 4, NAK in bit 1, SRV in bit 0; the invoke id; the sequence number; the
 /// actual window. Bits 3 and 2 of the first octet are ignored, and 0 in canonical form.
@@ -31,7 +31,7 @@ pub struct SegmentAck {
 }
 
 impl SegmentAck {
-    /// Appends the canonical octets. Where memory is refused `out` stays as it was.
+    /// Appends the canonical octets. Where memory is refused, `out` stays as it was.
     pub(crate) fn append(&self, out: &mut Vec<u8>) -> Result<(), OutOfMemory>
         ensures written { OnOk result (AppendsLeast (SpellsApdu (segment_ack self.now.invoke self.now.nak self.now.srv self.now.seq self.now.window)) out.old.items out.new.items) }
         ensures unchanged { OnErr result (out.new.items ≡ out.old.items) }

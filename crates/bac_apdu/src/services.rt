@@ -36,8 +36,8 @@ pub(crate) fn decode_behind(
     }
 }
 
-/// Whether the octets are these, the canonical ones of a head, and behind them the canonical ones of a service, if that is
-/// found at once. False tells nothing of them.
+/// Returns whether the octets are found at once to be those of `head`, the canonical ones of a head, and behind them
+/// the canonical ones of a service. False tells nothing of them.
 #[inline(always)]
 pub(crate) fn is_canonical_behind(
     alloc: Global,
@@ -53,7 +53,7 @@ pub(crate) fn is_canonical_behind(
     front == head && is_canonical_service(alloc, kind, choice, rest)
 }
 
-/// Appends the octets of a head, and the canonical ones of a service behind it. Where memory is refused `out` stays as
+/// Appends the octets of a head, and the canonical ones of a service behind it. Where memory is refused, `out` stays as
 /// it was.
 #[inline(always)]
 pub(crate) fn append_behind(

@@ -18,8 +18,8 @@ use std::marker::Model;
 
 /// A request that wants no answer.
 ///
-/// Octets (clause 20.1.3): type 1 in bits 7 to 4; the service choice; those of the service. Bits 3 to 0 of the first
-/// octet are ignored, and 0 in canonical form.
+/// Octets (clause 20.1.3): type 1 in bits 7 to 4; the service choice; the octets of the service. Bits 3 to 0 of the
+/// first octet are ignored, and 0 in canonical form.
 #[derive(Clone, Debug, PartialEq, Eq)]
 pub struct UnconfirmedRequest {
     service: Service,
@@ -52,10 +52,10 @@ impl Model for UnconfirmedRequest {
 }
 
 impl UnconfirmedRequest {
-    /// The request with this service.
+    /// Returns the request with this service.
     ///
     /// # Errors
-    /// The service, where its kind is another.
+    /// The service itself, where it is of another kind.
     pub fn new(service: Service) -> Result<UnconfirmedRequest, Service>
         ensures ok { IsOk result ↔ ((service_of service).kind ≡ Unconfirmed) }
         ensures value { IfOk result (λ request. request ≡ service) }
@@ -67,7 +67,7 @@ impl UnconfirmedRequest {
         Ok(UnconfirmedRequest { service })
     }
 
-    /// Its service.
+    /// Returns its service.
     #[inline(always)]
     pub fn service(&self) -> &Service
         ensures service { result.now ≡ self.now }
@@ -76,7 +76,7 @@ impl UnconfirmedRequest {
         &self.service
     }
 
-    /// Appends the canonical octets. Where memory is refused `out` stays as it was.
+    /// Appends the canonical octets. Where memory is refused, `out` stays as it was.
     pub(crate) fn append(&self, out: &mut Vec<u8>) -> Result<(), OutOfMemory>
         ensures written { OnOk result (AppendsLeast (SpellsApdu (unconfirmed_request (service_of self.now))) out.old.items out.new.items) }
         ensures unchanged { OnErr result (out.new.items ≡ out.old.items) }
@@ -86,8 +86,8 @@ impl UnconfirmedRequest {
     }
 }
 
-/// Whether the octets are the canonical ones of a request that wants no answer, if that is found at once. False tells nothing of
-/// them.
+/// Returns whether the octets are found at once to be the canonical ones of a request that wants no answer. False tells
+/// nothing of them.
 pub(crate) fn is_canonical_unconfirmed_request(alloc: Global, octets: &[u8]) -> bool
     requires { HasType 1 octets.now }
     ensures { IsTrue result → IsCanonical SpellsApdu octets.now }

@@ -5,16 +5,17 @@ ghost use Rattle.bac_apdu.specs.Apdus.{ApduValue, value_of};
 
 use crate::apdu::Apdu;
 
-/// What is made of an APDU where it was decoded. So it need not be moved to whoever asked for it, which takes longer
-/// than to decode a short one.
+/// What is made of an APDU where it was decoded. So the APDU need not be moved to the caller who asked for it, which
+/// takes longer than to decode a short one.
 pub trait ApduVisitor: Drop {
-    /// What it may change.
+    /// What the visitor may change.
     type Place;
 
-    /// What it gives.
+    /// What the visitor returns.
     type Made;
 
-    /// What it makes of an APDU and of its mark: from what the place held, what the place holds and what it gives.
+    /// What the visitor makes of an APDU and of its mark: a relation between what the place held before, what it holds
+    /// afterwards, and what the visitor returns.
     ghost makes: { Self → ApduValue → Option ℕ → Self.Place → Self.Place → Self.Made → Type 0 };
 
     /// Takes an APDU, and the place of the first octet that differs from its canonical ones.

@@ -5,8 +5,8 @@ ghost use Rattle.bac_tag.specs.HeadOctets.{IsWindow};
 
 use std::marker::Model;
 
-/// How many segments may be sent before a SegmentACK is awaited, 1 to 127 (clauses 20.1.2.8, 20.1.5.5 and 20.1.6.6).
-#[derive(Clone, Copy, Debug, PartialEq, Eq)]
+/// How many segments may be sent before a SegmentACK is awaited, 1 to 127 (clauses 20.1.2.8, 20.1.5.5 and 20.1.6.5).
+#[derive(Clone, Copy, Debug, PartialEq, Eq, PartialOrd, Ord, Hash)]
 pub struct Window {
     number: u8,
 }
@@ -25,7 +25,7 @@ impl Model for Window {
 }
 
 impl Window {
-    /// The window of this size, where it is 1 to 127.
+    /// Returns the window of this size, or None where it is not 1 to 127.
     pub fn new(number: u8) -> Option<Window>
         ensures some { IsSome result ↔ IsWindow number }
         ensures value { IfSome result (λ window. window ≡ number) }
@@ -36,7 +36,7 @@ impl Window {
         Some(Window { number })
     }
 
-    /// Its size, 1 to 127.
+    /// Returns its size, 1 to 127.
     #[inline(always)]
     pub fn number(&self) -> u8
         ensures number { result ≡ self.now }

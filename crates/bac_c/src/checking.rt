@@ -8,7 +8,8 @@ ghost use Rattle.bac_c.specs.Outcomes.{IsCanonical, IsRefusedBy, Tells, differs_
 
 use crate::writing::refuse;
 use crate::{BACTOOL_NO_MEMORY, BACTOOL_OK, BACTOOL_REFUSED, BACTOOL_TOLERATED, Outcome};
-use bac_npdu::{Body, FrameHead, FrameVisitor, visit_frame};
+use bac_npdu::layers::{FrameVisitor, visit_frame};
+use bac_npdu::{Body, FrameHead};
 use bac_tag::{Refusal, Why};
 use std::alloc::Global;
 

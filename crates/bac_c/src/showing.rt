@@ -6,9 +6,10 @@ ghost use Rattle.bac_c.specs.Outcomes.{IsHopeless, IsTextOf, IsWritten, LacksRoo
 
 use crate::writing::{hand_out, refuse};
 use crate::{BACTOOL_NO_MEMORY, BACTOOL_NO_ROOM, BACTOOL_OK, BACTOOL_REFUSED, Outcome};
-use bac_npdu::{Body, FrameHead, FrameVisitor, visit_frame};
+use bac_npdu::layers::{FrameVisitor, visit_frame};
+use bac_npdu::{Body, FrameHead};
 use bac_tag::{OutOfMemory, Refusal};
-use bac_text::write_text_of;
+use bac_text::layers::write_text_of;
 use std::alloc::Global;
 
 /// For how many octets there is room at first, as most texts want.

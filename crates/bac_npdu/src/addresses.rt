@@ -29,7 +29,7 @@ impl Display for MacFault {
 
 impl Error for MacFault {}
 
-/// The address of a device on its network, 0 to 255 octets. Up to seven of them want no memory.
+/// The address of a device on its network, 0 to 255 octets. Up to seven octets need no memory of the allocator.
 #[derive(Debug)]
 pub struct Mac {
     octets: SmallVec<u8, 7>,
@@ -54,11 +54,11 @@ impl Model for Mac {
 }
 
 impl Mac {
-    /// The address with a copy of these octets.
+    /// Returns the address with a copy of these octets.
     ///
     /// # Errors
-    /// `TooLong` where they are more than 255, else `OutOfMemory` where memory is refused, which is never told of up to
-    /// seven.
+    /// `TooLong` where there are more than 255 octets, else `OutOfMemory` where memory is refused, which is never told
+    /// of up to seven octets.
     pub fn new(alloc: Global, octets: &[u8]) -> Result<Mac, MacFault>
         ensures value { IfOk result (λ mac. mac ≡ octets.now) }
         ensures too_long { IsErrOf result MacFault.TooLong ↔ (255 < length octets.now) }
@@ -73,7 +73,7 @@ impl Mac {
         Ok(Mac { octets })
     }
 
-    /// Its octets, in their order, at most 255.
+    /// Returns the octets of the address in their order, at most 255.
     pub fn octets(&self) -> &[u8]
         ensures octets { result.now ≡ self.now }
         ensures few { length result.now < 256 }

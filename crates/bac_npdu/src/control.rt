@@ -44,7 +44,7 @@ impl Flags for Control {
 }
 
 impl Control {
-    /// The canonical octet that says this.
+    /// Returns the canonical control octet that says this.
     #[inline(always)]
     pub(crate) fn new(
         message: bool,
@@ -65,7 +65,7 @@ impl Control {
         )
     }
 
-    /// Whether a network message stands behind the head, and no APDU.
+    /// Returns whether a network message stands behind the head, and not an APDU.
     #[inline(always)]
     pub(crate) fn has_message(self) -> bool
         ensures { self.0 / 2 ^ 7 % 2 ≡ bit_of result }
@@ -73,7 +73,7 @@ impl Control {
         self.contains(Control::MESSAGE)
     }
 
-    /// Whether a destination and a hop count are there.
+    /// Returns whether a destination and a hop count are there.
     #[inline(always)]
     pub(crate) fn has_destination(self) -> bool
         ensures { self.0 / 2 ^ 5 % 2 ≡ bit_of result }
@@ -81,7 +81,7 @@ impl Control {
         self.contains(Control::DESTINATION)
     }
 
-    /// Whether a source is there.
+    /// Returns whether a source is there.
     #[inline(always)]
     pub(crate) fn has_source(self) -> bool
         ensures { self.0 / 2 ^ 3 % 2 ≡ bit_of result }
@@ -89,7 +89,7 @@ impl Control {
         self.contains(Control::SOURCE)
     }
 
-    /// Whether a reply is expected.
+    /// Returns whether a reply is expected.
     #[inline(always)]
     pub(crate) fn has_reply(self) -> bool
         ensures { self.0 / 2 ^ 2 % 2 ≡ bit_of result }
@@ -97,7 +97,7 @@ impl Control {
         self.contains(Control::REPLY)
     }
 
-    /// The priority.
+    /// Returns the priority.
     #[inline(always)]
     pub(crate) fn priority(self) -> NetPriority
         ensures { result ≡ self.0 % 4 }

@@ -11,7 +11,7 @@ use bac_apdu::Apdu;
 pub enum Body {
     /// An APDU (clause 20.1).
     Apdu(Apdu),
-    /// A network message (clause 6.2.4), of which bit 7 of the control octet tells.
+    /// A network message (clause 6.2.4). Bit 7 of the control octet tells that it is one.
     Net(NetMessage),
 }
 
@@ -27,12 +27,12 @@ pub enum Body {
 pub struct Frame {
     /// Whether a reply is expected.
     pub reply: bool,
-    /// How urgent it is.
+    /// How urgent the frame is.
     pub priority: NetPriority,
-    /// Where it goes, where that is another network.
+    /// Where the frame goes, if that is on another network.
     pub dest: Option<Dest>,
-    /// Whence it comes, where that is another network.
+    /// Where the frame comes from, if that is on another network.
     pub source: Option<Source>,
-    /// What it carries.
+    /// What the frame carries.
     pub body: Body,
 }

@@ -16,11 +16,12 @@ use crate::frame_head::FrameHead;
 use crate::frame_heads::read_head;
 use crate::message_decoding::decode_message;
 use crate::visiting::FrameVisitor;
-use bac_apdu::{Apdu, ApduVisitor, visit_apdu};
+use bac_apdu::Apdu;
+use bac_apdu::layers::{ApduVisitor, visit_apdu};
 use bac_tag::{Refusal, Why};
 use std::alloc::Global;
 
-/// The place of the control octet, where it has an ignored bit that is not 0.
+/// Returns the place of the control octet if an ignored bit of it is not 0, or else None.
 #[inline(always)]
 pub(crate) fn mark_of(control: Control) -> Option<usize>
     ensures { IsControlMark control.0 result }
@@ -35,8 +36,8 @@ pub(crate) fn mark_of(control: Control) -> Option<usize>
     if control == least { None } else { Some(1) }
 }
 
-/// The mark of a head, or else that of a body behind so many octets. The places of marks lie within octets, so the sum
-/// does not wrap.
+/// Returns the mark of a head of `size` octets, or else that of the body behind it. The places of marks lie within
+/// octets, so the sum does not wrap.
 #[inline(always)]
 fn joined(first: Option<usize>, size: usize, second: Option<usize>) -> Option<usize>
     ensures { IsBehind size second → result ≡ joined_mark first size second }
@@ -48,7 +49,7 @@ fn joined(first: Option<usize>, size: usize, second: Option<usize>) -> Option<us
     Some(size.wrapping_add(place))
 }
 
-/// What stands in front of a body, for what is made of the body.
+/// What stands in front of a body, and the visitor that is given the body.
 #[derive(Drop)]
 struct Behind<'a, V> {
     head: &'a FrameHead<'a>,
@@ -93,7 +94,7 @@ impl<V: FrameVisitor> ApduVisitor for Behind<'_, V> {
     }
 }
 
-/// Decodes the APDU or the network message behind a head, and makes of it what is made.
+/// Decodes the APDU or the network message behind a head, and gives it to the visitor.
 #[inline(always)]
 fn visit_behind<V: FrameVisitor>(
     alloc: Global,
@@ -141,7 +142,7 @@ fn visit_any<V: FrameVisitor>(
 /// Decodes the frame that all the octets spell, and gives it to a visitor. Returns what the visitor made of it.
 ///
 /// # Errors
-/// As [`decode_marked`]. The visitor is then given nothing, and the place stays as it was.
+/// As those of [`decode_frame`]. The visitor is then given nothing, and the place stays as it was.
 #[inline(always)]
 pub fn visit_frame<V: FrameVisitor>(
     alloc: Global,
@@ -192,7 +193,7 @@ impl FrameVisitor for Keep {
     }
 }
 
-/// Decodes a frame, and gives its mark.
+/// Decodes a frame, and returns it with its mark.
 #[inline(always)]
 fn decode_any(alloc: Global, octets: &[u8]) -> Result<(Frame, Option<usize>), Refusal>
     ensures { IsDecoded octets.now result }
@@ -200,14 +201,11 @@ fn decode_any(alloc: Global, octets: &[u8]) -> Result<(Frame, Option<usize>), Re
     visit_any(alloc, octets, Keep { alloc }, &mut ())?
 }
 
-/// Decodes the frame that all the octets spell, and gives the place of the first octet that differs from the canonical
-/// ones.
+/// Decodes the frame that all the octets spell. Returns it with its mark: the place of the first octet that differs
+/// from the canonical ones.
 ///
 /// # Errors
-/// At the first octet with which no spelling of a frame goes on: `Version` at the first, where it is not 1; `Address`
-/// at the length of a source's address, where it is 0; `PduType` at the first octet of an APDU of no type; `Trailing`
-/// where the octets in front of it spell a frame; else the reasons of [`bac_apdu::decode_apdu_marked`]; `Short` where
-/// all the octets begin a spelling. `OutOfMemory` at 0 where memory is refused.
+/// As those of [`decode_frame`].
 pub fn decode_marked(alloc: Global, octets: &[u8]) -> Result<(Frame, Option<usize>), Refusal>
     ensures found { IfOk result (λ found. SpellsFrame (value_of found.0) octets.now) }
     ensures mark { IfOk result (λ found. HasMark (SpellsFrame (value_of found.0)) octets.now found.1) }
@@ -252,7 +250,7 @@ impl FrameVisitor for KeepFrame {
     }
 }
 
-/// Decodes a frame alone.
+/// Decodes a frame, and returns it without its mark.
 #[inline(always)]
 fn decode_alone(alloc: Global, octets: &[u8]) -> Result<Frame, Refusal>
     ensures { IsDecodedAlone octets.now result }
@@ -263,7 +261,16 @@ fn decode_alone(alloc: Global, octets: &[u8]) -> Result<Frame, Refusal>
 /// Decodes the frame that all the octets spell.
 ///
 /// # Errors
-/// As [`decode_marked`].
+/// The place is that of the first octet with which no spelling of a frame goes on. The reason is one of these:
+///
+/// - `Short` where all the octets begin a spelling, and nowhere else: the place is their number;
+/// - `Trailing` where the octets in front of the place spell a frame, and nowhere else;
+/// - `Version` at the first octet, where it is not 1;
+/// - `Address` at the length of a source's address, where it is 0;
+/// - `PduType` at the first octet of an APDU, where its type is above 7;
+/// - `Window` at the octet of a window that is not 1 to 127;
+/// - `Tag`, `Length`, `Content` or `Depth` in a service;
+/// - `OutOfMemory` where memory is refused: the place is 0.
 ///
 /// # Examples
 /// ```rust

@@ -19,10 +19,10 @@ use bac_tag::OutOfMemory;
 use bitflags::Flags;
 use std::alloc::Global;
 
-/// For how many octets there is room at first, as most frames want.
+/// How many octets there is room for at first: as many as most frames need.
 const FIRST_ROOM: usize = 64;
 
-/// The canonical control octet of the frame with this head and this body.
+/// Returns the canonical control octet of the frame with this head and this body.
 fn control_of(head: &FrameHead<'_>, body: &Body) -> Control
     ensures value { result.0 ≡ least_of (control_said (frame_with head.now (body_value body.now))) }
     ensures range { head.now.priority < 4 }
@@ -42,7 +42,7 @@ fn control_of(head: &FrameHead<'_>, body: &Body) -> Control
     )
 }
 
-/// Appends the octets in front of the body. Where memory is refused `out` may hold some of them.
+/// Appends the octets in front of the body. Where memory is refused, `out` may hold some of them.
 fn append_head(head: &FrameHead<'_>, body: &Body, out: &mut Vec<u8>) -> Result<(), OutOfMemory>
     ensures written { OnOk result (out.new.items ≡ out.old.items ++ 1 ∷ least_of (control_said (frame_with head.now (body_value body.now))) ∷ least_head (addresses_of (frame_with head.now (body_value body.now)))) }
     ensures addressed { OnOk result (HasAddress head.now.source) }
@@ -63,7 +63,7 @@ fn append_head(head: &FrameHead<'_>, body: &Body, out: &mut Vec<u8>) -> Result<(
     Ok(())
 }
 
-/// Appends the octets of a frame. Where memory is refused `out` may hold some of them.
+/// Appends the octets of a frame. Where memory is refused, `out` may hold some of them.
 fn append_parts(head: &FrameHead<'_>, body: &Body, out: &mut Vec<u8>) -> Result<(), OutOfMemory>
     ensures written { OnOk result (AppendsLeast (SpellsFrame (frame_with head.now (body_value body.now))) out.old.items out.new.items) }
     ensures kept { Extends out.old.items out.new.items }
@@ -76,8 +76,8 @@ fn append_parts(head: &FrameHead<'_>, body: &Body, out: &mut Vec<u8>) -> Result<
 }
 
 impl FrameHead<'_> {
-    /// Appends the canonical octets of the frame with this head and this body, its least spelling, behind what stands in
-    /// `out`.
+    /// Appends the canonical octets of the frame with this head and this body, its least spelling, behind what stands
+    /// in `out`.
     ///
     /// # Errors
     /// `OutOfMemory` where memory is refused. `out` then stays as it was.
@@ -105,7 +105,7 @@ pub fn append_frame(frame: &Frame, out: &mut Vec<u8>) -> Result<(), OutOfMemory>
     frame.head().append_frame(&frame.body, out)
 }
 
-/// The canonical octets of a frame: its least spelling.
+/// Returns the canonical octets of a frame: its least spelling.
 ///
 /// # Errors
 /// `OutOfMemory` where memory is refused.

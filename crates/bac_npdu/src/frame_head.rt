@@ -16,7 +16,7 @@ use bac_tag::OutOfMemory;
 use std::alloc::Global;
 use std::marker::Model;
 
-/// A network and an address on it, which is borrowed.
+/// A network, and a borrowed address on it.
 #[derive(Clone, Copy, Debug)]
 pub struct Addressed<'a> {
     /// The network.
@@ -25,7 +25,7 @@ pub struct Addressed<'a> {
     pub address: &'a [u8],
 }
 
-/// A destination, of which the address is borrowed.
+/// A destination with a borrowed address.
 // The hop count stands beside the network: behind the address seven octets of nothing would be moved with it, in two
 // moves that overlap, and the processor waits for both.
 #[derive(Clone, Copy, Debug)]
@@ -34,7 +34,7 @@ pub struct DestRef<'a> {
     pub network: u16,
     /// The hop count.
     pub hops: u8,
-    /// The octets of the address, at most 255. None of them: every device on the network.
+    /// The octets of the address, at most 255. Where there are none, it is that of every device on the network.
     pub address: &'a [u8],
 }
 
@@ -61,7 +61,7 @@ impl<'a> Model for FrameHead<'a> {
     ghost invariant = { λ head. HasAddress (address_read head.source) × (IsShort (address_of (destination_read head.destination)) × IsShort (address_read head.source)) };
 }
 
-/// A copy of an address.
+/// Returns a copy of an address.
 #[inline(always)]
 fn copied(alloc: Global, address: &[u8]) -> Result<Mac, OutOfMemory>
     ensures value { IfOk result (λ mac. mac ≡ address.now) }
@@ -70,7 +70,7 @@ fn copied(alloc: Global, address: &[u8]) -> Result<Mac, OutOfMemory>
     Mac::new(alloc, address).map_err(|_fault| OutOfMemory)
 }
 
-/// A destination with a copy of its address.
+/// Returns a destination with a copy of its address.
 #[inline(always)]
 fn destination_of(
     alloc: Global,
@@ -90,7 +90,7 @@ fn destination_of(
     }))
 }
 
-/// A source with a copy of its address.
+/// Returns a source with a copy of its address.
 #[inline(always)]
 fn source_of(alloc: Global, source: Option<Addressed<'_>>) -> Result<Option<Source>, OutOfMemory>
     requires { HasAddress (address_read source) }
@@ -105,7 +105,7 @@ fn source_of(alloc: Global, source: Option<Addressed<'_>>) -> Result<Option<Sour
 }
 
 impl<'a> FrameHead<'a> {
-    /// The head that was read.
+    /// Returns the head that was read.
     #[inline(always)]
     pub(crate) fn of(read: &HeadRead<'a>) -> FrameHead<'a>
         requires some { HasAddress (address_read read.now.source) }
@@ -124,7 +124,7 @@ impl<'a> FrameHead<'a> {
         }
     }
 
-    /// Whether a reply is expected.
+    /// Returns whether a reply is expected.
     #[inline(always)]
     pub fn reply(&self) -> bool
         ensures { result ≡ self.now.reply }
@@ -132,7 +132,7 @@ impl<'a> FrameHead<'a> {
         self.reply
     }
 
-    /// How urgent the frame is.
+    /// Returns how urgent the frame is.
     #[inline(always)]
     pub fn priority(&self) -> NetPriority
         ensures { result ≡ self.now.priority }
@@ -140,7 +140,7 @@ impl<'a> FrameHead<'a> {
         self.priority
     }
 
-    /// Where the frame goes, with the hop count, where that is another network.
+    /// Returns where the frame goes, with the hop count, if that is on another network.
     #[inline(always)]
     pub fn destination(&self) -> Option<DestRef<'a>>
         ensures value { destination_read result ≡ self.now.destination }
@@ -149,7 +149,7 @@ impl<'a> FrameHead<'a> {
         self.destination
     }
 
-    /// Whence the frame comes, where that is another network. The address is not empty.
+    /// Returns where the frame comes from, if that is on another network. The address is not empty.
     #[inline(always)]
     pub fn source(&self) -> Option<Addressed<'a>>
         ensures value { address_read result ≡ self.now.source }
@@ -159,10 +159,10 @@ impl<'a> FrameHead<'a> {
         self.source
     }
 
-    /// The frame with this head and this body, and copies of the addresses.
+    /// Returns the frame with this head and this body, and with copies of the addresses.
     ///
     /// # Errors
-    /// `OutOfMemory` where memory is refused, which is not told of addresses of up to seven octets.
+    /// `OutOfMemory` where memory is refused, which is never told where no address has more than seven octets.
     #[inline(always)]
     pub fn frame(&self, alloc: Global, body: Body) -> Result<Frame, OutOfMemory>
         ensures value { IfOk result (λ frame. value_of frame ≡ frame_with self.now (body_value body)) }
@@ -181,7 +181,7 @@ impl<'a> FrameHead<'a> {
 }
 
 impl Frame {
-    /// Its head.
+    /// Returns the head of the frame.
     #[inline(always)]
     pub fn head(&self) -> FrameHead<'_>
         ensures { frame_with result (body_value self.now.body) ≡ value_of self.now }

@@ -6,7 +6,7 @@ ghost use Rattle.bac_npdu.specs.Frames.{FrameValue, SpellsFrame};
 ghost use Rattle.bac_npdu.specs.FormerFrames.{SpellsFormerFrame, IsKept};
 ghost use Rattle.bac_npdu.specs.Meanings.{IsNormalOf};
 
-/// No list spells two frames.
+/// No list of octets spells two frames.
 pub fn frames_have_one_value()
     ensures { (f g : FrameValue) (b : List ℕ) → SpellsFrame f b → SpellsFrame g b → f ≡ g }
 {
@@ -27,27 +27,27 @@ pub fn canonical_octets_give_the_frame_back()
     frames_have_one_value();
 }
 
-/// Canonical octets of canonical octets are the same: normalised twice is normalised once.
+/// Canonical octets are their own canonical octets: to normalise twice is to normalise once.
 pub fn normalised_twice_is_once()
     ensures { (b c d : List ℕ) → IsNormalOf b c → IsNormalOf c d → c ≡ d }
 {
     frames_have_one_value();
 }
 
-/// The canonical octets of a frame are no more than those of any other of its spellings.
+/// No spelling of a frame has fewer octets than the canonical one.
 pub fn canonical_octets_are_no_longer()
     ensures { (f : FrameValue) (b c : List ℕ) → IsLeast (SpellsFrame f) c → SpellsFrame f b → length c ≤ length b }
 {}
 
-/// Each frame that is spelled has canonical octets.
+/// Each frame that some octets spell has canonical octets.
 pub fn frames_have_canonical_octets()
     ensures { (f : FrameValue) (b : List ℕ) → SpellsFrame f b → (c : List ℕ) × IsLeast (SpellsFrame f) c }
 {
     bac_apdu::laws::apdus_have_canonical_octets();
 }
 
-/// Formerly WritePropertyMultiple and its error were opaque, and at most 16 groups nested. Each other frame that was
-/// spelled then is still spelled by the same lists, and has the same canonical octets.
+/// Formerly, WritePropertyMultiple and its error were opaque, and at most 16 groups nested. Each other frame that was
+/// spelled then is still spelled by the same lists of octets, and has the same canonical octets.
 pub fn former_frames_are_kept()
     ensures spelled { (f : FrameValue) (b : List ℕ) → IsKept f.body → SpellsFormerFrame f b → SpellsFrame f b }
     ensures least { (f : FrameValue) (b : List ℕ) → IsKept f.body → IsLeast (SpellsFormerFrame f) b → IsLeast (SpellsFrame f) b }

@@ -2,9 +2,10 @@
 //! message.
 //!
 //! [`decode_frame`] reads a frame, and [`encode_frame`] and [`append_frame`] write one. [`decode_strict`] accepts
-//! canonical octets alone, [`normalise_frame`] gives the canonical octets of what was read, and [`same_meaning`] tells
-//! whether two inputs spell one frame. [`visit_frame`] makes of a frame what a [`FrameVisitor`] makes, where the frame was
-//! decoded.
+//! only canonical octets, [`normalise_frame`] gives the canonical octets of what was read, and [`same_meaning`] tells
+//! whether two inputs spell the same frame. What only the layers above call stands in [`layers`].
+//!
+//! In the examples `rt` is the program's `HostRuntime`.
 #![tactic(auto)]
 
 mod addresses;
@@ -16,6 +17,7 @@ mod frame_encoding;
 mod frame_head;
 mod frame_heads;
 pub mod laws;
+pub mod layers;
 mod meaning;
 mod message;
 mod message_decoding;
@@ -30,7 +32,7 @@ mod visiting;
 pub use addresses::{Mac, MacFault};
 pub use destination::Dest;
 pub use frame::{Body, Frame};
-pub use frame_decoding::{decode_frame, decode_marked, visit_frame};
+pub use frame_decoding::{decode_frame, decode_marked};
 pub use frame_encoding::{append_frame, encode_frame};
 pub use frame_head::{Addressed, DestRef, FrameHead};
 pub use meaning::{Side, same_meaning};
@@ -41,4 +43,3 @@ pub use messages::ports::Ports;
 pub use net_priority::NetPriority;
 pub use source::Source;
 pub use strict::{decode_strict, normalise_frame};
-pub use visiting::FrameVisitor;

@@ -1,4 +1,4 @@
-//! Whether two inputs spell one frame.
+//! Whether two inputs spell the same frame.
 
 ghost use Rattle.std.specs.Prelude.{◌≡◌, ◌≢◌, ◌↔◌, true, IfOk, IfErr};
 ghost use Rattle.bac_tag.specs.declared.refusals.Why.TheVariants.{OutOfMemory};
@@ -23,7 +23,7 @@ pub enum Side {
     Right,
 }
 
-/// The frame of one side, with its mark.
+/// Decodes the frame of one side, and returns it with its mark.
 fn read(alloc: Global, side: Side, octets: &[u8]) -> Result<(Frame, Option<usize>), (Side, Refusal)>
     ensures spelled { IfOk result (λ found. SpellsFrame (value_of found.0) octets.now) }
     ensures marked { IfOk result (λ found. HasMark (SpellsFrame (value_of found.0)) octets.now found.1) }
@@ -38,7 +38,7 @@ fn read(alloc: Global, side: Side, octets: &[u8]) -> Result<(Frame, Option<usize
     }
 }
 
-/// The canonical octets of the frame of one side.
+/// Returns the canonical octets of the frame of one side.
 fn encoded(alloc: Global, side: Side, frame: &Frame) -> Result<Vec<u8>, (Side, Refusal)>
     ensures ok { IfOk result (λ out. IsLeast (SpellsFrame (value_of frame.now)) out.items) }
     ensures memory { IfErr result (λ told. told ≡ (side, record { place = 0; why = OutOfMemory })) }
@@ -46,11 +46,12 @@ fn encoded(alloc: Global, side: Side, frame: &Frame) -> Result<Vec<u8>, (Side, R
     encode_frame(alloc, frame).map_err(|_refused| (side, Refusal::out_of_memory()))
 }
 
-/// Whether both inputs spell one frame. Octets without a mark are their own canonical ones, and are not written again.
+/// Returns whether both inputs spell the same frame. Octets without a mark are canonical already, and are not written
+/// again.
 ///
 /// # Errors
-/// The side that spells no frame, the left one first, with the refusal of [`decode_marked`]; or the side at which
-/// memory was refused.
+/// The side that spells no frame, with the refusal of [`decode_frame`]; where neither side spells one, it is the left
+/// side. Or the side at which memory was refused.
 ///
 /// # Examples
 /// ```rust

@@ -6,7 +6,7 @@ use crate::messages::ports::Ports;
 /// A network message (clause 6.4). Its first octet is its type; numbers of networks have two octets.
 #[derive(Debug, Drop)]
 pub enum NetMessage {
-    /// Type 0: nothing, or the network to which a router is looked for.
+    /// Type 0: nothing, or the network to which a router is sought.
     WhoIsRouter(Option<u16>),
     /// Type 1: the networks to which the sender is a router.
     IAmRouter(Vec<u16>),
@@ -36,7 +36,7 @@ pub enum NetMessage {
     Establish {
         /// The network to which it leads.
         network: u16,
-        /// How long it is to stay, in minutes (1 octet); 0 is until it is ended.
+        /// How long it is to stay, in minutes (1 octet); 0 means until it is ended.
         time: u8,
     },
     /// Type 9: the connection to this network is to be ended.

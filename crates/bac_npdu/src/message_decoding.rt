@@ -13,11 +13,11 @@ use crate::messages::untyped::decode_opaque_net;
 use bac_tag::{Refusal, Why};
 use std::alloc::Global;
 
-/// Decodes the network message that all the octets spell. No octets but one spell it.
+/// Decodes the network message that all the octets spell. No other octets spell it.
 ///
 /// # Errors
-/// `Short` at their end where the octets begin a message; `Trailing` behind a message; `OutOfMemory` at 0 where memory is
-/// refused.
+/// `Short` at the end of the octets where they begin a message; `Trailing` behind a message; `OutOfMemory` at 0 where
+/// memory is refused.
 pub(crate) fn decode_message(alloc: Global, octets: &[u8]) -> Result<NetMessage, Refusal>
     ensures { IsMessageDecoded octets.now result }
 {

@@ -5,7 +5,7 @@ ghost use Rattle.std.specs.Prelude.{◌≡◌, ◌<◌, ◌↔◌, ◌%◌, IsSo
 use std::marker::Model;
 
 /// How urgent a frame is, 0 to 3 (clause 6.2.2): normal, urgent, critical equipment, life safety.
-#[derive(Clone, Copy, Debug, PartialEq, Eq)]
+#[derive(Clone, Copy, Debug, PartialEq, Eq, PartialOrd, Ord, Hash)]
 pub struct NetPriority {
     number: u8,
 }
@@ -23,7 +23,7 @@ impl Model for NetPriority {
 }
 
 impl NetPriority {
-    /// The priority of this number, where it is 0 to 3.
+    /// Returns the priority with this number, or None above 3.
     pub fn new(number: u8) -> Option<NetPriority>
         ensures some { IsSome result ↔ (number < 4) }
         ensures value { IfSome result (λ priority. priority ≡ number) }
@@ -34,7 +34,7 @@ impl NetPriority {
         Some(NetPriority { number })
     }
 
-    /// Bits 1 and 0 of an octet.
+    /// Returns the priority in bits 1 and 0 of an octet.
     #[inline(always)]
     pub(crate) fn of_octet(octet: u8) -> NetPriority
         ensures { result ≡ octet % 4 }
@@ -42,7 +42,7 @@ impl NetPriority {
         NetPriority { number: octet & 3 }
     }
 
-    /// Its number, 0 to 3.
+    /// Returns its number, 0 to 3.
     #[inline(always)]
     pub fn number(&self) -> u8
         ensures number { result ≡ self.now }

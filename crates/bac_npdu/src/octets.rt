@@ -1,4 +1,4 @@
-//! What the readings have in common: octets that end early or go on, and numbers of two octets.
+//! What the readers have in common: octets that end too early or go on too long, and numbers of two octets.
 
 ghost use Rattle.std.specs.Prelude.{◌≡◌, ◌+◌, ◌*◌, ◌/◌, ◌%◌, ◌≤◌, [], ◌∷◌, length, slice_index};
 ghost use Rattle.bac_npdu.specs.Decoded.{IsSized};
@@ -6,7 +6,7 @@ ghost use Rattle.bac_npdu.specs.Decoded.{IsSized};
 use bac_tag::{Refusal, Why};
 use byteorder::{BigEndian, ByteOrder};
 
-/// Whether the octets are so many.
+/// Checks that there are `count` octets, no fewer and no more.
 #[inline(always)]
 pub(crate) fn sized(octets: &[u8], count: usize) -> Result<(), Refusal>
     ensures { IsSized octets.now count result }
@@ -20,7 +20,7 @@ pub(crate) fn sized(octets: &[u8], count: usize) -> Result<(), Refusal>
     Ok(())
 }
 
-/// The number in the two octets from a place on.
+/// Returns the number in the two octets from a place on.
 #[inline(always)]
 pub(crate) fn number_at(octets: &[u8], place: usize) -> u16
     requires { place + 2 ≤ length octets.now }
@@ -29,7 +29,7 @@ pub(crate) fn number_at(octets: &[u8], place: usize) -> u16
     BigEndian::read_u16(&octets[place..])
 }
 
-/// The two octets of a number, the higher first.
+/// Returns the two octets of a number, the higher one first.
 #[inline(always)]
 pub(crate) fn octets_of_number(number: u16) -> [u8; 2]
     ensures { result ≡ number / 256 ∷ number % 256 ∷ [] }

@@ -1,11 +1,11 @@
-//! Whence frames come.
+//! Where frames come from.
 
 ghost use Rattle.std.specs.Prelude.{◌≡◌, ◌≤◌, ◌<◌, ◌↔◌, length, IsOk, IfOk, IfErr};
 
 use crate::addresses::Mac;
 use std::marker::Model;
 
-/// Whence a frame comes (clause 6.2.2).
+/// Where a frame comes from (clause 6.2.2).
 ///
 /// Octets: the network (2), the number of octets of the address (1), which is not 0, and the address.
 #[derive(Debug, Drop)]
@@ -28,10 +28,10 @@ impl Model for Source {
 }
 
 impl Source {
-    /// The source with this network and address.
+    /// Returns the source with this network and address.
     ///
     /// # Errors
-    /// The address, where it is empty.
+    /// The address itself, where it is empty.
     pub fn new(network: u16, address: Mac) -> Result<Source, Mac>
         ensures ok { IsOk result ↔ (1 ≤ length address) }
         ensures value { IfOk result (λ source. source ≡ record { network = network; address = address }) }
@@ -43,7 +43,7 @@ impl Source {
         Ok(Source::of(network, address))
     }
 
-    /// The source with this network and this address, which is not empty.
+    /// Returns the source with this network and this address, which must not be empty.
     #[inline(always)]
     pub(crate) fn of(network: u16, address: Mac) -> Source
         requires { 1 ≤ length address }
@@ -52,14 +52,14 @@ impl Source {
         Source { network, address }
     }
 
-    /// Its network.
+    /// Returns its network.
     pub fn network(&self) -> u16
         ensures { result ≡ self.now.network }
     {
         self.network
     }
 
-    /// Its address, of at least one octet.
+    /// Returns its address, which has at least one octet.
     pub fn address(&self) -> &Mac
         ensures address { result.now ≡ self.now.address }
         ensures some { 1 ≤ length result.now }

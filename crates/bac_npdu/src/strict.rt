@@ -1,4 +1,4 @@
-//! Canonical octets alone, and canonical octets of what was read.
+//! Decoding canonical octets and no others, and the canonical octets of what was read.
 
 ghost use Rattle.std.specs.Prelude.{◌≡◌, ◌≢◌, ◌↔◌, false, IsTrue, IfOk, IfErr};
 ghost use Rattle.bac_tag.specs.Spelling.{IsLeast, IsWholeRefusal, IsCanonical};
@@ -16,11 +16,11 @@ use bac_apdu::layers::is_canonical_apdu;
 use bac_tag::{OutOfMemory, Refusal, Why};
 use std::alloc::Global;
 
-/// Decodes the frame of which all the octets are the canonical ones.
+/// Decodes the frame whose canonical octets these are.
 ///
 /// # Errors
-/// As [`decode_marked`]; and `NotCanonical` where the octets spell a frame and are not canonical, at the first place
-/// where they differ from the canonical ones.
+/// As those of [`decode_frame`]; and `NotCanonical` where the octets spell a frame but are not canonical, at the first
+/// place where they differ from the canonical ones.
 ///
 /// # Examples
 /// ```rust
@@ -52,8 +52,8 @@ pub fn decode_strict(alloc: Global, octets: &[u8]) -> Result<Frame, Refusal>
     }
 }
 
-/// Whether the octets are the canonical ones of a frame (clause 6.2) with an APDU that carries a service, if that is found at
-/// once. False tells nothing of the octets.
+/// Returns whether the octets are found at once to be the canonical ones of a frame (clause 6.2) with an APDU that
+/// carries a service. False tells nothing of the octets.
 fn is_canonical_frame(alloc: Global, octets: &[u8]) -> bool
     ensures { IsTrue result → IsCanonical SpellsFrame octets.now }
 {
@@ -67,10 +67,11 @@ fn is_canonical_frame(alloc: Global, octets: &[u8]) -> bool
     is_canonical_apdu(alloc, rest)
 }
 
-/// A frame of more octets is first told canonical, and then copied once: a long string is gone through faster than copied.
+/// A frame of more octets is first tested for being canonical, and if that is found, copied once: to go through a long
+/// string is faster than to copy it.
 const LONG: usize = 4096;
 
-/// Writes the canonical octets of a frame where it was decoded, so that it is not put together and moved.
+/// Writes the canonical octets of a frame where it was decoded, so that the frame is not put together and moved.
 #[derive(Drop)]
 struct Normalising<'a> {
     alloc: Global,
@@ -109,10 +110,10 @@ impl FrameVisitor for Normalising<'_> {
     }
 }
 
-/// The canonical octets of the frame that all the octets spell.
+/// Returns the canonical octets of the frame that all the octets spell.
 ///
 /// # Errors
-/// As [`decode_marked`]; but `OutOfMemory` may be told of any frame, since what is returned wants memory.
+/// As those of [`decode_frame`]; but `OutOfMemory` may be told of any frame, since what is returned needs memory.
 ///
 /// # Examples
 /// ```rust

@@ -7,19 +7,20 @@ ghost use Rattle.bac_npdu.specs.Frames.{FrameValue, body_value};
 use crate::frame::Body;
 use crate::frame_head::FrameHead;
 
-/// What is made of a frame where it was decoded. So it need not be put together, which takes longer than to decode a
-/// short one.
+/// What is made of a frame where it was decoded. So the frame need not be put together, which takes longer than to
+/// decode a short one.
 pub trait FrameVisitor: Drop {
-    /// What it may change.
+    /// What the visitor may change.
     type Place;
 
-    /// What it gives.
+    /// What the visitor returns.
     type Made;
 
-    /// What it makes of a frame and of its mark: from what the place held, what the place holds and what it gives.
+    /// What the visitor makes of a frame and of its mark: a relation between what the place held before, what it holds
+    /// afterwards, and what the visitor returns.
     ghost makes: { Self → FrameValue → Option ℕ → Self.Place → Self.Place → Self.Made → Type 0 };
 
-    /// Takes head and body of a frame, and the place of the first octet that differs from its canonical ones.
+    /// Takes the head and the body of a frame, and the place of the first octet that differs from its canonical ones.
     fn visit(
         self,
         head: &FrameHead<'_>,

@@ -5,7 +5,7 @@
 //! octets of length, the most significant first, and then these octets. An empty line is a record of no octets. What the
 //! octets say is not asked here.
 //!
-//! - [`run_pack`] makes one record of each line.
+//! [`run_pack`] makes one record of each line. In its example `rt` is the program's `HostRuntime`.
 #![tactic(auto)]
 
 mod faults;

@@ -12,7 +12,8 @@ ghost use Rattle.bac_pack.specs.declared.lines.TheConstants.{PIECE};
 use crate::PackFault;
 use crate::lines::{LONGEST, line_end};
 use crate::packing::pack_line;
-use bac_record::{Output, write_whole};
+use bac_record::Output;
+use bac_record::layers::write_whole;
 use std::alloc::Global;
 
 /// The most lines of a run.

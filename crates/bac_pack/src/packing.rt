@@ -6,9 +6,7 @@ ghost use Rattle.bac_pack.specs.Packing.{Spells, SpellsNone};
 
 use crate::PackFault;
 use crate::lines::{copy_digits, strip_return};
-
-/// The longest record, without its length octets: as many octets as these can tell.
-const LONGEST: usize = 65_535;
+use bac_record::LONGEST;
 
 /// Appends the record that the digits spell, as that of the line of this number. After a fault some of it may be there.
 ///

@@ -8,7 +8,8 @@ ghost use Rattle.bac_pack.specs.Runs.{PacksThrough, RunCounts, Stopped};
 use crate::PackFault;
 use crate::lines::PIECE;
 use crate::packers::Packer;
-use bac_record::{Input, Output, Window};
+use bac_record::layers::Window;
+use bac_record::{Input, Output};
 use std::alloc::Global;
 
 /// Makes a record of each line, to the end of the text or to a fault.

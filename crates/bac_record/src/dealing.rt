@@ -46,7 +46,7 @@ impl Dealt {
 #[derive(Clone, Copy, Debug, PartialEq, Eq, Error)]
 pub enum DealFault {
     /// The record ends the run.
-    #[error("refused {why} at {place}", why = .0.why.name(), place = .0.place)]
+    #[error("refused {0}")]
     Stop(Refusal),
     /// Memory was wanted and refused.
     #[error("out of memory")]

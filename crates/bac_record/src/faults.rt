@@ -35,6 +35,6 @@ pub enum RunFault {
     #[error("record {at}: {fault}")]
     Stream { at: u32, fault: StreamFault },
     /// The record holds no frame that is accepted.
-    #[error("record {at}: refused {why} at {place}", why = .refusal.why.name(), place = .refusal.place)]
+    #[error("record {at}: refused {refusal}")]
     Frame { at: u32, refusal: Refusal },
 }

@@ -6,8 +6,9 @@
 //! - [`read_record`] and [`write_record`] take and give one record.
 //! - [`run`] does a [`Job`] with each record of a file: it appends what the job makes of the record to what it writes,
 //!   and counts. A [`Summary`] or a [`RunFault`] says how it ended.
-//! - [`put_word`], [`put_octets`], [`put_decimal`], [`put_signed_decimal`] and [`put_hexadecimal`] write words, numbers
-//!   and octets into room that was made for them, by [`make_room`] or [`add_room`].
+//! - What only the layers above call stands in [`layers`].
+//!
+//! In the examples `rt` is the program's `HostRuntime`.
 #![tactic(auto)]
 
 mod batches;
@@ -18,6 +19,7 @@ mod digits;
 mod faults;
 mod fronts;
 pub mod laws;
+pub mod layers;
 mod records;
 mod runs;
 mod summaries;
@@ -27,13 +29,7 @@ mod windows;
 pub use counting::Counted;
 pub use dealing::{DealFault, Dealt, Job};
 pub use devices::{Device, Input, Output};
-pub use digits::{
-    add_room, make_room, put_decimal, put_hexadecimal, put_octets, put_signed_decimal, put_word,
-};
 pub use faults::{RunFault, StreamFault};
-pub use fronts::front_record;
 pub use records::{LONGEST, read_record, write_record};
 pub use runs::{MOST, run};
 pub use summaries::Summary;
-pub use transfers::write_whole;
-pub use windows::Window;

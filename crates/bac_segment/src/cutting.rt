@@ -4,6 +4,7 @@ ghost use Rattle.std.specs.Prelude.{◌≡◌, ◌≤◌, ◌*◌, map, length, 
 ghost use Rattle.bac_segment.specs.Deliveries.{delivery};
 ghost use Rattle.bac_segment.specs.Pieces.{IsCutOf, cut_fault};
 
+use crate::holding::MOST_OCTETS;
 use bac_apdu::{SegHead, Segment, Window};
 use std::alloc::{AllocError, AllocFailed, Global};
 use std::error::Error;
@@ -17,13 +18,14 @@ pub struct CutPlan {
     pub head: SegHead,
     /// The service choice.
     pub choice: u8,
-    /// How many octets each piece has but the last, which has 1 to that many.
+    /// How many octets each piece has, except the last one, which has 1 to that many. The one piece of an empty message
+    /// has none.
     pub size: usize,
     /// How many segments are sent before a SegmentACK is awaited, 1 to 127.
     pub window: u8,
 }
 
-/// Why a message is not cut. Where several hold, the first is told.
+/// Why a message is not cut. Where several of these hold, the first is told.
 #[derive(Clone, Copy, Debug, PartialEq, Eq)]
 pub enum CutFault {
     /// A piece would have no octets.
@@ -72,13 +74,10 @@ impl<T: Drop> From<AllocFailed<T>> for CutFault {
     }
 }
 
-/// How many octets are cut at most.
-const MOST_OCTETS: usize = 65_535;
-
 /// How many pieces there are at most.
 const MOST_PIECES: usize = 256;
 
-/// A segment with a copy of the piece.
+/// Returns a segment with a copy of the piece.
 fn segment(
     alloc: Global,
     plan: &CutPlan,
@@ -99,7 +98,7 @@ fn segment(
     })
 }
 
-/// One segment for each piece of the octets.
+/// Returns one segment for each piece of the octets.
 fn segments(
     alloc: Global,
     plan: &CutPlan,
@@ -125,8 +124,8 @@ fn segments(
     Ok(segments)
 }
 
-/// Cuts a message into segments (clause 5.2): one for each of its pieces, numbered from 0, each but the last saying
-/// that more follow. A message of no octets has one empty piece.
+/// Cuts a message into segments (clause 5.2): one for each of its pieces, numbered from 0. Each but the last says that
+/// more follow. A message of no octets has one empty piece.
 ///
 /// # Errors
 /// The first that holds, in this order: `Size`, where the size is 0; `Window`, where the window is not 1 to 127;

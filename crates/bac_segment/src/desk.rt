@@ -19,8 +19,8 @@ use std::marker::Model;
 /// How many keys are open at most.
 const MOST_KEYS: usize = 8;
 
-/// Up to eight messages, each of its own key. A key is opened when its first segment is kept, and open until it is
-/// closed; what becomes of one changes nothing for another. After each fault the desk is as it was.
+/// Up to eight messages, each with its own key. A key is opened when its first segment is kept, and is open until it is
+/// closed. Keys do not affect each other. After each fault the desk is as it was.
 #[derive(Debug, Drop)]
 pub struct Desk {
     slots: Vec<Reassembly>,
@@ -42,7 +42,7 @@ impl Model for Desk {
     ghost invariant = { λ d. IsDesk d.slots.items };
 }
 
-/// Where a key stands.
+/// Returns the place of a key, or None where it is not open.
 fn place(slots: &[Reassembly], key: Key) -> Option<usize>
     ensures { result ≡ place_of slots.now key }
 {
@@ -54,14 +54,15 @@ fn place(slots: &[Reassembly], key: Key) -> Option<usize>
     None
 }
 
-/// Whether others should follow the greatest number.
+/// Returns whether a segment has the greatest number and yet says that others follow.
 fn cannot_end(segment: &Segment) -> bool
     ensures { result ≡ (segment.now.more && segment.now.seq == 255) }
 {
     segment.more && segment.seq == 255
 }
 
-/// A reassembly with its first segment, and the answer to it. Where the segment is refused nothing is allocated.
+/// Returns a reassembly with its first segment, and the answer to that. Nothing is allocated for a segment that is refused
+/// as `PastEnd` or `TooLarge`.
 fn first(alloc: Global, key: Key, segment: &Segment) -> Result<(Reassembly, Taken), TakeFault>
     requires { key_of key.peer (delivery segment.now) ≡ key }
     ensures ok { IfOk result (λ p. Takes (opened key) (delivery segment.now) (Ok p.1) p.0) }
@@ -85,7 +86,7 @@ fn first(alloc: Global, key: Key, segment: &Segment) -> Result<(Reassembly, Take
 }
 
 impl Desk {
-    /// A desk with no key open.
+    /// Returns a desk with no key open.
     ///
     /// # Errors
     /// `OutOfMemory`, where memory is refused.
@@ -98,11 +99,11 @@ impl Desk {
         })
     }
 
-    /// Takes a segment that this sender sent. Its kind, its invoke id and its choice make its key with the sender.
+    /// Takes a segment that this sender sent. The sender and the segment's kind, invoke id and choice make its key.
     ///
     /// # Errors
-    /// The first that holds, in this order: `DeskFull`, where its key is not open and eight are; `Conflict`, `PastEnd`,
-    /// `TooLarge` and `OutOfMemory`, as a `Reassembly` of its key answers them.
+    /// The first that holds, in this order: `DeskFull`, where its key is not open and eight others are; `Conflict`,
+    /// `PastEnd`, `TooLarge` and `OutOfMemory`, as a `Reassembly` of its key answers them.
     ///
     /// # Examples
     /// ```rust
@@ -144,7 +145,7 @@ impl Desk {
         }
     }
 
-    /// The pieces of a key joined, from the answer `Complete` on until it is closed.
+    /// Returns the joined pieces of a key, from the answer `Complete` on until the key is closed.
     pub fn octets(&self, key: Key) -> Option<&[u8]>
         ensures { option_copied result ≡ whole (held_of self.now key) }
     {
@@ -154,7 +155,7 @@ impl Desk {
         }
     }
 
-    /// Closes a key, and drops what is held of it. Whether it was open.
+    /// Closes a key, and drops what is held of it. Returns whether it was open.
     pub fn close(&mut self, key: Key) -> bool
         ensures was_open { result ≡ is_open self.old key }
         ensures closed { self.new ≡ closed self.old key }

@@ -1,4 +1,4 @@
-//! What a segment is answered.
+//! How a segment is answered.
 
 use std::error::Error;
 use std::fmt;
@@ -15,13 +15,13 @@ pub enum Taken {
     Complete,
 }
 
-/// Why a segment is not taken. Where several hold, `OtherKey` and `DeskFull` are told first, then `Conflict`,
-/// `PastEnd`, `TooLarge` and `OutOfMemory`, in this order.
+/// Why a segment is not taken. Where several of these hold, `OtherKey` and `DeskFull` are told first, and then
+/// `Conflict`, `PastEnd`, `TooLarge` and `OutOfMemory`, in this order.
 #[derive(Clone, Copy, Debug, PartialEq, Eq)]
 pub enum TakeFault {
     /// It is of another request or answer.
     OtherKey = 1,
-    /// It contradicts what is held: another piece has its number, or it is the last one below a number that is held.
+    /// It contradicts what is held: another piece has its number, or it is the last one and a greater number is held.
     Conflict,
     /// It stands behind the last one, or is number 255 and says that others follow.
     PastEnd,

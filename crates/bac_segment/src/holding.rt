@@ -11,10 +11,10 @@ use bac_apdu::Segment;
 use bac_tag::OutOfMemory;
 use std::alloc::Global;
 
-/// How many octets are joined at most.
+/// How many octets are cut at most, and joined at most.
 pub(crate) const MOST_OCTETS: usize = 65_535;
 
-/// For how many octets there is room at first.
+/// How many octets there is room for at first.
 const FIRST_ROOM: usize = 4_096;
 
 /// How many numbers there are.
@@ -44,7 +44,7 @@ pub(crate) struct Held {
     ended: bool,
 }
 
-/// How many octets are held.
+/// Returns how many octets are held.
 #[inline(never)]
 fn octets_in(spans: &[Option<Span>]) -> usize
     requires { sum_by span_len spans.now ≤ 65535 }
@@ -56,7 +56,7 @@ fn octets_in(spans: &[Option<Span>]) -> usize
         .sum()
 }
 
-/// Whether a segment says what is held under its number.
+/// Returns whether a segment says the same as what is held under its number.
 #[inline(never)]
 fn is_repeat(piece: &[u8], more: bool, segment: &Segment) -> bool
     ensures { result ≡ same_entry (record { piece = piece.now; more = more }) (delivery segment.now) }
@@ -64,8 +64,8 @@ fn is_repeat(piece: &[u8], more: bool, segment: &Segment) -> bool
     piece == segment.piece.as_slice() && more == segment.more
 }
 
-/// Makes room for so many octets: for a short message at first, and then for the longest that there is, so that what is
-/// held moves once.
+/// Makes room for `wanted` octets: for a short message at first, and then for the longest that there is, so that what
+/// is held moves once.
 #[inline(never)]
 fn grow(octets: &mut Vec<u8>, wanted: usize) -> Result<(), OutOfMemory>
     ensures { octets.new.items ≡ octets.old.items }
@@ -79,7 +79,7 @@ fn grow(octets: &mut Vec<u8>, wanted: usize) -> Result<(), OutOfMemory>
     Ok(())
 }
 
-/// Appends a piece to the octets. Where memory is refused they stay as they are.
+/// Appends a piece to the octets. Where memory is refused, they stay as they are.
 #[inline(always)]
 fn append(octets: &mut Vec<u8>, piece: &[u8]) -> Result<(), OutOfMemory>
     ensures ok { OnOk result (octets.new.items ≡ octets.old.items ++ piece.now) }
@@ -94,7 +94,7 @@ fn append(octets: &mut Vec<u8>, piece: &[u8]) -> Result<(), OutOfMemory>
     Ok(())
 }
 
-/// Inserts a piece in front of octets that stand there. Where memory is refused they stay as they are.
+/// Inserts a piece in front of the octets from `start` on. Where memory is refused, they stay as they are.
 #[inline(never)]
 fn insert(octets: &mut Vec<u8>, start: usize, piece: &[u8]) -> Result<(), OutOfMemory>
     requires { start ≤ length octets.old.items }
@@ -106,7 +106,7 @@ fn insert(octets: &mut Vec<u8>, start: usize, piece: &[u8]) -> Result<(), OutOfM
     Ok(())
 }
 
-/// Puts a piece among the octets. Where memory is refused they stay as they are.
+/// Puts a piece among the octets. Where memory is refused, they stay as they are.
 #[inline(always)]
 fn put(octets: &mut Vec<u8>, start: usize, piece: &[u8]) -> Result<(), OutOfMemory>
     requires { start ≤ length octets.old.items }
@@ -121,7 +121,7 @@ fn put(octets: &mut Vec<u8>, start: usize, piece: &[u8]) -> Result<(), OutOfMemo
 }
 
 impl Held {
-    /// Nothing is held.
+    /// Returns a value that holds nothing.
     pub(crate) fn new(alloc: Global) -> Result<Held, OutOfMemory>
         ensures held { IfOk result (λ h. IsHeld h) }
         ensures empty { IfOk result (λ h. table_in h ≡ empty_table) }
@@ -137,7 +137,7 @@ impl Held {
         })
     }
 
-    /// Whether all numbers up to a last piece are held.
+    /// Returns whether all numbers up to a last piece are held.
     #[inline(always)]
     pub(crate) fn is_whole(&self) -> bool
         ensures { result ≡ (self.now.ended && self.now.count == self.now.end) }
@@ -145,7 +145,7 @@ impl Held {
         self.ended && self.count == self.end
     }
 
-    /// The answer to a segment that was just kept.
+    /// Returns the answer to a segment that was just kept.
     #[inline(always)]
     fn kept(&self) -> Taken
         ensures { result ≡ (if self.now.ended && self.now.count == self.now.end then Taken.Complete else Taken.Kept) }
@@ -156,7 +156,7 @@ impl Held {
         Taken::Kept
     }
 
-    /// The pieces, joined in order of number.
+    /// Returns the pieces, joined in order of number.
     #[inline(always)]
     pub(crate) fn octets(&self) -> &[u8]
         ensures { result.now ≡ self.now.octets.items }
@@ -164,7 +164,7 @@ impl Held {
         self.octets.as_slice()
     }
 
-    /// Whether a segment would be the last one below a number that is held.
+    /// Returns whether a segment would be the last one although a greater number is held.
     #[inline(always)]
     fn ends_too_early(&self, number: usize, more: bool) -> bool
         requires { number < 256 }
@@ -173,7 +173,7 @@ impl Held {
         !more && number + 1 < self.end
     }
 
-    /// Whether a segment stands behind the last one, or others could not follow it.
+    /// Returns whether a segment stands behind the last one, or says that others follow where none could.
     #[inline(always)]
     fn is_past_end(&self, number: usize, more: bool) -> bool
         ensures { result ≡ ((self.now.ended && nat_le self.now.end number) || (more && number == 255)) }
@@ -181,7 +181,7 @@ impl Held {
         (self.ended && self.end <= number) || (more && number == 255)
     }
 
-    /// How many octets stand before a number.
+    /// Returns how many octets stand in front of those of a number.
     #[inline(always)]
     fn start(&self, number: usize) -> usize
         requires held { IsHeld self.now }
@@ -194,7 +194,7 @@ impl Held {
         octets_in(&self.spans[..number])
     }
 
-    /// Whether a segment fits behind what is held, where its number is free and it does not end too early.
+    /// Checks that a segment fits with what is held. Its number must be free, and it must not end too early.
     ///
     /// # Errors
     /// `PastEnd` and `TooLarge`.
@@ -216,7 +216,7 @@ impl Held {
         Ok(())
     }
 
-    /// Whether a segment below the end is new, or else repeated.
+    /// Returns true where a segment below the end is new, and false where it is repeated.
     ///
     /// # Errors
     /// `Conflict`, `PastEnd` and `TooLarge`.
@@ -263,7 +263,7 @@ impl Held {
         self.ended |= !span.more;
     }
 
-    /// Keeps a segment that is new and fits, with so many octets in front of its own. After each fault all is as it was.
+    /// Keeps a segment that is new and fits, with `start` octets in front of its own. After a fault all is as it was.
     ///
     /// # Errors
     /// `OutOfMemory`, where memory is refused.
@@ -292,7 +292,7 @@ impl Held {
         Ok(self.kept())
     }
 
-    /// Keeps a segment below the end, where it is new and fits. After each fault all is as it was.
+    /// Keeps a segment below the end, if it is new and fits. After each fault all is as it was.
     #[inline(never)]
     fn keep_below(&mut self, number: usize, segment: &Segment) -> Result<Taken, TakeFault>
         requires held { IsHeld self.old }
@@ -309,7 +309,7 @@ impl Held {
         }
     }
 
-    /// Keeps a segment where it is new and fits. After each fault all is as it was.
+    /// Keeps a segment, if it is new and fits. After each fault all is as it was.
     #[inline(always)]
     pub(crate) fn keep(&mut self, segment: &Segment) -> Result<Taken, TakeFault>
         requires { IsHeld self.old }

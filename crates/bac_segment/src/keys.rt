@@ -5,13 +5,13 @@ ghost use Rattle.bac_segment.specs.Deliveries.{delivery, key_of, is_request, inv
 
 use bac_apdu::{SegHead, Segment};
 
-/// A sender, as the caller numbers them, and what the segments of one message have in common. Keys are in order by their
-/// fields, the first field first; false comes before true.
+/// A sender, by the number that the caller gives it, and what the segments of one message have in common. Keys are
+/// ordered by their fields, the first field first; false comes before true.
 #[derive(Clone, Copy, Debug, PartialEq, Eq, PartialOrd, Ord, Hash)]
 pub struct Key {
     /// The number that the caller gives the sender.
     pub peer: u32,
-    /// Whether the message is a Confirmed-Request, or else a ComplexACK.
+    /// Whether the message is a Confirmed-Request; if not, it is a ComplexACK.
     pub request: bool,
     /// The invoke id.
     pub invoke: u8,
@@ -19,7 +19,7 @@ pub struct Key {
     pub choice: u8,
 }
 
-/// Whether a segment is of a Confirmed-Request.
+/// Returns whether a segment is part of a Confirmed-Request.
 #[inline(always)]
 fn is_of_request(head: SegHead) -> bool
     ensures { result ≡ is_request head }
@@ -30,7 +30,7 @@ fn is_of_request(head: SegHead) -> bool
     }
 }
 
-/// The invoke id of a segment.
+/// Returns the invoke id of a segment.
 #[inline(always)]
 fn invoke_id(head: SegHead) -> u8
     ensures { result ≡ invoke_of head }
@@ -42,7 +42,7 @@ fn invoke_id(head: SegHead) -> u8
 }
 
 impl Key {
-    /// The key of a segment that this sender sent.
+    /// Returns the key of a segment that this sender sent.
     #[inline(always)]
     pub fn of(peer: u32, segment: &Segment) -> Key
         ensures { result ≡ key_of peer (delivery segment.now) }

@@ -1,4 +1,6 @@
 //! Segmented messages (clause 5.2): cutting, reassembly, and a desk of several messages at once.
+//!
+//! In the examples `rt` is the program's `HostRuntime`.
 #![tactic(auto)]
 
 mod cutting;

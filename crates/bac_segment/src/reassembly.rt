@@ -13,8 +13,8 @@ use bac_tag::OutOfMemory;
 use std::alloc::Global;
 use std::marker::Model;
 
-/// The segments of one message (clause 5.2), in whatever order they come, at most 65,535 octets in at most 256 of
-/// them. After each fault it is as it was.
+/// The segments of one message (clause 5.2), in whatever order they come: at most 256 of them, with at most 65,535
+/// octets together. After each fault the reassembly is as it was.
 #[derive(Debug, Drop)]
 pub struct Reassembly {
     key: Key,
@@ -35,7 +35,7 @@ impl Model for Reassembly {
 }
 
 impl Reassembly {
-    /// A reassembly that holds nothing.
+    /// Returns a reassembly that holds nothing.
     ///
     /// # Errors
     /// `OutOfMemory`, where memory is refused.
@@ -67,7 +67,7 @@ impl Reassembly {
         self.held.keep(segment)
     }
 
-    /// The pieces joined, from the answer `Complete` on.
+    /// Returns the joined pieces, from the answer `Complete` on.
     pub fn octets(&self) -> Option<&[u8]>
         ensures { option_copied result ≡ whole self.now.table }
     {
@@ -77,7 +77,7 @@ impl Reassembly {
         None
     }
 
-    /// The key that it has.
+    /// Returns its key.
     #[inline]
     pub fn key(&self) -> Key
         ensures { result ≡ self.now.key }

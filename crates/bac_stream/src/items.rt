@@ -7,8 +7,10 @@ ghost use Rattle.bac_stream.specs.Intakes.{FeedFails, IsItem, Item, TakesIn};
 
 use crate::{FeedFault, Mode};
 use bac_npdu::laws::frames_have_one_value;
-use bac_npdu::{Body, Frame, FrameHead, FrameVisitor, visit_frame};
-use bac_record::{MOST, front_record};
+use bac_npdu::layers::{FrameVisitor, visit_frame};
+use bac_npdu::{Body, Frame, FrameHead};
+use bac_record::MOST;
+use bac_record::layers::front_record;
 use bac_tag::{OutOfMemory, Refusal, Why};
 use std::alloc::Global;
 

@@ -26,6 +26,6 @@ pub enum JoinFault {
     Take(TakeFault),
     /// The segment is kept and the message whole, but its octets spell no service of its kind and choice, or memory was
     /// refused while they were read. The key stays open, and the desk has the octets until it is closed.
-    #[error("refused {why} at {place}", why = .0.why.name(), place = .0.place)]
+    #[error("refused {0}")]
     Content(Refusal),
 }

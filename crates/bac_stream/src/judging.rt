@@ -8,7 +8,8 @@ ghost use Rattle.bac_stream.specs.Judging.{IsAccepted, IsCanonical, IsRefused, R
 
 use crate::Mode;
 use bac_npdu::laws::frames_have_one_value;
-use bac_npdu::{Body, FrameHead, FrameVisitor, visit_frame};
+use bac_npdu::layers::{FrameVisitor, visit_frame};
+use bac_npdu::{Body, FrameHead};
 use bac_record::DealFault;
 use bac_tag::{OutOfMemory, Why};
 use std::alloc::Global;
@@ -72,8 +73,8 @@ impl<A: Appending> FrameVisitor for Judging<A> {
     }
 }
 
-/// Appends for the frame as which the octets are accepted. Returns the first place where they differ from its canonical
-/// octets.
+/// Appends what the run writes for an accepted frame. Returns the first place where the octets differ from the canonical
+/// ones of the frame.
 ///
 /// # Errors
 /// `Stop` with what [`visit_frame`] refuses; in mode Strict also with `NotCanonical` at that first place. `Memory` where

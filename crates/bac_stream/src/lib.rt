@@ -6,6 +6,8 @@
 //!
 //! An [`Intake`] takes the same records as a stream that comes in pieces, cut anywhere, and gives the frame of each, or
 //! why it is refused.
+//!
+//! In the examples `rt` is the program's `HostRuntime`.
 #![tactic(auto)]
 
 mod checking;

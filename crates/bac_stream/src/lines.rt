@@ -9,9 +9,10 @@ ghost use Rattle.bac_text.specs.FrameText.{text};
 ghost use Rattle.bac_stream.specs.Lines.{ok, tolerated, refused, said_by, said_of, said_text, numbered, IsCounted};
 
 use bac_npdu::{Body, FrameHead};
-use bac_record::{DealFault, Dealt, add_room, make_room, put_decimal, put_octets, put_word};
+use bac_record::layers::{add_room, make_room, put_decimal, put_octets, put_word};
+use bac_record::{DealFault, Dealt};
 use bac_tag::{OutOfMemory, Refusal};
-use bac_text::write_text_of;
+use bac_text::layers::write_text_of;
 
 /// What a line says of a record, behind its number.
 #[derive(Clone, Copy, Debug)]

@@ -146,6 +146,20 @@ impl Job for Normalise {
 ///
 /// # Errors
 /// As [`RunFault`] says. `Frame` tells the first refused record.
+///
+/// # Examples
+/// ```rust
+/// use bac_stream::{Counted, Mode, run_normalise};
+///
+/// // A frame with ignored bits set in its control octet.
+/// let file = [0x00, 0x03, 0x01, 0xD0, 0x12];
+/// let mut reader = Counted::new(file.as_slice());
+/// let mut writer = Counted::new(Vec::new(rt.alloc()));
+/// let summary = run_normalise(rt.alloc(), Mode::Tolerant, &mut reader, &mut writer)?;
+/// assert_eq!(rt; (summary.records, summary.refused), (1, 0));
+/// let canonical = [0x00, 0x03, 0x01, 0x80, 0x12];
+/// assert_eq!(rt; writer.device.as_slice(), canonical.as_slice());
+/// ```
 pub fn run_normalise<R: Input, W: Output>(
     alloc: Global,
     mode: Mode,

@@ -69,6 +69,20 @@ impl Job for Show {
 ///
 /// # Errors
 /// As [`RunFault`] says, but never `Frame`: refused records do not stop the run.
+///
+/// # Examples
+/// ```rust
+/// use bac_stream::{Counted, Mode, run_show};
+///
+/// // A Who-Is that asks for all devices, and a record of no octets.
+/// let file = [0x00, 0x04, 0x01, 0x00, 0x10, 0x08, 0x00, 0x00];
+/// let mut reader = Counted::new(file.as_slice());
+/// let mut writer = Counted::new(Vec::new(rt.alloc()));
+/// let summary = run_show(rt.alloc(), Mode::Tolerant, &mut reader, &mut writer)?;
+/// assert_eq!(rt; (summary.records, summary.refused), (2, 1));
+/// let lines = b"1 prio=0 reply=0 unconf Who-Is\n2 refused Short at 0\n";
+/// assert_eq!(rt; writer.device.as_slice(), lines.as_slice());
+/// ```
 pub fn run_show<R: Input, W: Output>(
     alloc: Global,
     mode: Mode,

@@ -4,7 +4,7 @@ use bac_npdu::decode_frame;
 use bac_pack::run_pack;
 use bac_record::{Counted, read_record, write_record};
 use bac_segment::Desk;
-use bac_stream::{Intake, Joined, Mode, join, run_check};
+use bac_stream::{Intake, Joined, Mode, join, run_check, run_normalise, run_show};
 use std::test::Fail;
 
 // Of `bac_record::read_record`.
@@ -43,6 +43,34 @@ fn a_file_is_checked(rt: HostRuntime) -> Result<(), Fail> {
     assert_eq!(rt; (summary.records, summary.refused), (2, 1));
     let lines = b"1 tolerated at 1\n2 refused Short at 0\n";
     assert_eq!(rt; writer.device.as_slice(), lines.as_slice());
+    Ok(())
+}
+
+// Of `bac_stream::run_show`.
+#[test]
+fn a_file_is_shown(rt: HostRuntime) -> Result<(), Fail> {
+    // A Who-Is that asks for all devices, and a record of no octets.
+    let file = [0x00, 0x04, 0x01, 0x00, 0x10, 0x08, 0x00, 0x00];
+    let mut reader = Counted::new(file.as_slice());
+    let mut writer = Counted::new(Vec::new(rt.alloc()));
+    let summary = run_show(rt.alloc(), Mode::Tolerant, &mut reader, &mut writer)?;
+    assert_eq!(rt; (summary.records, summary.refused), (2, 1));
+    let lines = b"1 prio=0 reply=0 unconf Who-Is\n2 refused Short at 0\n";
+    assert_eq!(rt; writer.device.as_slice(), lines.as_slice());
+    Ok(())
+}
+
+// Of `bac_stream::run_normalise`.
+#[test]
+fn a_file_is_normalised(rt: HostRuntime) -> Result<(), Fail> {
+    // A frame with ignored bits set in its control octet.
+    let file = [0x00, 0x03, 0x01, 0xD0, 0x12];
+    let mut reader = Counted::new(file.as_slice());
+    let mut writer = Counted::new(Vec::new(rt.alloc()));
+    let summary = run_normalise(rt.alloc(), Mode::Tolerant, &mut reader, &mut writer)?;
+    assert_eq!(rt; (summary.records, summary.refused), (1, 0));
+    let canonical = [0x00, 0x03, 0x01, 0x80, 0x12];
+    assert_eq!(rt; writer.device.as_slice(), canonical.as_slice());
     Ok(())
 }
 

@@ -4,9 +4,12 @@ ghost use Rattle.std.specs.Prelude.{◌≤◌};
 
 use crate::expectations::{assert_holds, assert_same, assert_same_of, assert_shown};
 use crate::fakes::{CopyOctets, Drain, Feed, Troubled, Unending};
+use bac_record::layers::{
+    front_record, make_room, put_decimal, put_hexadecimal, put_signed_decimal, write_whole,
+};
 use bac_record::{
-    Counted, DealFault, Device, Input, RunFault, StreamFault, Summary, front_record, make_room,
-    put_decimal, put_hexadecimal, put_signed_decimal, read_record, run, write_record, write_whole,
+    Counted, DealFault, Device, Input, RunFault, StreamFault, Summary, read_record, run,
+    write_record,
 };
 use bac_tables::enclosed;
 use bac_tag::Why;

@@ -1,15 +1,16 @@
 //! The text of a frame and of everything in it, as one line: parts with one blank between two, numbers in decimal digits
 //! without leading zeros, truth values as 0 or 1, octets as two upper case hexadecimal digits each.
 //!
-//! [`append_text`] appends the text of a frame, and [`write_text_of`] writes that of a head and a body at a place.
-//! docs/FORMATS.md has the table of all texts. Here the comment at the text of each type says what stands in it, where
-//! `[ ]` is a part that is shown only where the value has it.
+//! [`append_text`] appends the text of a frame. What only the layers above call stands in [`layers`]. docs/FORMATS.md has
+//! the table of all texts. Here the comment at the text of each type says what stands in it, where `[ ]` is a part that is
+//! shown only where the value has it.
 //!
 //! In the example `rt` is the program's `HostRuntime`.
 #![tactic(auto)]
 
 mod apdus;
 mod frames;
+pub mod layers;
 mod lists;
 mod messages;
 mod open_values;
@@ -19,4 +20,4 @@ mod scalars;
 mod services;
 mod texts;
 
-pub use frames::{append_text, write_text_of};
+pub use frames::append_text;

@@ -10,7 +10,7 @@ use crate::primitives::write_primitive;
 use crate::scalars::write_digits;
 use crate::texts::{HasText, ROOM, put_field, write_word};
 use bac_data::{Any, Event};
-use bac_record::{make_room, put_word};
+use bac_record::layers::{make_room, put_word};
 use bac_tag::OutOfMemory;
 
 /// Writes a blank at a place, unless what follows is the first of its group. Returns where it ends.

@@ -14,7 +14,7 @@ ghost use Rattle.bac_text.specs.PrimitiveText.{is_plain_octet, is_plain, string_
 
 use crate::scalars::{write_few_octets, write_octets};
 use crate::texts::{ROOM, write_field, write_named, write_word};
-use bac_record::{make_room, put_octets, put_signed_decimal, put_word};
+use bac_record::layers::{make_room, put_octets, put_signed_decimal, put_word};
 use bac_tag::OutOfMemory;
 use bac_value::{Boolean, Null, PrimRef};
 

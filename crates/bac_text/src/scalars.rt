@@ -5,7 +5,7 @@ ghost use Rattle.bac_tag.specs.Octets.{Extends};
 ghost use Rattle.bac_record.specs.Digits.{hexadecimal};
 
 use crate::texts::{HasShortText, HasText, ROOM, put_field, write_short, write_word};
-use bac_record::{make_room, put_decimal, put_hexadecimal, put_word};
+use bac_record::layers::{make_room, put_decimal, put_hexadecimal, put_word};
 use bac_tag::OutOfMemory;
 use bac_value::{Enumerated, Instance, ObjectId, Priority, Unsigned16, Unsigned32};
 

@@ -4,7 +4,7 @@ ghost use Rattle.std.specs.Prelude.{◌≡◌, ◌≤◌, ◌+◌, ◌++◌, ℕ
 ghost use Rattle.std.specs.Option.{option_map_or};
 ghost use Rattle.bac_tag.specs.Octets.{Extends};
 
-use bac_record::{make_room, put_word};
+use bac_record::layers::{make_room, put_word};
 use bac_tag::OutOfMemory;
 
 /// What has a text.

@@ -17,7 +17,7 @@ use Rattle.bac_tool.specs.declared.command_line.Job.{Job}
 use Rattle.bac_tool.specs.declared.command_line.Job.TheVariants.{Show, Check, Normalise, Pack}
 use Rattle.bac_tool.specs.declared.job_faults.JobFault.{JobFault}
 use Rattle.bac_tool.specs.declared.job_faults.JobFault.TheVariants as fault
-use Rattle.bac_record.specs.declared.faults.RunFault.TheVariants.{Stream, Frame}
+use Rattle.bac_record.specs.declared.faults.RunFault.TheVariants.{Frame}
 use Rattle.bac_record.specs.declared.summaries.Summary.{Summary}
 
 -- a run over records that ended well, with so many refused ones
@@ -86,11 +86,15 @@ pub record Tells (output output' errors errors' : Sink) (text : List ℕ) (statu
   pub told : Receives errors errors' text
   pub status_is : status ≡ 2
 
--- A text was written to the output. Where the output took it whole the errors took nothing, and all went well.
+-- The text was written to the output. Where the output took it whole the errors took nothing, and all went well.
+abbrev pub Gives : List ℕ → Sink → Sink → Sink → Sink → ℕ → Type 0
+Gives text output output' errors errors' status =
+    (Appends output.taken output'.taken text × (output'.failures ≡ output.failures) × (errors' ≡ errors) × (status ≡ 0))
+    ⊎ (TakesPart output output' text × (status ≡ 2))
+
+-- Some text was.
 abbrev pub Writes : Sink → Sink → Sink → Sink → ℕ → Type 0
-Writes output output' errors errors' status = (text : List ℕ) ×
-    ((Appends output.taken output'.taken text × (output'.failures ≡ output.failures) × (errors' ≡ errors) × (status ≡ 0))
-    ⊎ (TakesPart output output' text × (status ≡ 2)))
+Writes output output' errors errors' status = (text : List ℕ) × Gives text output output' errors errors' status
 
 -- How words that name no job are answered: want of memory by its line on the errors, help and the version by a text on the
 -- output, and a mistake by a text on the errors. Memory may be wanted for either text too.

@@ -3,12 +3,12 @@
 ghost use Rattle.std.specs.Prelude.{◌≡◌, ◌⊎◌, MatchResult, map};
 ghost use Rattle.clap.specs.Words.{fault_of, kind_of, subcommand_of, takes};
 ghost use Rattle.bac_tool.specs.CommandLine.{bactool};
-ghost use Rattle.bac_tool.specs.Tool.{Answers, Counts, HasNotRun, HasRun, Receives, RunsAs, Writes, status_of as status_of_answer};
+ghost use Rattle.bac_tool.specs.Tool.{Answers, Counts, Gives, HasNotRun, HasRun, Receives, RunsAs, status_of as status_of_answer};
 
 use crate::{Job, JobFault, job};
 use arrayvec::ArrayString;
 use bac_pack::run_pack;
-use bac_record::write_whole;
+use bac_record::layers::write_whole;
 use bac_stream::{Input, Output, RunFault, StreamFault, run_check, run_normalise, run_show};
 use clap::Error;
 use clap::error::ErrorKind;
@@ -47,7 +47,7 @@ fn tell_text<E: Output>(text: &[u8], errors: &mut E)
 
 /// Writes a text that was asked for, and gives the status.
 fn write_text<W: Output, E: Output>(text: &[u8], output: &mut W, errors: &mut E) -> u8
-    ensures { Writes (record { taken = W.taken output.old; failures = W.failures output.old }) (record { taken = W.taken output.new; failures = W.failures output.new })
+    ensures { Gives text.now (record { taken = W.taken output.old; failures = W.failures output.old }) (record { taken = W.taken output.new; failures = W.failures output.new })
         (record { taken = E.taken errors.old; failures = E.failures errors.old }) (record { taken = E.taken errors.new; failures = E.failures errors.new }) result }
 {
     match write_whole(output, text) {

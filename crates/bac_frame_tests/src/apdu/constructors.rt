@@ -73,6 +73,7 @@ fn parts_are_those_of_the_octets(rt: HostRuntime) {
     let found = (ack.invoke, ack.nak, ack.srv, ack.seq);
     assert_same(&rt, found, (1, true, false, 2));
     assert_same(&rt, Some(ack.window), Window::new(3));
+    assert_holds(&rt, Some(ack.window) < Window::new(4), "the order");
 }
 
 /// The two are not equal.

@@ -28,6 +28,7 @@ fn arguments_come_back(rt: HostRuntime) {
     assert_same(&rt, NetPriority::new(4), None);
     let priority = NetPriority::new(3).expect(&rt, "a priority");
     assert_same(&rt, priority.number(), 3);
+    assert_holds(&rt, NetPriority::new(2) < Some(priority), "the order");
 }
 
 /// So many ports, each without information.

@@ -1,7 +1,8 @@
 //! What is made of a frame where it was decoded.
 
 use crate::expectations::assert_same;
-use bac_npdu::{Body, FrameHead, FrameVisitor, append_frame, visit_frame};
+use bac_npdu::layers::{FrameVisitor, visit_frame};
+use bac_npdu::{Body, FrameHead, append_frame};
 use bac_tables::octets_of;
 use bac_tag::{OutOfMemory, Refusal, Why};
 use std::alloc::Global;

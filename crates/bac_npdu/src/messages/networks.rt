@@ -1,4 +1,4 @@
-//! Network messages with networks alone (clauses 6.4.1, 6.4.2, 6.4.5 and 6.4.6).
+//! Network messages that hold nothing but networks (clauses 6.4.1, 6.4.2, 6.4.5 and 6.4.6).
 
 ghost use Rattle.std.specs.Prelude.{◌≡◌, ◌<◌, [], ◌++◌, length, drop, IfOk, IfErr, OnOk};
 ghost use Rattle.bac_tag.specs.HeadOctets.{Headed, least_head};
@@ -12,7 +12,7 @@ use crate::octets::{number_at, octets_of_number, sized};
 use bac_tag::{OutOfMemory, Refusal, Why};
 use std::alloc::Global;
 
-/// Decodes a Who-Is-Router: type 0, and nothing or the network (2).
+/// Decodes a Who-Is-Router-To-Network: type 0, and nothing or the network (2).
 pub(crate) fn decode_who_is_router(octets: &[u8]) -> Result<NetMessage, Refusal>
     requires { BeginsWith 0 octets.now }
     ensures { IsMessageDecoded octets.now result }
@@ -27,7 +27,7 @@ pub(crate) fn decode_who_is_router(octets: &[u8]) -> Result<NetMessage, Refusal>
 /// Reads the networks behind the type, two octets each, up to the end.
 ///
 /// # Errors
-/// `Short` where the last has one octet alone; `OutOfMemory` where memory is refused.
+/// `Short` where the last one has only one octet; `OutOfMemory` where memory is refused.
 pub(crate) fn read_networks(alloc: Global, octets: &[u8]) -> Result<Vec<u16>, Refusal>
     requires { 0 < length octets.now }
     ensures found { IfOk result (λ networks. Headed (networks_of networks.items) (λ rest. rest ≡ []) (drop 1 octets.now)) }
@@ -51,7 +51,7 @@ pub(crate) fn read_networks(alloc: Global, octets: &[u8]) -> Result<Vec<u16>, Re
     Ok(networks)
 }
 
-/// Appends networks, two octets each. Where memory is refused `out` may hold some of them.
+/// Appends networks, two octets each. Where memory is refused, `out` may hold some of them.
 pub(crate) fn append_networks(networks: &[u16], out: &mut Vec<u8>) -> Result<(), OutOfMemory>
     ensures written { OnOk result (out.new.items ≡ out.old.items ++ least_head (networks_of networks.now)) }
     ensures kept { Extends out.old.items out.new.items }
@@ -62,7 +62,7 @@ pub(crate) fn append_networks(networks: &[u16], out: &mut Vec<u8>) -> Result<(),
     Ok(())
 }
 
-/// Appends a network, where there is one. Where memory is refused `out` stays as it was.
+/// Appends a network, if there is one. Where memory is refused, `out` stays as it was.
 pub(crate) fn append_network(network: Option<u16>, out: &mut Vec<u8>) -> Result<(), OutOfMemory>
     ensures written { OnOk result (out.new.items ≡ out.old.items ++ least_head (network_or_none network)) }
     ensures kept { Extends out.old.items out.new.items }

@@ -9,12 +9,12 @@ use std::fmt;
 use std::fmt::Display;
 use std::marker::Model;
 
-/// Why no opaque network message is made, in the order in which it is told.
+/// Why no opaque network message is made, in the order in which the faults are told.
 #[derive(Clone, Copy, Debug, PartialEq, Eq)]
 pub enum NetFault {
     /// The type has a layout.
     Typed = 1,
-    /// A vendor for a type below 128, or none for one from 128 on.
+    /// A type below 128 has a vendor, or one from 128 on has none.
     Vendor,
     /// Memory was refused.
     OutOfMemory,
@@ -32,7 +32,7 @@ impl Display for NetFault {
 
 impl Error for NetFault {}
 
-/// Whether messages of this type have a layout.
+/// Returns whether messages of this type have a layout.
 #[inline(always)]
 pub(crate) fn has_layout(kind: u8) -> bool
     ensures { result ≡ is_typed kind }
@@ -42,7 +42,7 @@ pub(crate) fn has_layout(kind: u8) -> bool
 
 /// A network message of a type without a layout (clause 6.2.4).
 ///
-/// Octets: the type (1); of types from 128 on the vendor (2); its data, which may be any.
+/// Octets: the type (1); with types from 128 on, the vendor (2); the data, which may be any octets.
 #[derive(Debug, Drop)]
 pub struct OpaqueNet {
     kind: u8,
@@ -64,7 +64,7 @@ impl Model for OpaqueNet {
 }
 
 impl OpaqueNet {
-    /// The message of this type and vendor with a copy of these octets, which may be any.
+    /// Returns the message of this type and vendor with a copy of these octets, which may be any.
     ///
     /// # Errors
     /// `Typed` where the type has a layout; `Vendor` where a type below 128 has a vendor, or one from 128 on has none;
@@ -95,7 +95,7 @@ impl OpaqueNet {
         })
     }
 
-    /// Its type.
+    /// Returns its type.
     pub fn kind(&self) -> u8
         ensures kind { result ≡ self.now.kind }
         ensures untyped { is_typed result ≡ false }
@@ -103,7 +103,7 @@ impl OpaqueNet {
         self.kind
     }
 
-    /// Its vendor, where its type is from 128 on.
+    /// Returns its vendor, or None where its type is below 128.
     pub fn vendor(&self) -> Option<u16>
         ensures vendor { result ≡ self.now.vendor }
         ensures vendored { IsVendored self.now.kind result }
@@ -111,7 +111,7 @@ impl OpaqueNet {
         self.vendor
     }
 
-    /// Its data, in their order, without type and vendor.
+    /// Returns its data, in their order, without the type and the vendor.
     pub fn octets(&self) -> &[u8]
         ensures { result.now ≡ self.now.octets }
     {

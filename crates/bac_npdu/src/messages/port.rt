@@ -11,6 +11,6 @@ pub struct Port {
     pub network: u16,
     /// The number of the port.
     pub id: u8,
-    /// What the table says besides, 0 to 255 octets.
+    /// What else the table says of the port, 0 to 255 octets.
     pub info: Mac,
 }

@@ -7,7 +7,7 @@ use std::marker::Model;
 
 /// A routing table (clause 6.4.7), of at most 255 ports.
 ///
-/// Octets: the number of ports (1), and the octets of each port in turn.
+/// Octets: the number of ports (1), and the octets of one port after the other.
 #[derive(Debug, Drop)]
 pub struct Ports {
     list: Vec<Port>,
@@ -28,10 +28,10 @@ impl Model for Ports {
 }
 
 impl Ports {
-    /// The table of these ports.
+    /// Returns the table of these ports.
     ///
     /// # Errors
-    /// The list, where it has more than 255 ports.
+    /// The list itself, where it has more than 255 ports.
     pub fn new(list: Vec<Port>) -> Result<Ports, Vec<Port>>
         ensures ok { IsOk result ↔ (length list.items < 256) }
         ensures value { IfOk result (λ ports. ports ≡ list.items) }
@@ -43,7 +43,7 @@ impl Ports {
         Ok(Ports { list })
     }
 
-    /// Its ports, in their order, at most 255.
+    /// Returns its ports in their order, at most 255.
     pub fn list(&self) -> &[Port]
         ensures list { result.now ≡ self.now }
         ensures few { length result.now < 256 }

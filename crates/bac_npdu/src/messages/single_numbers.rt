@@ -1,4 +1,4 @@
-//! Network messages of a fixed number of octets (clauses 6.4.3, 6.4.4, 6.4.9, 6.4.10, 6.4.20 and 6.4.21).
+//! Network messages of a fixed number of octets (clauses 6.4.3, 6.4.4, 6.4.9, 6.4.10, 6.4.19 and 6.4.20).
 
 ghost use Rattle.bac_npdu.specs.Decoded.{BeginsWith, IsMessageDecoded};
 
@@ -6,7 +6,7 @@ use crate::message::NetMessage;
 use crate::octets::{number_at, sized};
 use bac_tag::Refusal;
 
-/// Decodes an I-Could-Be-Router: type 2, the network (2), the performance (1).
+/// Decodes an I-Could-Be-Router-To-Network: type 2, the network (2), the performance (1).
 pub(crate) fn decode_i_could_be_router(octets: &[u8]) -> Result<NetMessage, Refusal>
     requires { BeginsWith 2 octets.now }
     ensures { IsMessageDecoded octets.now result }
@@ -18,7 +18,7 @@ pub(crate) fn decode_i_could_be_router(octets: &[u8]) -> Result<NetMessage, Refu
     })
 }
 
-/// Decodes a Reject: type 3, the reason (1), the network (2).
+/// Decodes a Reject-Message-To-Network: type 3, the reason (1), the network (2).
 pub(crate) fn decode_reject_message(octets: &[u8]) -> Result<NetMessage, Refusal>
     requires { BeginsWith 3 octets.now }
     ensures { IsMessageDecoded octets.now result }
@@ -30,7 +30,7 @@ pub(crate) fn decode_reject_message(octets: &[u8]) -> Result<NetMessage, Refusal
     })
 }
 
-/// Decodes an Establish-Connection: type 8, the network (2), the time (1).
+/// Decodes an Establish-Connection-To-Network: type 8, the network (2), the time (1).
 pub(crate) fn decode_establish(octets: &[u8]) -> Result<NetMessage, Refusal>
     requires { BeginsWith 8 octets.now }
     ensures { IsMessageDecoded octets.now result }
@@ -42,7 +42,7 @@ pub(crate) fn decode_establish(octets: &[u8]) -> Result<NetMessage, Refusal>
     })
 }
 
-/// Decodes a Disconnect: type 9, the network (2).
+/// Decodes a Disconnect-Connection-To-Network: type 9, the network (2).
 pub(crate) fn decode_disconnect(octets: &[u8]) -> Result<NetMessage, Refusal>
     requires { BeginsWith 9 octets.now }
     ensures { IsMessageDecoded octets.now result }
@@ -51,7 +51,7 @@ pub(crate) fn decode_disconnect(octets: &[u8]) -> Result<NetMessage, Refusal>
     Ok(NetMessage::Disconnect(number_at(octets, 1)))
 }
 
-/// Decodes a What-Is-Network-Number: type 18 alone.
+/// Decodes a What-Is-Network-Number: type 18, and nothing else.
 pub(crate) fn decode_what_is_network_number(octets: &[u8]) -> Result<NetMessage, Refusal>
     requires { BeginsWith 18 octets.now }
     ensures { IsMessageDecoded octets.now result }

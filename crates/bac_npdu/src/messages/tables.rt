@@ -15,7 +15,7 @@ use crate::octets::{number_at, octets_of_number};
 use bac_tag::{OutOfMemory, Refusal, Why};
 use std::alloc::Global;
 
-/// Reads the port at a place, and tells the place behind it.
+/// Reads the port at a place, and returns it with the place behind it.
 ///
 /// # Errors
 /// `Short` where the octets end within the port; `OutOfMemory` where memory is refused.
@@ -44,7 +44,7 @@ fn read_port(alloc: Global, octets: &[u8], place: usize) -> Result<(Port, usize)
     Ok((port, place + 4 + count))
 }
 
-/// Reads the routing table behind the type: how many ports, and each in turn up to the end.
+/// Reads the routing table behind the type: the number of ports, and one port after the other up to the end.
 ///
 /// # Errors
 /// `Short` where the octets end before the last port does; `Trailing` behind the last port; `OutOfMemory` where memory
@@ -94,7 +94,7 @@ pub(crate) fn decode_init_table_ack(alloc: Global, octets: &[u8]) -> Result<NetM
     Ok(NetMessage::InitTableAck(Some(read_ports(alloc, octets)?)))
 }
 
-/// Appends a port. Where memory is refused `out` may hold some of its octets.
+/// Appends a port. Where memory is refused, `out` may hold some of its octets.
 fn append_port(port: &Port, out: &mut Vec<u8>) -> Result<(), OutOfMemory>
     ensures written { OnOk result (out.new.items ≡ out.old.items ++ least_head (ports_of (port.now ∷ []))) }
     ensures kept { Extends out.old.items out.new.items }
@@ -106,7 +106,7 @@ fn append_port(port: &Port, out: &mut Vec<u8>) -> Result<(), OutOfMemory>
     Ok(())
 }
 
-/// Appends a routing table. Where memory is refused `out` may hold some of its octets.
+/// Appends a routing table. Where memory is refused, `out` may hold some of its octets.
 pub(crate) fn append_ports(ports: &Ports, out: &mut Vec<u8>) -> Result<(), OutOfMemory>
     ensures written { OnOk result (out.new.items ≡ out.old.items ++ least_head (table_of ports.now)) }
     ensures kept { Extends out.old.items out.new.items }

@@ -5,7 +5,7 @@ ghost use Rattle.bac_tag.specs.Octets.{Extends};
 ghost use Rattle.bac_text.specs.MessageText.{i_could_be_router_text, reject_message_text, establish_text, disconnect_text, network_number_text};
 
 use crate::texts::{ROOM, put_field, write_named, write_word};
-use bac_record::make_room;
+use bac_record::layers::make_room;
 use bac_tag::OutOfMemory;
 
 /// Writes `net type=02 network=N performance=N`.

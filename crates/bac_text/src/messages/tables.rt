@@ -8,7 +8,7 @@ use crate::lists::write_list;
 use crate::scalars::write_octets;
 use crate::texts::{HasText, ROOM, put_field, write_field, write_optional, write_word};
 use bac_npdu::{Port, Ports};
-use bac_record::make_room;
+use bac_record::layers::make_room;
 use bac_tag::OutOfMemory;
 
 /// `(network=N id=N info=HEX)`.

@@ -2,7 +2,7 @@
 
 use crate::texts::{HasShortText, HasText, ROOM, put_field};
 use bac_apdu::{Abort, ComplexAck, ErrorPdu, Reject, SimpleAck};
-use bac_record::{make_room, put_word};
+use bac_record::layers::{make_room, put_word};
 use bac_tag::OutOfMemory;
 
 /// `simple id=I choice=C`.

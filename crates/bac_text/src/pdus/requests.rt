@@ -6,7 +6,7 @@ ghost use Rattle.bac_text.specs.Words.{field, number, truth};
 
 use crate::texts::{HasText, ROOM, put_field, write_field};
 use bac_apdu::{ConfirmedRequest, RequestHead, UnconfirmedRequest};
-use bac_record::{make_room, put_word};
+use bac_record::layers::{make_room, put_word};
 use bac_tag::OutOfMemory;
 
 /// Writes ` sa=A segs=S resp=` at once, and M. Returns where they end.

@@ -4,7 +4,7 @@ use crate::pdus::requests::put_request_head;
 use crate::scalars::write_octets;
 use crate::texts::{HasShortText, HasText, ROOM, put_field};
 use bac_apdu::{SegHead, Segment, SegmentAck};
-use bac_record::make_room;
+use bac_record::layers::make_room;
 use bac_tag::OutOfMemory;
 
 /// `conf-seg id=I sa=A segs=S resp=M` or `ack-seg id=I`.

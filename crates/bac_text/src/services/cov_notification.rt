@@ -6,7 +6,7 @@ ghost use Rattle.bac_service.specs.ServiceValues.{notification_kind};
 ghost use Rattle.bac_text.specs.CovNotificationText.{notification_name};
 
 use crate::texts::{HasText, ROOM, put_field, write_word};
-use bac_record::{make_room, put_word};
+use bac_record::layers::{make_room, put_word};
 use bac_service::CovNotification;
 use bac_tag::OutOfMemory;
 

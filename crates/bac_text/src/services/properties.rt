@@ -8,7 +8,7 @@ ghost use Rattle.bac_text.specs.PropertyText.{property_text, cause_text};
 use crate::texts::{
     HasShortText, HasText, ROOM, put_field, put_optional, write_field, write_short, write_word,
 };
-use bac_record::{make_room, put_word};
+use bac_record::layers::{make_room, put_word};
 use bac_service::{
     ErrorCause, PropertyReference, PropertyResult, PropertyValue, ReadResult, Unsigned32,
 };

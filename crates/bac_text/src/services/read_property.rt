@@ -2,7 +2,7 @@
 
 use crate::services::properties::put_property;
 use crate::texts::{HasShortText, HasText, ROOM, put_field};
-use bac_record::{make_room, put_word};
+use bac_record::layers::{make_room, put_word};
 use bac_service::{ReadProperty, ReadPropertyAck};
 use bac_tag::OutOfMemory;
 

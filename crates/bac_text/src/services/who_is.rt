@@ -1,7 +1,7 @@
 //! The text of Who-Is.
 
 use crate::texts::{HasShortText, put_field};
-use bac_record::put_word;
+use bac_record::layers::put_word;
 use bac_service::WhoIs;
 
 /// `Who-Is [low=N high=N]`.

@@ -2,7 +2,7 @@
 
 use crate::services::properties::put_property;
 use crate::texts::{HasText, ROOM, put_field, put_optional};
-use bac_record::{make_room, put_word};
+use bac_record::layers::{make_room, put_word};
 use bac_service::WriteProperty;
 use bac_tag::OutOfMemory;
 
