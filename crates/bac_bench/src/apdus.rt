@@ -40,7 +40,7 @@ pub fn add(
     mode: Mode,
     pdu: &Pdu<'_>,
 ) -> Result<(), BenchFault> {
-    let whole = work(rt, mode, &Apdus, pdu.octets)?;
+    let whole = work(rt, mode, &Apdus, pdu.octets, BATCH)?;
     let Some((_, service)) = pdu.octets.split_at_checked(pdu.head) else {
         return Err(BenchFault::Differs);
     };
@@ -48,6 +48,6 @@ pub fn add(
         kind: pdu.kind,
         choice: pdu.choice,
     };
-    let alone = work(rt, mode, &layer, service)?;
+    let alone = work(rt, mode, &layer, service, BATCH)?;
     Ok(print(rt, mode, "APDU", pdu.name, pdu.octets.len(), whole, alone)?)
 }

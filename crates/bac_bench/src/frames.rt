@@ -37,11 +37,11 @@ pub fn add(
     mode: Mode,
     npdu: &Npdu<'_>,
 ) -> Result<(), BenchFault> {
-    let whole = work(rt, mode, &Frames, npdu.octets)?;
+    let whole = work(rt, mode, &Frames, npdu.octets, BATCH)?;
     let Some((_, apdu)) = npdu.octets.split_at_checked(npdu.head) else {
         return Err(BenchFault::Differs);
     };
-    let alone = work(rt, mode, &Apdus, apdu)?;
+    let alone = work(rt, mode, &Apdus, apdu, BATCH)?;
     Ok(print(
         rt,
         mode,

@@ -2,9 +2,9 @@
 //! of the frame's octets in the same run.
 
 use crate::faults::BenchFault;
-use crate::layers::{Apdus, Frames, Layer, Services};
+use crate::layers::{Apdus, Frames, Services, Times, work};
 use crate::modes::Mode;
-use crate::rounds::{expect_canonical, expect_same, timed};
+use crate::rounds::{expect_same, timed};
 use bac_npdu::normalise_frame;
 use bac_service::Kind;
 use std::alloc::{AllocError, Global};
@@ -32,41 +32,6 @@ fn frame_of(alloc: Global, value: &[u8]) -> Result<Vec<u8>, AllocError> {
 /// The octets from a place on.
 fn behind(octets: &[u8], place: usize) -> Result<&[u8], BenchFault> {
     octets.get(place..).ok_or(BenchFault::Differs)
-}
-
-/// What a layer appends for a value, to an empty vector.
-fn appended<L: Layer>(alloc: Global, layer: &L, value: &L::Value) -> Result<Vec<u8>, BenchFault> {
-    let mut out = Vec::new(alloc);
-    layer.append(value, &mut out)?;
-    Ok(out)
-}
-
-/// How long one message takes.
-#[derive(Clone, Copy)]
-struct Times {
-    decode: Duration,
-    mark: Duration,
-    append: Duration,
-}
-
-/// Does the work of a layer.
-fn work<L: Layer>(
-    rt: &(impl AllocGlobal + Clock),
-    mode: Mode,
-    layer: &L,
-    octets: &[u8],
-) -> Result<Times, BenchFault> {
-    let (alloc, repetitions) = (rt.alloc(), mode.repetitions());
-    let (value, decode) = timed(rt, repetitions, || Ok(layer.decode(alloc, octets)?))?;
-    let ((_, found), mark) = timed(rt, repetitions, || Ok(layer.mark(alloc, octets)?))?;
-    expect_canonical(found)?;
-    let (written, append) = timed(rt, repetitions, || appended(alloc, layer, &value))?;
-    expect_same(written, octets)?;
-    Ok(Times {
-        decode,
-        mark,
-        append,
-    })
 }
 
 /// The time of `normalise_frame`.
@@ -104,9 +69,9 @@ pub fn run(
         kind: Kind::Confirmed,
         choice: 15,
     };
-    let service = work(rt, mode, &services, behind(octets, SERVICE)?)?;
-    let apdu = work(rt, mode, &Apdus, behind(octets, APDU)?)?;
-    let whole = work(rt, mode, &Frames, octets)?;
+    let service = work(rt, mode, &services, behind(octets, SERVICE)?, 1)?;
+    let apdu = work(rt, mode, &Apdus, behind(octets, APDU)?, 1)?;
+    let whole = work(rt, mode, &Frames, octets, 1)?;
     let normal = normalising(rt, mode, octets)?;
     begin(rt, mode, octets.len())?;
     add(rt, mode, "service", service, copy)?;

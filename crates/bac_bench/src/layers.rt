@@ -92,20 +92,26 @@ impl Layer for Services {
 /// How long a batch takes.
 #[derive(Clone, Copy)]
 pub struct Times {
-    decode: Duration,
-    mark: Duration,
-    append: Duration,
+    pub decode: Duration,
+    pub mark: Duration,
+    pub append: Duration,
+}
+
+/// The first message of a batch, and the others. Each has so many octets.
+fn first_of(batch: &[u8], size: usize) -> Result<(&[u8], &[u8]), BenchFault> {
+    batch.split_at_checked(size).ok_or(BenchFault::Differs)
 }
 
 /// Decodes each message of a batch, and gives the last.
 fn decoded<L: Layer>(
     alloc: Global,
     layer: &L,
-    octets: &[u8],
+    size: usize,
     batch: &[u8],
 ) -> Result<L::Value, BenchFault> {
-    let mut last = layer.decode(alloc, octets)?;
-    for octets in batch.chunks_exact(octets.len().max(1)) {
+    let (first, others) = first_of(batch, size)?;
+    let mut last = layer.decode(alloc, first)?;
+    for octets in others.chunks_exact(size.max(1)) {
         last = layer.decode(alloc, octets)?;
     }
     Ok(last)
@@ -115,11 +121,12 @@ fn decoded<L: Layer>(
 fn marked<L: Layer>(
     alloc: Global,
     layer: &L,
-    octets: &[u8],
+    size: usize,
     batch: &[u8],
 ) -> Result<(L::Value, Option<usize>), BenchFault> {
-    let (mut last, mut found) = layer.mark(alloc, octets)?;
-    for octets in batch.chunks_exact(octets.len().max(1)) {
+    let (first, others) = first_of(batch, size)?;
+    let (mut last, mut found) = layer.mark(alloc, first)?;
+    for octets in others.chunks_exact(size.max(1)) {
         let (value, mark) = layer.mark(alloc, octets)?;
         last = value;
         found = found.or(mark);
@@ -128,28 +135,34 @@ fn marked<L: Layer>(
 }
 
 /// Appends a value to an empty vector, so often to the same one.
-fn appended<L: Layer>(alloc: Global, layer: &L, value: &L::Value) -> Result<Vec<u8>, BenchFault> {
+fn appended<L: Layer>(
+    alloc: Global,
+    layer: &L,
+    value: &L::Value,
+    count: usize,
+) -> Result<Vec<u8>, BenchFault> {
     let mut out = Vec::new(alloc);
-    for _ in 0..BATCH {
+    for _ in 0..count {
         out.clear();
         layer.append(value, &mut out)?;
     }
     Ok(out)
 }
 
-/// Does the work of a layer.
+/// Does the work of a layer on a batch of so many messages with these octets.
 pub fn work<L: Layer>(
     rt: &(impl AllocGlobal + Clock),
     mode: Mode,
     layer: &L,
     octets: &[u8],
+    count: usize,
 ) -> Result<Times, BenchFault> {
-    let (alloc, repetitions) = (rt.alloc(), mode.repetitions());
-    let batch = batch_of(alloc, octets)?;
-    let (value, decode) = timed(rt, repetitions, || decoded(alloc, layer, octets, &batch))?;
-    let ((_, found), mark) = timed(rt, repetitions, || marked(alloc, layer, octets, &batch))?;
+    let (alloc, repetitions, size) = (rt.alloc(), mode.repetitions(), octets.len());
+    let batch = batch_of(alloc, octets, count)?;
+    let (value, decode) = timed(rt, repetitions, || decoded(alloc, layer, size, &batch))?;
+    let ((_, found), mark) = timed(rt, repetitions, || marked(alloc, layer, size, &batch))?;
     expect_canonical(found)?;
-    let (written, append) = timed(rt, repetitions, || appended(alloc, layer, &value))?;
+    let (written, append) = timed(rt, repetitions, || appended(alloc, layer, &value, count))?;
     expect_same(written, octets)?;
     Ok(Times {
         decode,

@@ -61,10 +61,10 @@ fn encoded(alloc: Global, service: &Service) -> Result<Vec<u8>, BenchFault> {
     Ok(out)
 }
 
-/// The octets of a batch of messages.
-pub fn batch_of(alloc: Global, octets: &[u8]) -> Result<Vec<u8>, BenchFault> {
+/// The octets of a batch of so many messages.
+pub fn batch_of(alloc: Global, octets: &[u8], count: usize) -> Result<Vec<u8>, BenchFault> {
     let mut batch = Vec::new(alloc);
-    for _ in 0..BATCH {
+    for _ in 0..count {
         batch.extend_from_slice(octets)?;
     }
     Ok(batch)
@@ -105,7 +105,7 @@ fn work(
     message: &Message<'_>,
 ) -> Result<Times, BenchFault> {
     let (alloc, repetitions) = (rt.alloc(), mode.repetitions());
-    let batch = batch_of(alloc, message.octets)?;
+    let batch = batch_of(alloc, message.octets, BATCH)?;
     let (service, decode) = timed(rt, repetitions, || decoded(alloc, message, &batch))?;
     let ((_, found), mark) = timed(rt, repetitions, || marked(alloc, message, &batch))?;
     expect_canonical(found)?;
