@@ -126,12 +126,12 @@ specification_parts = both (same (ObjectField 0)) (grouped 1 (items property_val
 write_specification : Widens (SpellsWriteSpecification 16) (SpellsWriteSpecification 32)
 write_specification = by_fields (λ (s : WriteSpecification). (s.object, s.values)) specification_parts
 
-notification_parts : Widens (Joined (UnsignedField 0) (Joined (ObjectField 1) (Joined (ObjectField 2) (Joined (UnsignedField 3) (Grouped 4 (Items (SpellsPropertyValue 16)))))))
-    (Joined (UnsignedField 0) (Joined (ObjectField 1) (Joined (ObjectField 2) (Joined (UnsignedField 3) (Grouped 4 (Items (SpellsPropertyValue 32)))))))
-notification_parts = both (same (UnsignedField 0)) (both (same (ObjectField 1)) (both (same (ObjectField 2)) (both (same (UnsignedField 3)) (grouped 4 (items property_value)))))
+notification_parts : Widens (Joined (Joined (UnsignedField 0) (Joined (ObjectField 1) (ObjectField 2))) (Joined (UnsignedField 3) (Grouped 4 (Items (SpellsPropertyValue 16)))))
+    (Joined (Joined (UnsignedField 0) (Joined (ObjectField 1) (ObjectField 2))) (Joined (UnsignedField 3) (Grouped 4 (Items (SpellsPropertyValue 32)))))
+notification_parts = both (same (Joined (UnsignedField 0) (Joined (ObjectField 1) (ObjectField 2)))) (both (same (UnsignedField 3)) (grouped 4 (items property_value)))
 
 notification : Widens (SpellsNotification 16) (SpellsNotification 32)
-notification = by_fields (λ (n : Notification). (n.process_identifier, (n.device, (n.object, (n.time_remaining, n.values))))) notification_parts
+notification = by_fields (λ (n : Notification). ((n.process_identifier, (n.device, n.object)), (n.time_remaining, n.values))) notification_parts
 
 -- ---- services
 

@@ -22,6 +22,5 @@ notification_of n = record { process_identifier = n.process_identifier; device =
 
 abbrev pub SpellsNotification : ℕ → Notification → List ℕ → Type 0
 SpellsNotification groups n =
-    Joins (UnsignedField 0 n.process_identifier) (Joins (ObjectField 1 n.device) (Joins (ObjectField 2 n.object) (
-    Joins (UnsignedField 3 n.time_remaining) (Grouped 4 (Items (SpellsPropertyValue groups)) n.values)
-    )))
+    Joins (Joins (UnsignedField 0 n.process_identifier) (Joins (ObjectField 1 n.device) (ObjectField 2 n.object)))
+    (Joins (UnsignedField 3 n.time_remaining) (Grouped 4 (Items (SpellsPropertyValue groups)) n.values))

@@ -92,7 +92,7 @@ same_subscribe_cov a b =
 
 abbrev pub same_notification : CovNotification → CovNotification → Bool
 same_notification a b =
-    beq a.confirmed b.confirmed && (nat_eq a.process_identifier.0 b.process_identifier.0 && (same_object a.device b.device && (same_object a.object b.object && (nat_eq a.time_remaining.0 b.time_remaining.0 && pointwise same_property_value a.values.items b.values.items))))
+    beq a.confirmed b.confirmed && ((nat_eq a.process_identifier.0 b.process_identifier.0 && (same_object a.device b.device && same_object a.object b.object)) && (nat_eq a.time_remaining.0 b.time_remaining.0 && pointwise same_property_value a.values.items b.values.items))
 
 abbrev pub same_service : Service → Service → Bool
 same_service (held.ReadProperty a) (held.ReadProperty b) = same_read_property a b

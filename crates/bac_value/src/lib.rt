@@ -30,6 +30,7 @@
 //! ```
 #![tactic(auto)]
 
+mod bounded;
 mod contents;
 mod fixed;
 pub mod laws;

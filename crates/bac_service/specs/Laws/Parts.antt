@@ -101,10 +101,10 @@ write_error_parts = record {
   joined = λ p b s. s;
 }
 
-unfoldable pub notification_parts : (groups : ℕ) → IsRecordOf (Joined (UnsignedField 0) (Joined (ObjectField 1) (Joined (ObjectField 2) (Joined (UnsignedField 3) (Grouped 4 (Items (SpellsPropertyValue groups))))))) (SpellsNotification groups)
+unfoldable pub notification_parts : (groups : ℕ) → IsRecordOf (Joined (Joined (UnsignedField 0) (Joined (ObjectField 1) (ObjectField 2))) (Joined (UnsignedField 3) (Grouped 4 (Items (SpellsPropertyValue groups))))) (SpellsNotification groups)
 notification_parts groups = record {
-  fields = λ n. (n.process_identifier, (n.device, (n.object, (n.time_remaining, n.values))));
-  of_fields = λ p. record { process_identifier = p.0; device = p.1.0; object = p.1.1.0; time_remaining = p.1.1.1.0; values = p.1.1.1.1 };
+  fields = λ n. ((n.process_identifier, (n.device, n.object)), (n.time_remaining, n.values));
+  of_fields = λ p. record { process_identifier = p.0.0; device = p.0.1.0; object = p.0.1.1; time_remaining = p.1.0; values = p.1.1 };
   same = λ n. refl;
   split = λ n b s. s;
   joined = λ p b s. s;

@@ -285,11 +285,11 @@ module _ (open_only : (number : ℕ) (v : Elements) (b : List ℕ) → SpellsOpe
   unfolding write_specification_parts
   tells_write_specification = tells_record (write_specification_parts 32) (tells_joined (tells_plain _ objects) (tells_grouped 1 (tells_items tells_property_value)))
 
-  tells_notification : Tells (SpellsNotification 32) (λ v w. nat_eq v.process_identifier.0 w.process_identifier.0 && (same_object v.device w.device && (same_object v.object w.object && (nat_eq v.time_remaining.0 w.time_remaining.0 && pointwise same_property_value v.values w.values))))
+  tells_notification : Tells (SpellsNotification 32) (λ v w. (nat_eq v.process_identifier.0 w.process_identifier.0 && (same_object v.device w.device && same_object v.object w.object)) && (nat_eq v.time_remaining.0 w.time_remaining.0 && pointwise same_property_value v.values w.values))
   unfolding notification_parts
   tells_notification =
       tells_record (notification_parts 32)
-      (tells_joined (tells_plain _ unsigned32) (tells_joined (tells_plain _ objects) (tells_joined (tells_plain _ objects) (tells_joined (tells_plain _ unsigned32) (tells_grouped 4 (tells_items tells_property_value))))))
+      (tells_joined (tells_joined (tells_plain _ unsigned32) (tells_joined (tells_plain _ objects) (tells_plain _ objects))) (tells_joined (tells_plain _ unsigned32) (tells_grouped 4 (tells_items tells_property_value))))
 
   tells_specifications : (v w : List ReadAccessSpecification) (s t : List ℕ) → Items SpellsSpecification (map specification_of v) s → Items SpellsSpecification (map specification_of w) t
       → Decides (pointwise same_specification v w) (typed kind.Confirmed 14 read_property_multiple (map specification_of v) ≡ typed kind.Confirmed 14 read_property_multiple (map specification_of w))

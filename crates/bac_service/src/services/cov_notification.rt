@@ -31,16 +31,13 @@ pub struct CovNotification {
     pub values: Vec<PropertyValue>,
 }
 
-/// Its fields.
+/// Its fields: the three that name the subscription, and the two others.
 type Parts = (
-    Field<Unsigned32, 0>,
     (
-        Field<ObjectId, 1>,
-        (
-            Field<ObjectId, 2>,
-            (Field<Unsigned32, 3>, Group<Vec<PropertyValue>, 4>),
-        ),
+        Field<Unsigned32, 0>,
+        (Field<ObjectId, 1>, Field<ObjectId, 2>),
     ),
+    (Field<Unsigned32, 3>, Group<Vec<PropertyValue>, 4>),
 );
 
 impl Record for CovNotification {
@@ -56,7 +53,7 @@ impl Record for CovNotification {
 
     /// Leaves `confirmed` false: the octets do not tell it. `decode_notification` puts it in, by the service choice.
     fn from_parts(parts: Parts) -> CovNotification {
-        let (process_identifier, (device, (object, (time_remaining, values)))) = parts;
+        let ((process_identifier, (device, object)), (time_remaining, values)) = parts;
         CovNotification {
             confirmed: false,
             process_identifier: process_identifier.0,

@@ -1,12 +1,8 @@
 -- The types whose values are the numbers of a range, with the contents of an Unsigned.
-use Rattle.std.proofs.Common.{ℕ, ◌≤◌, ◌^◌, ◌-◌, arith, refl, lit≤, lit<}
+use Rattle.std.proofs.Common.{ℕ, ◌^◌, ◌-◌, refl, lit≤, lit<}
 use Rattle.bac_value.specs.declared.types.unsigned16.Unsigned16.{Unsigned16}
 use Rattle.bac_value.specs.declared.types.unsigned32.Unsigned32.{Unsigned32}
-use Rattle.bac_value.specs.Numbers.{NumberContents, least_number, IsBounded}
-use Rattle.bac_value.specs.Laws.Numbers.{number_written_in}
-
-pub instance_written : (value : ℕ) → value ≤ 4194303 → NumberContents 0 4194303 value (least_number value)
-instance_written value h = number_written_in 0 4194303 value (omega arith) h (omega (arith, h))
+use Rattle.bac_value.specs.Numbers.{IsBounded}
 
 -- a Priority and an Instance are seen as their number
 abbrev pub itself : ℕ → ℕ

@@ -1,18 +1,10 @@
 //! Instances of objects (clause 20.2.14).
 
-ghost use Rattle.std.specs.Prelude.{false, ◌≡◌, ◌≤◌, ◌↔◌, IsSome, IfSome, ℕ};
-ghost use Rattle.std.proofs.Common.{lit≤};
-ghost use Rattle.bac_value.specs.Numbers.{NumberContents, least_number};
-ghost use Rattle.bac_value.specs.Laws.Numbers.{number_least, number_lengths, bounded_once, bounded_each_length};
-ghost use Rattle.bac_value.specs.Laws.Bounded.{itself, instance_bounded, instance_written};
+ghost use Rattle.std.specs.Prelude.{◌≡◌, ◌≤◌, ◌↔◌, IsSome, IfSome, ℕ};
+ghost use Rattle.bac_value.specs.Laws.Bounded.{instance_bounded};
 
-use crate::primitives::Primitive;
-use crate::ranged_numbers::{
-    hopeless_number, mark_number, read_number, write_number, written_number_len,
-};
+use crate::bounded::Bounded;
 use crate::value_faults::RangeFault;
-use bac_tag::{OutOfMemory, Refusal};
-use std::alloc::Global;
 use std::marker::Model;
 
 /// The number of the last instance: 22 bits.
@@ -75,62 +67,30 @@ impl TryFrom<u32> for Instance {
     }
 }
 
-impl Primitive for Instance {
-    const APP: u8 = 2;
+impl Bounded for Instance {
+    const LEAST: u64 = 0;
 
-    const SHORTEST: usize = 1;
+    const MOST: u64 = LAST as u64;
 
-    const LONGEST: usize = 8;
+    ghost LEAST = { 0 };
 
-    ghost APP = { 2 };
+    ghost MOST = { 4194303 };
 
-    ghost SHORTEST = { 1 };
+    ghost number_of = { λ value. value };
 
-    ghost LONGEST = { 8 };
-
-    ghost is_value = { λ value. value ≤ 4194303 };
-
-    ghost contents = { λ value octets. NumberContents 0 4194303 value octets };
-
-    ghost written = { λ value. least_number value };
-
-    ghost wants_memory = { false };
+    ghost value_of = { λ number. number };
 
     #[inline(always)]
-    fn read(_alloc: Global, octets: &[u8]) -> Result<Instance, Refusal> {
-        Ok(Instance {
-            number: read_number(octets, 0, LAST as u64)? as u32,
-        })
-    }
-
-    fn hopeless(front: &[u8], size: usize) -> Option<usize> {
-        hopeless_number(front, size, 0, LAST as u64)
-    }
-
-    fn written_len(&self) -> usize {
-        written_number_len(u64::from(self.number()))
+    fn to_number(&self) -> u64 {
+        u64::from(self.number())
     }
 
     #[inline(always)]
-    fn mark(&self, octets: &[u8]) -> Option<usize> {
-        mark_number(octets)
+    fn of_number(number: u64) -> Instance {
+        Instance {
+            number: number as u32,
+        }
     }
 
-    fn write(&self, out: &mut Vec<u8>) -> Result<(), OutOfMemory> {
-        write_number(u64::from(self.number()), out)
-    }
-
-    ghost only_values = { λ value octets h. h.most };
-
-    ghost one_value = { bounded_once 0 4194303 itself itself instance_bounded };
-
-    ghost written_contents = { instance_written };
-
-    ghost written_least = { λ value. number_least 0 4194303 value };
-
-    ghost lengths = { λ value. number_lengths 0 4194303 value };
-
-    ghost each_length = { bounded_each_length 0 4194303 itself itself instance_bounded };
-
-    ghost within_limit = { (lit≤ tt, lit≤ tt) };
+    ghost bounded = { instance_bounded };
 }

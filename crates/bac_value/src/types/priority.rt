@@ -1,18 +1,10 @@
 //! Priorities of commands (clause 19.2).
 
-ghost use Rattle.std.specs.Prelude.{false, ◌≡◌, ◌≤◌, ◌↔◌, IsSome, IfSome, ℕ};
-ghost use Rattle.std.proofs.Common.{lit≤};
-ghost use Rattle.bac_value.specs.Numbers.{NumberContents, least_number};
-ghost use Rattle.bac_value.specs.Laws.Numbers.{number_least, number_lengths, bounded_once, bounded_written, bounded_each_length};
-ghost use Rattle.bac_value.specs.Laws.Bounded.{itself, priority_bounded};
+ghost use Rattle.std.specs.Prelude.{◌≡◌, ◌≤◌, ◌↔◌, IsSome, IfSome, ℕ};
+ghost use Rattle.bac_value.specs.Laws.Bounded.{priority_bounded};
 
-use crate::primitives::Primitive;
-use crate::ranged_numbers::{
-    hopeless_number, mark_number, read_number, write_number, written_number_len,
-};
+use crate::bounded::Bounded;
 use crate::value_faults::RangeFault;
-use bac_tag::{OutOfMemory, Refusal};
-use std::alloc::Global;
 use std::marker::Model;
 
 /// The number of the first priority.
@@ -78,60 +70,30 @@ impl TryFrom<u8> for Priority {
     }
 }
 
-impl Primitive for Priority {
-    const APP: u8 = 2;
+impl Bounded for Priority {
+    const LEAST: u64 = FIRST as u64;
 
-    const SHORTEST: usize = 1;
+    const MOST: u64 = LAST as u64;
 
-    const LONGEST: usize = 8;
+    ghost LEAST = { 1 };
 
-    ghost APP = { 2 };
+    ghost MOST = { 16 };
 
-    ghost SHORTEST = { 1 };
+    ghost number_of = { λ value. value };
 
-    ghost LONGEST = { 8 };
+    ghost value_of = { λ number. number };
 
-    ghost is_value = { λ value. (1 ≤ value) × (value ≤ 16) };
-
-    ghost contents = { λ value octets. NumberContents 1 16 value octets };
-
-    ghost written = { λ value. least_number value };
-
-    ghost wants_memory = { false };
-
-    fn read(_alloc: Global, octets: &[u8]) -> Result<Priority, Refusal> {
-        Ok(Priority {
-            number: read_number(octets, FIRST as u64, LAST as u64)? as u8,
-        })
+    #[inline(always)]
+    fn to_number(&self) -> u64 {
+        u64::from(self.number())
     }
 
-    fn hopeless(front: &[u8], size: usize) -> Option<usize> {
-        hopeless_number(front, size, FIRST as u64, LAST as u64)
+    #[inline(always)]
+    fn of_number(number: u64) -> Priority {
+        Priority {
+            number: number as u8,
+        }
     }
 
-    fn written_len(&self) -> usize {
-        written_number_len(u64::from(self.number()))
-    }
-
-    fn mark(&self, octets: &[u8]) -> Option<usize> {
-        mark_number(octets)
-    }
-
-    fn write(&self, out: &mut Vec<u8>) -> Result<(), OutOfMemory> {
-        write_number(u64::from(self.number()), out)
-    }
-
-    ghost only_values = { λ value octets h. (h.least, h.most) };
-
-    ghost one_value = { bounded_once 1 16 itself itself priority_bounded };
-
-    ghost written_contents = { bounded_written 1 16 itself itself priority_bounded };
-
-    ghost written_least = { λ value. number_least 1 16 value };
-
-    ghost lengths = { λ value. number_lengths 1 16 value };
-
-    ghost each_length = { bounded_each_length 1 16 itself itself priority_bounded };
-
-    ghost within_limit = { (lit≤ tt, lit≤ tt) };
+    ghost bounded = { priority_bounded };
 }

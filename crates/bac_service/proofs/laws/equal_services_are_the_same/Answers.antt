@@ -1,5 +1,5 @@
 use Rattle.std.proofs.Common.{◌≡◌, ◌&&◌, true, false, nat_eq, refl, sym, subst, ◌∙◌, ap, Bool}
-use Rattle.std.specs.Bool.{Decides}
+use Rattle.std.specs.Bool.{Decides, beq}
 use Rattle.std.specs.Option.{option_eq}
 use Rattle.std.specs.Cmp.Lexicographic.{pointwise}
 use Rattle.bac_service.specs.declared.service.Service.{Service}
@@ -12,7 +12,7 @@ use Rattle.bac_service.specs.contracts.service.ServicePartialEq.TheImpl as deriv
 use Rattle.bac_service.specs.contracts.services.property_result.ReadResultPartialEq.TheImpl as of_result
 use Rattle.bac_service.specs.ServiceValues.{value_of}
 use Rattle.bac_data.specs.Same.{same_values}
-use Rattle.bac_service.specs.Same.{same_object, same_index, same_read_result, same_service}
+use Rattle.bac_service.specs.Same.{same_object, same_index, same_property_value, same_read_result, same_service}
 use Rattle.bac_service.specs.Laws.Same.{services_tell}
 use Rattle.bac_service.proofs.laws.equal_services_are_the_same.Goals as goal
 
@@ -29,26 +29,29 @@ access_results_are : (test other : ReadResult → ReadResult → Bool) → test 
 access_results_are test other e a b =
     ap (λ (f : ReadResult → ReadResult → Bool). same_object a.object b.object && option_eq (λ v w. pointwise (λ (p q : PropertyResult). nat_eq p.property.0 q.property.0 && (same_index p.index q.index && f p.result q.result)) v.items w.items) a.results b.results) e
 
--- the derive goes field by field, the definition first by the reference to a property of an object
-reference_first : (object property index rest : Bool) → (object && (property && (index && rest))) ≡ ((object && (property && index)) && rest)
-reference_first true true index rest = refl
-reference_first true false index rest = refl
-reference_first false property index rest = refl
+-- the derive goes field by field, the definition first by the first three: those of a reference to a property of an object,
+-- or those that name the subscription of a notification
+first_three : (a b c rest : Bool) → (a && (b && (c && rest))) ≡ ((a && (b && c)) && rest)
+first_three true true c rest = refl
+first_three true false c rest = refl
+first_three false b c rest = refl
 
 service_is : (a b : Service) → derived.eq-value.it a b ≡ same_service a b
 service_is (held.ReadPropertyMultipleAck a) (held.ReadPropertyMultipleAck b) =
     ap (λ (test : ReadAccessResult → ReadAccessResult → Bool). pointwise test a.results.items b.results.items) (λ i. λ v w. access_results_are of_result.eq-value.it same_read_result (λ j. λ p q. result_is p q j) v w i)
 service_is (held.ReadProperty a) (held.ReadProperty b) = refl
 service_is (held.ReadPropertyAck a) (held.ReadPropertyAck b) =
-    reference_first (same_object a.object b.object) (nat_eq a.property.0 b.property.0) (same_index a.index b.index) (same_values a.value b.value)
+    first_three (same_object a.object b.object) (nat_eq a.property.0 b.property.0) (same_index a.index b.index) (same_values a.value b.value)
 service_is (held.WriteProperty a) (held.WriteProperty b) =
-    reference_first (same_object a.object b.object) (nat_eq a.property.0 b.property.0) (same_index a.index b.index) (same_values a.value b.value && option_eq nat_eq a.priority b.priority)
+    first_three (same_object a.object b.object) (nat_eq a.property.0 b.property.0) (same_index a.index b.index) (same_values a.value b.value && option_eq nat_eq a.priority b.priority)
 service_is (held.ReadPropertyMultiple a) (held.ReadPropertyMultiple b) = refl
 service_is (held.WritePropertyMultiple a) (held.WritePropertyMultiple b) = refl
 service_is (held.WhoIs a) (held.WhoIs b) = refl
 service_is (held.IAm a) (held.IAm b) = refl
 service_is (held.SubscribeCov a) (held.SubscribeCov b) = refl
-service_is (held.CovNotification a) (held.CovNotification b) = refl
+service_is (held.CovNotification a) (held.CovNotification b) =
+    ap (λ fields. beq a.confirmed b.confirmed && fields)
+    (first_three (nat_eq a.process_identifier.0 b.process_identifier.0) (same_object a.device b.device) (same_object a.object b.object) (nat_eq a.time_remaining.0 b.time_remaining.0 && pointwise same_property_value a.values.items b.values.items))
 service_is (held.ServiceError a) (held.ServiceError b) = refl
 service_is (held.WritePropertyMultipleError a) (held.WritePropertyMultipleError b) = refl
 service_is (held.Opaque a) (held.Opaque b) = refl

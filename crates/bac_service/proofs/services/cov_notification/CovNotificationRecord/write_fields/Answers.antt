@@ -5,4 +5,4 @@ use Rattle.bac_service.proofs.services.cov_notification.CovNotificationRecord.wr
 
 pub returns-clause-ok : goal.returns-clause-ok
 returns-clause-ok c =
-    on_ok_weaker c.write_group.result (λ last. appends_joined c.in_ok-write.ensures.ok (appends_joined c.in_ok-write-2.ensures.ok (appends_joined c.in_ok-write-3.ensures.ok (appends_joined c.in_ok-write-4.ensures.ok (rw map-id at last))))) c.write_group.ensures.ok
+    on_ok_weaker c.write_group.result (λ last. appends_joined (appends_joined c.in_ok-write.ensures.ok (appends_joined c.in_ok-write-2.ensures.ok c.in_ok-write-3.ensures.ok)) (appends_joined c.in_ok-write-4.ensures.ok (rw map-id at last))) c.write_group.ensures.ok
