@@ -15,7 +15,7 @@ use crate::unconfirmed_request::UnconfirmedRequest;
 pub enum Apdu {
     /// Type 0, in one piece: a request that wants an answer.
     Confirmed(ConfirmedRequest),
-    /// Type 1: a request that wants none.
+    /// Type 1: a request that wants no answer.
     Unconfirmed(UnconfirmedRequest),
     /// Type 2: an answer without contents.
     SimpleAck(SimpleAck),

@@ -127,13 +127,13 @@ impl ApduVisitor for KeepApdu {
 /// # Errors
 /// The place is that of the first octet with which no spelling of an APDU goes on. The reason is one of these:
 ///
-/// - `Short` where all the octets begin a spelling, and nowhere else: the place is their number;
-/// - `Trailing` where the octets in front of the place spell an APDU, and nowhere else;
-/// - `PduType` at the first octet, where the type is above 7;
+/// - `Short` if all the octets begin a spelling, and in no other case: the place is their number;
+/// - `Trailing` if the octets in front of the place spell an APDU, and in no other case;
+/// - `PduType` at the first octet, if the type is above 7;
 /// - `Window` at the octet of a window that is not 1 to 127;
 /// - `Tag`, `Length`, `Content` or `Depth` in a service;
-/// - `OutOfMemory` where memory is refused: the place is 0. It is never told of a SimpleACK, SegmentACK, Reject or Abort,
-///   nor of a service that needs no memory.
+/// - `OutOfMemory` if memory is refused: the place is 0. It is never returned for a SimpleACK, SegmentACK, Reject or
+///   Abort, nor for a service that needs no memory.
 ///
 /// # Examples
 /// ```rust

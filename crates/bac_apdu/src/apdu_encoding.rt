@@ -14,7 +14,7 @@ const FIRST_ROOM: usize = 64;
 /// Appends the canonical octets of an APDU, its least spelling, behind what stands in `out`.
 ///
 /// # Errors
-/// `OutOfMemory` where memory is refused. `out` then stays as it was.
+/// `OutOfMemory` if memory is refused. `out` then stays as it was.
 pub fn append_apdu(apdu: &Apdu, out: &mut Vec<u8>) -> Result<(), OutOfMemory>
     ensures written { OnOk result (AppendsLeast (SpellsApdu (value_of apdu.now)) out.old.items out.new.items) }
     ensures unchanged { OnErr result (out.new.items ≡ out.old.items) }
@@ -35,7 +35,7 @@ pub fn append_apdu(apdu: &Apdu, out: &mut Vec<u8>) -> Result<(), OutOfMemory>
 /// Returns the canonical octets of an APDU: its least spelling.
 ///
 /// # Errors
-/// `OutOfMemory` where memory is refused.
+/// `OutOfMemory` if memory is refused.
 ///
 /// # Examples
 /// ```rust

@@ -10,9 +10,9 @@ use crate::heads::has_bit;
 use crate::unconfirmed_request::is_canonical_unconfirmed_request;
 use std::alloc::Global;
 
-/// Returns whether the octets are found at once to be the canonical ones of an APDU (clause 20.1) that carries a
-/// service. False tells nothing of the octets: it is always told of segments, of errors and of APDUs that end behind
-/// their head.
+/// Returns true if the octets are found at once to be the canonical ones of an APDU (clause 20.1) that carries a
+/// service. False says nothing about the octets: it is always returned for segments, for errors and for APDUs that end
+/// behind their head.
 pub fn is_canonical_apdu(alloc: Global, octets: &[u8]) -> bool
     ensures { IsTrue result → IsCanonical SpellsApdu octets.now }
 {

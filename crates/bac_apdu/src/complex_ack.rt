@@ -58,7 +58,7 @@ impl ComplexAck {
     /// Returns the answer with this invoke id and service.
     ///
     /// # Errors
-    /// The service itself, where it is of another kind.
+    /// The service itself, if it is of another kind.
     pub fn new(invoke: u8, service: Service) -> Result<ComplexAck, Service>
         ensures ok { IsOk result ↔ ((service_of service).kind ≡ of_complex_ack) }
         ensures value { IfOk result (λ ack. ack ≡ record { invoke = invoke; service = service }) }
@@ -87,7 +87,7 @@ impl ComplexAck {
         &self.service
     }
 
-    /// Appends the canonical octets. Where memory is refused, `out` stays as it was.
+    /// Appends the canonical octets. If memory is refused, `out` stays as it was.
     pub(crate) fn append(&self, out: &mut Vec<u8>) -> Result<(), OutOfMemory>
         ensures written { OnOk result (AppendsLeast (SpellsApdu (complex_ack self.now.invoke (service_of self.now.service))) out.old.items out.new.items) }
         ensures unchanged { OnErr result (out.new.items ≡ out.old.items) }
@@ -98,8 +98,8 @@ impl ComplexAck {
     }
 }
 
-/// Returns whether the octets are found at once to be the canonical ones of an answer in one piece. False tells nothing
-/// of them.
+/// Returns true if the octets are found at once to be the canonical ones of an answer in one piece. False says nothing
+/// about the octets.
 pub(crate) fn is_canonical_complex_ack(alloc: Global, octets: &[u8]) -> bool
     requires pdu { HasType 3 octets.now }
     requires whole { HasSeg 0 octets.now }

@@ -77,7 +77,7 @@ impl ConfirmedRequest {
     /// Returns the request with this head and service.
     ///
     /// # Errors
-    /// The service itself, where it is of another kind.
+    /// The service itself, if it is of another kind.
     pub fn new(head: RequestHead, service: Service) -> Result<ConfirmedRequest, Service>
         ensures ok { IsOk result ↔ ((service_of service).kind ≡ Confirmed) }
         ensures value { IfOk result (λ request. request ≡ record { head = head; service = service }) }
@@ -104,7 +104,7 @@ impl ConfirmedRequest {
         &self.service
     }
 
-    /// Appends the canonical octets. Where memory is refused, `out` stays as it was.
+    /// Appends the canonical octets. If memory is refused, `out` stays as it was.
     pub(crate) fn append(&self, out: &mut Vec<u8>) -> Result<(), OutOfMemory>
         ensures written { OnOk result (AppendsLeast (SpellsApdu (confirmed_request self.now.head (service_of self.now.service))) out.old.items out.new.items) }
         ensures unchanged { OnErr result (out.new.items ≡ out.old.items) }
@@ -145,8 +145,8 @@ fn read_head(first: u8, limits: u8, invoke: u8, choice: u8) -> (RequestHead, [u8
     (head, least)
 }
 
-/// Returns whether the octets are found at once to be the canonical ones of a request in one piece. False tells nothing
-/// of them.
+/// Returns true if the octets are found at once to be the canonical ones of a request in one piece. False says nothing
+/// about the octets.
 pub(crate) fn is_canonical_confirmed_request(alloc: Global, octets: &[u8]) -> bool
     requires pdu { HasType 0 octets.now }
     requires whole { HasSeg 0 octets.now }

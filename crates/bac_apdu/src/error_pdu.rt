@@ -58,7 +58,7 @@ impl ErrorPdu {
     /// Returns the answer with this invoke id and error.
     ///
     /// # Errors
-    /// The service itself, where it is of another kind.
+    /// The service itself, if it is of another kind.
     pub fn new(invoke: u8, service: Service) -> Result<ErrorPdu, Service>
         ensures ok { IsOk result ↔ ((service_of service).kind ≡ of_error) }
         ensures value { IfOk result (λ answer. answer ≡ record { invoke = invoke; service = service }) }
@@ -87,7 +87,7 @@ impl ErrorPdu {
         &self.service
     }
 
-    /// Appends the canonical octets. Where memory is refused, `out` stays as it was.
+    /// Appends the canonical octets. If memory is refused, `out` stays as it was.
     pub(crate) fn append(&self, out: &mut Vec<u8>) -> Result<(), OutOfMemory>
         ensures written { OnOk result (AppendsLeast (SpellsApdu (error self.now.invoke (service_of self.now.service))) out.old.items out.new.items) }
         ensures unchanged { OnErr result (out.new.items ≡ out.old.items) }

@@ -7,7 +7,7 @@ ghost use Rattle.bac_apdu.specs.Decoded.{IsEnded};
 use bac_tag::layers::first_difference;
 use bac_tag::{Refusal, Why};
 
-/// Returns whether the bit at this place is set.
+/// Returns true if the bit at this place is set.
 #[inline(always)]
 pub(crate) fn has_bit(octet: u8, place: u8) -> bool
     requires { place < 8 }
@@ -25,7 +25,7 @@ pub(crate) fn first_octet(pdu: u8, third: bool, second: bool, first: bool, zerot
     16 * pdu + 8 * u8::from(third) + 4 * u8::from(second) + 2 * u8::from(first) + u8::from(zeroth)
 }
 
-/// Checks that the octets end behind a head, of which these are the canonical octets, and returns its mark.
+/// Checks that the octets end behind a head whose canonical octets are `head`. Returns the mark of the octets.
 #[inline(always)]
 pub(crate) fn ended(octets: &[u8], head: &[u8]) -> Result<Option<usize>, Refusal>
     requires { length head.now ≤ length octets.now }

@@ -42,7 +42,7 @@ pub fn segmented_apdus_are_segments()
     ensures answers { (v : ApduValue) (o : ℕ) (b : List ℕ) → type_at o ≡ 3 → seg_at o ≡ 1 → SpellsApdu v (o ∷ b) → IsSegment v }
 {}
 
-/// Each list that spells an APDU tells whether the APDU is small, as decoding tells it of any octets.
+/// Each list that spells an APDU shows whether the APDU is small, by the test that decoding uses for any octets.
 pub fn octets_tell_small_apdus()
     ensures { (v : ApduValue) (b : List ℕ) → SpellsApdu v b → begins_small b ≡ is_small v }
 {}

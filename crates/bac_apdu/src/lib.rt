@@ -1,7 +1,7 @@
 //! APDUs (clause 20.1): the head of each of the eight, and behind it a service, a segment's piece or nothing.
 //!
-//! [`decode_apdu`] reads an APDU, and [`encode_apdu`] and [`append_apdu`] write one. What only the layers above call
-//! stands in [`layers`].
+//! [`decode_apdu`] reads an APDU, and [`encode_apdu`] and [`append_apdu`] write one. The calls that only the layers
+//! above need stand in [`layers`].
 //!
 //! In the examples `rt` is the program's `HostRuntime`.
 #![tactic(auto)]

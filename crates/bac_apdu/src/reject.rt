@@ -24,7 +24,7 @@ pub struct Reject {
 }
 
 impl Reject {
-    /// Appends the canonical octets. Where memory is refused, `out` stays as it was.
+    /// Appends the canonical octets. If memory is refused, `out` stays as it was.
     pub(crate) fn append(&self, out: &mut Vec<u8>) -> Result<(), OutOfMemory>
         ensures written { OnOk result (AppendsLeast (SpellsApdu (reject self.now.invoke self.now.reason)) out.old.items out.new.items) }
         ensures unchanged { OnErr result (out.new.items ≡ out.old.items) }

@@ -56,7 +56,7 @@ pub struct Segment {
     pub choice: u8,
 }
 
-/// Appends the octets of a head, and a piece behind it. Where memory is refused, `out` stays as it was.
+/// Appends the octets of a head, and a piece behind it. If memory is refused, `out` stays as it was.
 fn append_piece(head: &[u8], piece: &[u8], out: &mut Vec<u8>) -> Result<(), OutOfMemory>
     ensures written { OnOk result (out.new.items ≡ (out.old.items ++ head.now) ++ piece.now) }
     ensures unchanged { OnErr result (out.new.items ≡ out.old.items) }
@@ -71,7 +71,7 @@ fn append_piece(head: &[u8], piece: &[u8], out: &mut Vec<u8>) -> Result<(), OutO
 }
 
 impl Segment {
-    /// Appends the canonical octets. Where memory is refused, `out` stays as it was.
+    /// Appends the canonical octets. If memory is refused, `out` stays as it was.
     pub(crate) fn append(&self, out: &mut Vec<u8>) -> Result<(), OutOfMemory>
         ensures written { OnOk result (AppendsLeast (SpellsApdu (segment self.now.head self.now.seq self.now.window self.now.more self.now.choice self.now.piece.items)) out.old.items out.new.items) }
         ensures unchanged { OnErr result (out.new.items ≡ out.old.items) }

@@ -31,7 +31,7 @@ pub struct SegmentAck {
 }
 
 impl SegmentAck {
-    /// Appends the canonical octets. Where memory is refused, `out` stays as it was.
+    /// Appends the canonical octets. If memory is refused, `out` stays as it was.
     pub(crate) fn append(&self, out: &mut Vec<u8>) -> Result<(), OutOfMemory>
         ensures written { OnOk result (AppendsLeast (SpellsApdu (segment_ack self.now.invoke self.now.nak self.now.srv self.now.seq self.now.window)) out.old.items out.new.items) }
         ensures unchanged { OnErr result (out.new.items ≡ out.old.items) }

@@ -55,7 +55,7 @@ impl UnconfirmedRequest {
     /// Returns the request with this service.
     ///
     /// # Errors
-    /// The service itself, where it is of another kind.
+    /// The service itself, if it is of another kind.
     pub fn new(service: Service) -> Result<UnconfirmedRequest, Service>
         ensures ok { IsOk result ↔ ((service_of service).kind ≡ Unconfirmed) }
         ensures value { IfOk result (λ request. request ≡ service) }
@@ -76,7 +76,7 @@ impl UnconfirmedRequest {
         &self.service
     }
 
-    /// Appends the canonical octets. Where memory is refused, `out` stays as it was.
+    /// Appends the canonical octets. If memory is refused, `out` stays as it was.
     pub(crate) fn append(&self, out: &mut Vec<u8>) -> Result<(), OutOfMemory>
         ensures written { OnOk result (AppendsLeast (SpellsApdu (unconfirmed_request (service_of self.now))) out.old.items out.new.items) }
         ensures unchanged { OnErr result (out.new.items ≡ out.old.items) }
@@ -86,8 +86,8 @@ impl UnconfirmedRequest {
     }
 }
 
-/// Returns whether the octets are found at once to be the canonical ones of a request that wants no answer. False tells
-/// nothing of them.
+/// Returns true if the octets are found at once to be the canonical ones of a request that wants no answer. False says
+/// nothing about the octets.
 pub(crate) fn is_canonical_unconfirmed_request(alloc: Global, octets: &[u8]) -> bool
     requires { HasType 1 octets.now }
     ensures { IsTrue result → IsCanonical SpellsApdu octets.now }

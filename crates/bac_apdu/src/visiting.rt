@@ -5,8 +5,8 @@ ghost use Rattle.bac_apdu.specs.Apdus.{ApduValue, value_of};
 
 use crate::apdu::Apdu;
 
-/// What is made of an APDU where it was decoded. So the APDU need not be moved to the caller who asked for it, which
-/// takes longer than to decode a short one.
+/// What is made of an APDU where it was decoded. So the APDU need not be moved to the caller who asked for it. To move
+/// an APDU takes longer than to decode a short one.
 pub trait ApduVisitor: Drop {
     /// What the visitor may change.
     type Place;

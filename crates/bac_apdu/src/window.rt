@@ -25,7 +25,7 @@ impl Model for Window {
 }
 
 impl Window {
-    /// Returns the window of this size, or None where it is not 1 to 127.
+    /// Returns the window of this size, or None if it is not 1 to 127.
     pub fn new(number: u8) -> Option<Window>
         ensures some { IsSome result ↔ IsWindow number }
         ensures value { IfSome result (λ window. window ≡ number) }

@@ -13,7 +13,7 @@ use bac_npdu::{Body, FrameHead};
 use bac_tag::{Refusal, Why};
 use std::alloc::Global;
 
-/// Tells the mark of a frame, and keeps nothing of it.
+/// Returns the mark of a frame, and keeps nothing of the frame.
 #[derive(Drop)]
 struct TellMark;
 
@@ -38,7 +38,7 @@ impl FrameVisitor for TellMark {
     }
 }
 
-/// The first place where accepted octets differ from the canonical ones.
+/// Returns the first place where accepted octets differ from the canonical ones, or None.
 fn mark_of(alloc: Global, octets: &[u8], strict: bool) -> Result<Option<usize>, Refusal>
     ensures canonical { IfOk result (λ mark. mark ≡ None → IsCanonical octets.now) }
     ensures tolerated { IfOk result (λ mark. (place : ℕ) → mark ≡ Some place → IsFirstFlaw octets.now place) }
@@ -54,10 +54,15 @@ fn mark_of(alloc: Global, octets: &[u8], strict: bool) -> Result<Option<usize>, 
     }
 }
 
-/// Tells whether octets are the canonical ones of a frame: `BACTOOL_OK`; or spell it otherwise: `BACTOOL_TOLERATED`, with
-/// the first place where they differ from the canonical ones; or are refused: `BACTOOL_REFUSED`, with why and where. Where
-/// `strict` is true octets that are not canonical are refused as `NotCanonical` at that first place. `BACTOOL_NO_MEMORY`
-/// where memory is refused, which is never told of a small frame.
+/// Checks whether octets are the canonical ones of a frame. Returns one of these codes:
+///
+/// - `BACTOOL_OK` if they are the canonical ones;
+/// - `BACTOOL_TOLERATED` if they spell a frame otherwise: `outcome` has the first place where they differ from the
+///   canonical ones;
+/// - `BACTOOL_REFUSED` if they are refused: `outcome` has why and where;
+/// - `BACTOOL_NO_MEMORY` if memory is refused. It is never returned for a small frame.
+///
+/// If `strict` is true, octets that are not canonical are refused as `NotCanonical` at that first place.
 #[unsafe(no_mangle)]
 pub extern "C" fn bactool_check(
     alloc: Global,

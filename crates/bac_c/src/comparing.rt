@@ -15,7 +15,7 @@ use bac_npdu::{Side, same_meaning};
 use bac_tag::Why;
 use std::alloc::Global;
 
-/// The code of a refusal of one of two inputs.
+/// Returns the code of a refusal of one of two inputs.
 fn side_code(side: Side, why: Why) -> u32
     ensures codes { (result ≡ BACTOOL_LEFT_REFUSED) ⊎ ((result ≡ BACTOOL_RIGHT_REFUSED) ⊎ (result ≡ BACTOOL_NO_MEMORY)) }
     ensures left { result ≡ BACTOOL_LEFT_REFUSED → (side ≡ Side.Left) × (why ≢ OutOfMemory) }
@@ -31,9 +31,14 @@ fn side_code(side: Side, why: Why) -> u32
     }
 }
 
-/// Tells whether two inputs spell one frame: `BACTOOL_OK`; or two: `BACTOOL_DIFFERENT`; or which of them spells none, the
-/// left one first, with why and where: `BACTOOL_LEFT_REFUSED` or `BACTOOL_RIGHT_REFUSED`. `BACTOOL_NO_MEMORY` where memory
-/// is refused.
+/// Compares the frames that two inputs spell. Returns one of these codes:
+///
+/// - `BACTOOL_OK` if both inputs spell the same frame;
+/// - `BACTOOL_DIFFERENT` if they spell different frames;
+/// - `BACTOOL_LEFT_REFUSED` if the left input spells none: `outcome` has why and where;
+/// - `BACTOOL_RIGHT_REFUSED` if the left input spells a frame and the right one spells none: `outcome` has why and
+///   where;
+/// - `BACTOOL_NO_MEMORY` if memory is refused.
 #[unsafe(no_mangle)]
 pub extern "C" fn bactool_same_meaning(
     alloc: Global,

@@ -1,9 +1,10 @@
 //! The library for C. `include/bactool.h` declares these calls and says for a C program what they do.
 //!
-//! Each call hands on to one call of the library, and [`bactool_show`] to two. It repeats the clauses of that call for what
-//! C hands in and gets back: octets as a pointer and a length, an [`Outcome`] behind a pointer, and as the result one of the
-//! codes below. A frame is one NPDU (clause 6 of the standard), with an APDU or a network message in it. No call keeps a
-//! pointer, has a state, or keeps memory after it returns, so any may run in any thread at the same time.
+//! Each call uses one call of the library, and [`bactool_show`] uses two. It repeats the contract of that call for what
+//! C hands in and gets back: octets as a pointer and a length, an [`Outcome`] behind a pointer, and one of the codes
+//! below as the result. A frame is one NPDU (clause 6 of the standard), with an APDU or a network message in it. No
+//! call keeps a pointer, has a state, or keeps memory after it returns, so any calls may run in any threads at the same
+//! time.
 #![tactic(auto)]
 
 mod checking;

@@ -1,11 +1,12 @@
-//! What a call tells beside its code.
+//! What a call reports beside its code.
 
 ghost use Rattle.std.specs.Prelude.{◌≡◌};
 ghost use Rattle.bac_c.specs.Outcomes.{counted as counted_value, differs_at as differing, nothing as nothing_told, refused_as};
 
 use bac_tag::Refusal;
 
-/// What a call tells beside its code: `struct bactool_outcome` in `include/bactool.h`. What a code does not speak of is 0.
+/// What a call reports beside its code: `struct bactool_outcome` in `include/bactool.h`. A field of which the code says
+/// nothing is 0.
 #[repr(C)]
 #[derive(Clone, Copy, Debug, PartialEq, Eq)]
 pub struct Outcome {
@@ -13,12 +14,12 @@ pub struct Outcome {
     pub why: u32,
     /// The offset at which an input is refused, or at which it first differs from the canonical octets.
     pub place: usize,
-    /// The number of octets that are written, or that there would be where the room is too small.
+    /// The number of octets that are written, or that would be written if the room were not too small.
     pub count: usize,
 }
 
 impl Outcome {
-    /// The code says all.
+    /// Returns the outcome for a code that says all.
     pub(crate) fn nothing() -> Outcome
         ensures { result ≡ nothing_told }
     {
@@ -29,7 +30,7 @@ impl Outcome {
         }
     }
 
-    /// The octets first differ from the canonical ones at this place.
+    /// Returns the outcome for octets that first differ from the canonical ones at this place.
     pub(crate) fn differs_at(place: usize) -> Outcome
         ensures { result ≡ differing place }
     {
@@ -40,7 +41,7 @@ impl Outcome {
         }
     }
 
-    /// An input is refused.
+    /// Returns the outcome for an input that is refused.
     pub(crate) fn refused(refusal: Refusal) -> Outcome
         ensures { result ≡ refused_as refusal }
     {
@@ -51,7 +52,7 @@ impl Outcome {
         }
     }
 
-    /// So many octets are written, or would be.
+    /// Returns the outcome for `count` octets that are written, or would be.
     pub(crate) fn counted(count: usize) -> Outcome
         ensures { result ≡ counted_value count }
     {

@@ -8,7 +8,7 @@ ghost use Rattle.bac_c.specs.Outcomes.{number_of};
 use crate::writing::write_front;
 use bac_tag::Why;
 
-/// The reason of a number.
+/// Returns the reason with this number, or None.
 fn reason_of(number: u32) -> Option<Why>
     ensures some { (reason : Reason) → number ≡ number_of reason → result ≡ Some reason }
     ensures none { ((number ≡ 0) ⊎ (12 < number)) → result ≡ None }
@@ -30,8 +30,8 @@ fn reason_of(number: u32) -> Option<Why>
     }
 }
 
-/// Writes the name of the reason with this number in front of `out`, where it is long enough for it. Returns the number of
-/// octets of the name, and 0 where no reason has the number.
+/// Writes the name of the reason with this number at the front of `out`, if `out` is long enough for it. Returns the
+/// number of octets of the name, or 0 if no reason has the number.
 #[unsafe(no_mangle)]
 pub extern "C" fn bactool_reason(why: u32, out: &mut [u8]) -> usize
     ensures named { (reason : Reason) → why ≡ number_of reason → result ≡ length (name_of reason) }

@@ -12,10 +12,10 @@ use bac_tag::{OutOfMemory, Refusal};
 use bac_text::layers::write_text_of;
 use std::alloc::Global;
 
-/// For how many octets there is room at first, as most texts want.
+/// How many octets there is room for at first: as many as most texts need.
 const FIRST_ROOM: usize = 256;
 
-/// Writes the text of a frame where it was decoded, so that it is not put together and moved.
+/// Writes the text of a frame where it was decoded, so that the frame is not put together and moved.
 #[derive(Drop)]
 struct Showing {
     alloc: Global,
@@ -46,7 +46,7 @@ impl FrameVisitor for Showing {
     }
 }
 
-/// The text of the frame that the octets spell.
+/// Returns the text of the frame that the octets spell.
 fn text_of(alloc: Global, octets: &[u8]) -> Result<Vec<u8>, Refusal>
     ensures text { IfOk result (λ line. IsTextOf octets.now line.items) }
     ensures refused { IfErr result (λ refusal. refusal.why ≢ NoMemory → IsHopeless octets.now refusal) }
@@ -58,9 +58,13 @@ fn text_of(alloc: Global, octets: &[u8]) -> Result<Vec<u8>, Refusal>
     }
 }
 
-/// Writes the text of the frame that the octets spell in front of `out`, and tells how many octets it has: `BACTOOL_OK`; or
-/// only tells how many, where `out` is too short for them: `BACTOOL_NO_ROOM`. `BACTOOL_REFUSED` with why and where;
-/// `BACTOOL_NO_MEMORY` where memory is refused.
+/// Writes the text of the frame that the octets spell at the front of `out`. Returns one of these codes:
+///
+/// - `BACTOOL_OK` if the text is written: `outcome` has the number of its octets;
+/// - `BACTOOL_NO_ROOM` if `out` is too short for the text: nothing is written, and `outcome` has the number of its
+///   octets;
+/// - `BACTOOL_REFUSED` if the octets are refused: `outcome` has why and where;
+/// - `BACTOOL_NO_MEMORY` if memory is refused.
 #[unsafe(no_mangle)]
 pub extern "C" fn bactool_show(
     alloc: Global,

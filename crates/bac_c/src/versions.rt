@@ -2,8 +2,8 @@
 
 ghost use Rattle.std.specs.Prelude.{◌≡◌};
 
-/// Returns the version of the library as a number: 10,000 times the major, 100 times the minor and the patch number, which
-/// is 100 for 0.1.0.
+/// Returns the version of the library as a number: 10,000 times the major number, plus 100 times the minor number, plus
+/// the patch number. For 0.1.0 it is 100.
 #[unsafe(no_mangle)]
 pub extern "C" fn bactool_version() -> u32
     ensures { result ≡ 100 }

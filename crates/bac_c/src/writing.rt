@@ -7,7 +7,8 @@ ghost use Rattle.bac_c.specs.Outcomes.{counted, refused_as};
 use crate::{BACTOOL_NO_MEMORY, BACTOOL_NO_ROOM, BACTOOL_OK, BACTOOL_REFUSED, Outcome};
 use bac_tag::{Refusal, Why};
 
-/// Writes octets in front of `out`. Returns whether it is long enough for them; where it is not, nothing is written.
+/// Writes octets at the front of `out`. Returns true if `out` is long enough for them. If it is not, nothing is
+/// written.
 pub(crate) fn write_front(octets: &[u8], out: &mut [u8]) -> bool
     ensures fits { IsTrue result ↔ (length octets.now ≤ length out.old) }
     ensures written { IsTrue result → out.new ≡ octets.now ++ drop (length octets.now) out.old }
@@ -21,7 +22,8 @@ pub(crate) fn write_front(octets: &[u8], out: &mut [u8]) -> bool
     true
 }
 
-/// Writes octets in front of `out`, or nothing where it is too short for them. Tells how many they are.
+/// Writes octets at the front of `out`, or nothing if it is too short for them. Puts their number into `outcome`, and
+/// returns the code.
 pub(crate) fn hand_out(octets: &[u8], out: &mut [u8], outcome: &mut Outcome) -> u32
     ensures codes { (result ≡ BACTOOL_OK) ⊎ (result ≡ BACTOOL_NO_ROOM) }
     ensures room { (result ≡ BACTOOL_NO_ROOM) ↔ (length out.old < length octets.now) }
@@ -37,7 +39,8 @@ pub(crate) fn hand_out(octets: &[u8], out: &mut [u8], outcome: &mut Outcome) -> 
     }
 }
 
-/// Tells why and where an input is refused, or that memory was.
+/// Puts into `outcome` why and where an input is refused. Returns `BACTOOL_REFUSED`, or `BACTOOL_NO_MEMORY` if memory
+/// was refused.
 pub(crate) fn refuse(refusal: Refusal, outcome: &mut Outcome) -> u32
     ensures codes { (result ≡ BACTOOL_REFUSED) ⊎ (result ≡ BACTOOL_NO_MEMORY) }
     ensures refused { result ≡ BACTOOL_REFUSED → refusal.why ≢ OutOfMemory }

@@ -4,14 +4,14 @@ use std::error::Error;
 use std::fmt;
 use std::fmt::Display;
 
-/// Why a builder takes no further step. Where several hold, `Number` is told first and `OutOfMemory` last.
+/// Why a builder takes no further step. If several hold, `Number` is reported first and `OutOfMemory` last.
 #[derive(Clone, Copy, Debug, PartialEq, Eq)]
 pub enum BuildFault {
     /// The number is 255, which is no tag number.
     Number = 1,
-    /// 32 groups are open, so that no other one may begin.
+    /// 32 groups are open, so no other group may begin.
     Depth,
-    /// No group is open, so that none can be closed.
+    /// No group is open, so none can be closed.
     NothingOpen,
     /// A group is still open.
     StillOpen,

@@ -67,7 +67,7 @@ impl AnyBuilder {
     /// Returns a builder with no event.
     ///
     /// # Errors
-    /// `OutOfMemory` where memory is refused.
+    /// `OutOfMemory` if memory is refused.
     pub fn new(alloc: Global) -> Result<AnyBuilder, OutOfMemory>
         ensures { IfOk result (λ builder. builder ≡ []) }
     {
@@ -82,7 +82,7 @@ impl AnyBuilder {
     /// Appends an application primitive (clause 20.2.1.4).
     ///
     /// # Errors
-    /// `OutOfMemory` where memory is refused. The primitive comes back, and the builder stays as it was.
+    /// `OutOfMemory` if memory is refused. The primitive is returned with the fault, and the builder stays as it was.
     pub fn push(&mut self, prim: Prim) -> Result<(), (Prim, BuildFault)>
         ensures ok { OnOk result (self.new ≡ self.old ++ application prim ∷ []) }
         ensures err { IfErr result (λ back. (back.0 ≡ prim) × (back.1 ≡ BuildFault.OutOfMemory) × (self.new ≡ self.old)) }
@@ -100,9 +100,9 @@ impl AnyBuilder {
     /// # Errors
     /// The builder stays as it was.
     ///
-    /// - `Number` where the number is 255.
-    /// - Else `TooLong` where there are more than 1,048,576 octets.
-    /// - Else `OutOfMemory` where memory is refused.
+    /// - `Number` if the number is 255.
+    /// - Otherwise `TooLong` if there are more than 1,048,576 octets.
+    /// - Otherwise `OutOfMemory` if memory is refused.
     pub fn push_ctx(&mut self, number: u8, octets: &[u8]) -> Result<(), BuildFault>
         ensures ok { OnOk result (self.new ≡ self.old ++ contextual number octets.now ∷ []) }
         ensures number { IsErrOf result BuildFault.Number ↔ (number ≡ 255) }
@@ -128,9 +128,9 @@ impl AnyBuilder {
     /// # Errors
     /// The builder stays as it was.
     ///
-    /// - `Number` where the number is 255.
-    /// - Else `Depth` where 32 groups are open.
-    /// - Else `OutOfMemory` where memory is refused.
+    /// - `Number` if the number is 255.
+    /// - Otherwise `Depth` if 32 groups are open.
+    /// - Otherwise `OutOfMemory` if memory is refused.
     pub fn open(&mut self, number: u8) -> Result<(), BuildFault>
         ensures ok { OnOk result (self.new ≡ self.old ++ opening number ∷ []) }
         ensures number { IsErrOf result BuildFault.Number ↔ (number ≡ 255) }
@@ -157,8 +157,8 @@ impl AnyBuilder {
     /// # Errors
     /// The builder stays as it was.
     ///
-    /// - `NothingOpen` where no group is open.
-    /// - Else `OutOfMemory` where memory is refused.
+    /// - `NothingOpen` if no group is open.
+    /// - Otherwise `OutOfMemory` if memory is refused.
     pub fn close(&mut self) -> Result<(), BuildFault>
         ensures ok { OnOk result ((number : ℕ) × IsInnermost 32 self.old number × (self.new ≡ self.old ++ closing number ∷ [])) }
         ensures nothing_open { IsErrOf result BuildFault.NothingOpen ↔ HasOpen 32 self.old 0 }
@@ -177,10 +177,10 @@ impl AnyBuilder {
         Ok(())
     }
 
-    /// Returns the value with the events so far. It takes no memory.
+    /// Returns the value with the events so far. The call takes no memory.
     ///
     /// # Errors
-    /// `StillOpen` where a group is still open, and nowhere else. The builder comes back as it was.
+    /// `StillOpen` if a group is still open, and in no other case. The builder is returned as it was.
     pub fn finish(self) -> Result<Any, (AnyBuilder, BuildFault)>
         ensures value { IfOk result (λ value. events value ≡ self) }
         ensures complete { IsOk result ↔ HasOpen 32 self 0 }

@@ -1,4 +1,4 @@
-//! Open values in canonical octets, which are found without the value.
+//! Open values in canonical octets, which are recognised without making the value.
 
 ghost use Rattle.std.specs.Prelude.{◌≡◌, ◌≤◌, ◌<◌, ◌+◌, ◌++◌, ℕ, IfSome, length, take};
 ghost use Rattle.bac_tag.specs.Spelling.{IsLeast, Takes, TakesLeast};
@@ -14,8 +14,8 @@ use bac_tag::layers::{is_short_closing, is_short_opening};
 use bac_tag::{TagHead, read_head};
 use bac_value::layers::are_written;
 
-/// What stands under a head at the front of the octets, if its contents are those that are written, and how many octets they
-/// have. None tells nothing of the octets.
+/// Returns what stands under a head at the front of the octets, and how many octets its contents have, if these
+/// contents are those that are written. None says nothing about the octets.
 fn written_under(head: TagHead, octets: &[u8]) -> Option<(Item<'_>, usize)>
     requires { HasContents head }
     ensures within { IfSome result (λ found. found.1 ≤ length octets.now) }
@@ -49,8 +49,9 @@ fn written_under(head: TagHead, octets: &[u8]) -> Option<(Item<'_>, usize)>
     }
 }
 
-/// What stands next, if it stands there in its canonical octets, and how many they are. A group may begin where there is
-/// room for one, and the innermost group, or the value, has this number. None tells nothing of the octets.
+/// Returns what stands next and how many octets it takes, if these are its canonical octets. `room` says whether a
+/// group may begin. `closing` is the number of the innermost group, or of the value if no group is open. None says
+/// nothing about the octets.
 fn least_item(octets: &[u8], room: bool, closing: u8) -> Option<(Item<'_>, usize)>
     ensures found { IfSome result (λ found. Takes (SpellsStanding room closing) octets.now (item_event found.0, found.1)) }
     ensures some { IfSome result (λ found. 0 < found.1) }
@@ -70,10 +71,10 @@ fn least_item(octets: &[u8], room: bool, closing: u8) -> Option<(Item<'_>, usize
     Some((item, start + size))
 }
 
-/// How many octets the open value (clause 20.2) at the front takes with its tags, where these are its canonical ones and each
-/// tag around it has one octet. None tells nothing of the octets. `number` must be at most 254.
+/// Returns how many octets the open value (clause 20.2) at the front takes with its tags, if they are its canonical
+/// octets and each tag around it has one octet. None says nothing about the octets. `number` must be at most 254.
 ///
-/// It takes no memory, however long the value is.
+/// The call takes no memory, however long the value is.
 pub fn canonical_any_len(octets: &[u8], number: u8) -> Option<usize>
     requires { number ≤ 254 }
     ensures { IfSome result (TakesLeast (SpellsOpen 32 number) octets.now) }

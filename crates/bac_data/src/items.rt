@@ -46,11 +46,11 @@ pub(crate) enum Item<'a> {
     Close(u8),
 }
 
-/// Contents of so many octets, of the type with that application number, at the front of the octets, and whether they are
-/// those that are written.
+/// Reads contents of `size` octets, of the type with this application number, at the front of the octets. Returns them,
+/// and whether they are those that are written.
 ///
 /// # Errors
-/// `Content` at the first octet that no such contents can have there, else `Short` where they end too early.
+/// `Content` at the first octet that no such contents can have there. Otherwise `Short` if the octets end too early.
 fn read_contents(number: u8, size: usize, octets: &[u8]) -> Result<(&[u8], bool), Refusal>
     requires number { number ≤ 12 }
     requires size { IsBegun (ContentsOf number) [] size }
@@ -73,10 +73,10 @@ fn read_contents(number: u8, size: usize, octets: &[u8]) -> Result<(&[u8], bool)
     Ok((seen, false))
 }
 
-/// What stands under a head at the front of the octets, and how many octets it takes.
+/// Reads what stands under a head at the front of the octets. Returns it, and how many octets it takes.
 ///
 /// # Errors
-/// As [`read_contents`].
+/// As those of [`read_contents`].
 fn read_under(head: TagHead, octets: &[u8]) -> Result<(Item<'_>, usize), Refusal>
     requires { HasContents head }
     ensures within { IfOk result (λ found. found.1 ≤ length octets.now) }
@@ -119,7 +119,7 @@ fn read_under(head: TagHead, octets: &[u8]) -> Result<(Item<'_>, usize), Refusal
     }
 }
 
-/// The heads of what may stand next, that of an opening tag last.
+/// Returns the heads of what may stand next, that of an opening tag last.
 fn next_heads(closing: u8) -> [Expected; 16]
     ensures { result ≡ next_heads true closing }
 {
@@ -147,7 +147,7 @@ fn next_heads(closing: u8) -> [Expected; 16]
     ]
 }
 
-/// The application head of a type.
+/// Returns the application head of a type.
 fn application_head<T: Primitive>() -> Expected
     ensures { result ≡ Expected.App T.APP T.SHORTEST T.LONGEST }
 {
@@ -161,7 +161,7 @@ fn application_head<T: Primitive>() -> Expected
 /// The lower four bits of the first octet of an opening tag: context class and LVT 6 (clause 20.2.1.3.2).
 const OPENING: u8 = 0x0E;
 
-/// Whether the octets begin with an opening tag.
+/// Returns true if the first octet is that of an opening tag.
 fn begins_group(octets: &[u8]) -> bool
     ensures { IsTrue result ↔ BeginsGroup 0 octets.now }
 {
@@ -171,7 +171,7 @@ fn begins_group(octets: &[u8]) -> bool
     }
 }
 
-/// Whether the head may stand next: it does not say that another one may not.
+/// Returns true if the head is found to be one that may stand next. False says nothing about the head.
 pub(crate) fn may_stand(head: TagHead, room: bool, closing: u8) -> bool
     requires { IsValid head }
     ensures { IsTrue result → FitsOne (next_heads room closing) head }
@@ -188,11 +188,11 @@ pub(crate) fn may_stand(head: TagHead, room: bool, closing: u8) -> bool
     }
 }
 
-/// The head of what stands next, and how many octets it takes. A group may begin where there is room for one,
-/// and the innermost group, or the value, has this number.
+/// Reads the head of what stands next. Returns it, and how many octets it takes. `room` says whether a group may begin.
+/// `closing` is the number of the innermost group, or of the value if no group is open.
 ///
 /// # Errors
-/// As [`read_listed_head`].
+/// As those of [`read_listed_head`].
 fn read_next_head(octets: &[u8], room: bool, closing: u8) -> Result<(TagHead, usize), Refusal>
     requires { closing ≤ 254 }
     ensures found { IfOk result (Takes (HeadsOfOne (next_heads room closing)) octets.now) }
@@ -211,10 +211,11 @@ fn read_next_head(octets: &[u8], room: bool, closing: u8) -> Result<(TagHead, us
     }
 }
 
-/// The same by the list of all heads that may stand next, which is slow and has the place of a refusal.
+/// Reads the same as [`read_next_head`], by the list of all heads that may stand next. This is slow, but finds the
+/// place of a refusal.
 ///
 /// # Errors
-/// As `bac_tag::read_one_of`; but `Depth` where a group begins and there is no room for one.
+/// As those of `bac_tag::read_one_of`; but `Depth` if a group begins and there is no room for one.
 fn read_listed_head(octets: &[u8], room: bool, closing: u8) -> Result<(TagHead, usize), Refusal>
     requires { closing ≤ 254 }
     ensures found { IfOk result (Takes (HeadsOfOne (next_heads room closing)) octets.now) }
@@ -230,7 +231,8 @@ fn read_listed_head(octets: &[u8], room: bool, closing: u8) -> Result<(TagHead, 
     }
 }
 
-/// The refusal, with the reason `Depth` where a group begins and there is no room for one.
+/// Returns the refusal, but with the reason `Depth` if it is at the first octet, a group begins there and there is no
+/// room for one.
 fn told(refusal: Refusal, octets: &[u8], room: bool) -> Refusal
     requires { IsHeadReason refusal.why }
     ensures place { result.place ≡ refusal.place }
@@ -244,8 +246,8 @@ fn told(refusal: Refusal, octets: &[u8], room: bool) -> Refusal
     Why::Depth.at(0)
 }
 
-/// How many octets the application primitive at the front takes, where they are its canonical ones and its head has one
-/// octet. None tells nothing of the octets.
+/// Returns how many octets the application primitive at the front takes, if they are its canonical ones and its head
+/// has one octet. None says nothing about the octets.
 #[inline(always)]
 pub(crate) fn least_primitive(octets: &[u8]) -> Option<usize>
     ensures within { IfSome result (λ taken. taken ≤ length octets.now) }
@@ -268,12 +270,12 @@ pub(crate) fn least_primitive(octets: &[u8]) -> Option<usize>
     }
 }
 
-/// What stands next, how many octets its head takes, and how many it takes in all. A group may begin where there
-/// is room for one, and the innermost group, or the value, has this number.
+/// Reads what stands next. Returns it, how many octets its head takes, and how many octets it takes in all. `room` says
+/// whether a group may begin. `closing` is the number of the innermost group, or of the value if no group is open.
 ///
 /// # Errors
-/// At the first octet with which nothing begins that may stand there: `Tag`, `Length` or `Depth` in a head,
-/// `Content` in contents, or `Short` where the octets end before there is such an octet.
+/// The place is that of the first octet with which nothing that may stand there goes on. The reason is `Tag`, `Length`
+/// or `Depth` in a head, `Content` in contents, or `Short` if the octets end before there is such an octet.
 pub(crate) fn read_item(
     octets: &[u8],
     room: bool,
@@ -298,7 +300,7 @@ pub(crate) fn read_item(
     }
 }
 
-/// The head that an item was read under.
+/// Returns the head that an item was read under.
 #[inline(always)]
 pub(crate) fn head_of(item: Item<'_>) -> TagHead
     requires { IsItem item }
@@ -323,7 +325,7 @@ pub(crate) fn head_of(item: Item<'_>) -> TagHead
     }
 }
 
-/// The contents that an item was read with.
+/// Returns the contents that an item was read with.
 #[inline(always)]
 pub(crate) fn contents_of(item: Item<'_>) -> &[u8]
     ensures { result.now ≡ item_contents item.entry }
@@ -335,7 +337,7 @@ pub(crate) fn contents_of(item: Item<'_>) -> &[u8]
     }
 }
 
-/// Whether the contents of an item are those that are written.
+/// Returns true if the contents of an item are those that are written.
 #[inline(always)]
 fn contents_are_least(item: Item<'_>) -> bool
     requires { IsItem item }
@@ -347,7 +349,7 @@ fn contents_are_least(item: Item<'_>) -> bool
     }
 }
 
-/// Whether the octets of an item, whose head has these, are the canonical ones.
+/// Returns true if the octets of an item are its canonical ones. Its head has the octets `head`.
 #[inline(always)]
 pub(crate) fn is_least(head: &[u8], item: Item<'_>) -> bool
     requires item { IsItem item }

@@ -12,7 +12,7 @@ pub fn events_determine_the_value()
     ensures { (v w : Elements) → events v ≡ events w → v ≡ w }
 {}
 
-/// An open value ends itself: no spelling of one begins another one, nor spells two.
+/// An open value ends itself: no spelling begins another one, and none spells two values.
 pub fn open_values_end_themselves()
     ensures { (limit number : ℕ) → EndsItself (SpellsOpen limit number) }
 {}
@@ -32,14 +32,14 @@ pub fn only_open_values_are_spelled()
     ensures { (limit number : ℕ) (v : Elements) (b : List ℕ) → SpellsOpen limit number v b → (number ≤ 254) × IsOpenValue limit v }
 {}
 
-/// A list begins a spelling of an element exactly where it begins one of an application primitive, of a context
+/// A list begins a spelling of an element exactly where it begins a spelling of an application primitive, of a context
 /// primitive or of a group.
 pub fn elements_are_viable_in_a_case()
     ensures { (b : List ℕ) → IsViable Spells b ↔ (IsViable SpellsPrimitive b ⊎ (IsViable SpellsContextOf b ⊎ IsViable SpellsGroup b)) }
 {}
 
-/// A list begins a spelling of an element and others behind it exactly where it begins one of an element, or is one of
-/// an element with the beginning of others behind it.
+/// A list begins a spelling of an element and others behind it exactly where it begins a spelling of an element, or is
+/// a spelling of an element with the beginning of others behind it.
 pub fn lists_are_viable_in_turn()
     ensures { (b : List ℕ) → IsViable SpellsMore b ↔ (IsViable Spells b ⊎ IsPartway Spells (λ _. SpellsAll) b) }
 {}

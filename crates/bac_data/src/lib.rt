@@ -1,7 +1,7 @@
 //! Open values of BACnet (ANSI/ASHRAE 135, clause 20.2): any elements between an opening and a closing tag.
 //!
-//! [`read_any`] reads one and [`AnyBuilder`] builds one; [`Any::events`] walks over it, and [`write_any`] writes it. What
-//! only the layers above call stands in [`layers`].
+//! [`read_any`] reads one and [`AnyBuilder`] builds one; [`Any::events`] walks over it, and [`write_any`] writes it.
+//! The calls that only the layers above need stand in [`layers`].
 //!
 //! In the examples `rt` is the program's `HostRuntime`.
 #![tactic(auto)]

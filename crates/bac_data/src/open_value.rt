@@ -16,15 +16,15 @@ use smallvec::SmallVec;
 use std::alloc::AllocError;
 use std::marker::Model;
 
-/// So many octets a value holds in itself, where it was read in canonical octets or copied: they want no memory then. Most
-/// values have no more.
+/// How many octets a value holds in itself at most, if it was read in canonical octets or copied. They then need no
+/// memory. Most values have no more.
 const SHORT: usize = 16;
 
 /// An open value: a list of elements, which may be empty. Each is an application primitive, a context primitive
 /// (its number and its contents) or a group (its number and its elements). Numbers are 0 to 254, contents have at
 /// most 1,048,576 octets, and at most 32 groups nest.
-// The count stands in front of the octets: so a result has the tag of these where a refusal has its reason, an octet too,
-// and no word that would be moved in pieces.
+// The count stands in front of the octets. So a result has the tag of the octets where a refusal has its reason, which
+// is one octet too, and no word is moved in pieces.
 #[derive(Debug)]
 pub struct Any {
     /// How many events it has.
@@ -78,7 +78,8 @@ impl<'a> IntoIterator for &'a Any {
     }
 }
 
-/// Two open values are equal exactly where they are the same value, and so where their canonical octets are equal.
+/// Two open values are equal exactly where they are the same value, and so exactly where their canonical octets are
+/// equal.
 impl PartialEq for Any {
     ghost eq = { same_values };
 
@@ -101,7 +102,7 @@ impl Clone for Any {
     ghost is_clone = { λ any copy. copy ≡ any };
 
     /// # Errors
-    /// `AllocError` where memory is refused.
+    /// `AllocError` if memory is refused.
     fn clone(&self) -> Result<Any, AllocError> {
         let alloc = *self.octets.allocator();
         let octets = SmallVec::from_slice(alloc, self.octets.as_slice())?;
@@ -113,7 +114,7 @@ impl Clone for Any {
 }
 
 impl Any {
-    /// The value with so many events, of which these are the canonical octets.
+    /// Returns the value with `count` events whose canonical octets are `octets`.
     #[inline(always)]
     pub(crate) fn of_octets(octets: SmallVec<u8, SHORT>, count: usize) -> Any
         requires { (es : List EventOf) × IsLeast (SpellsEvents es) octets.items × Opens 32 [] es [] × (count ≡ length es) }
@@ -122,7 +123,7 @@ impl Any {
         Any { octets, count }
     }
 
-    /// The canonical octets of its events.
+    /// Returns the canonical octets of its events.
     #[inline(always)]
     pub(crate) fn octets(&self) -> &[u8]
         ensures least { IsLeast (SpellsEvents (events self.now)) result.now }
@@ -131,7 +132,7 @@ impl Any {
         self.octets.as_slice()
     }
 
-    /// Returns a walk over the events of the value, in their order. The tags around the value are none of them. The
+    /// Returns a walk over the events of the value, in their order. The tags around the value are not among them. The
     /// walk takes no memory.
     ///
     /// # Examples
@@ -154,8 +155,8 @@ impl Any {
         Events::over(self.octets.as_slice(), self.count)
     }
 
-    /// Returns how many events a walk over the value has. They are no more than the octets between the tags of any
-    /// of its spellings.
+    /// Returns how many events a walk over the value has: at most the number of octets between the tags in any of its
+    /// spellings.
     pub fn count(&self) -> usize
         ensures count { result ≡ length (events self.now) }
         ensures most { (b : List ℕ) → SpellsAll self.now b → result ≤ length b }

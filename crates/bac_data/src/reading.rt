@@ -24,8 +24,8 @@ use bac_tag::{OutOfMemory, Refusal, TagHead, Why};
 use smallvec::SmallVec;
 use std::alloc::Global;
 
-/// Whether another group may begin inside these open ones, and the number of the innermost: where none is open, that of
-/// the value.
+/// Returns whether another group may begin inside these open ones, and the number of the innermost one. If none is
+/// open, that is the number of the value.
 #[inline(always)]
 pub(crate) fn place_in(groups: &ArrayVec<u8, MAX_GROUPS>, number: u8) -> (bool, u8)
     requires number { number ≤ 254 }
@@ -40,7 +40,7 @@ pub(crate) fn place_in(groups: &ArrayVec<u8, MAX_GROUPS>, number: u8) -> (bool, 
     }
 }
 
-/// Whether the item is the end of a group with this number.
+/// Returns true if the item is the end of a group with this number.
 #[inline(always)]
 pub(crate) fn ends(item: Item<'_>, number: u8) -> bool
     ensures { IsTrue result ↔ (item_event item.entry ≡ closing number) }
@@ -51,7 +51,7 @@ pub(crate) fn ends(item: Item<'_>, number: u8) -> bool
     }
 }
 
-/// Opens or closes a group, where the item does that.
+/// Opens or closes a group, if the item does that.
 #[inline(always)]
 pub(crate) fn follow(groups: &mut ArrayVec<u8, MAX_GROUPS>, item: Item<'_>)
     requires item { IsItem item }
@@ -67,7 +67,8 @@ pub(crate) fn follow(groups: &mut ArrayVec<u8, MAX_GROUPS>, item: Item<'_>)
     }
 }
 
-/// The mark behind the closing tag with this number, which has these octets.
+/// Returns the mark of `place` octets together with the closing tag behind them. The mark of the `place` octets is
+/// `mark`. The tag has this number and the octets `closing`.
 #[inline(always)]
 fn mark_closing(mark: Option<usize>, place: usize, closing: &[u8], number: u8) -> Option<usize>
     requires number { number ≤ 254 }
@@ -79,9 +80,10 @@ fn mark_closing(mark: Option<usize>, place: usize, closing: &[u8], number: u8) -
     joined_marks(mark, place, mark_read_head(closing, head, head))
 }
 
-/// Keeps the canonical octets of an item, where its octets or those of an item in front of it are others. It has these
-/// octets, of which so many are its head; `front` are those of the items in front, of which nothing is kept while all are
-/// canonical. Returns the mark of its octets; behind the first difference none is looked for.
+/// Keeps the canonical octets of an item, if its octets or some in front of it are not canonical. The item has these
+/// `octets`, and its head has the first `head` of them. `before` is the mark of what stands in front of the item.
+/// `front` holds the octets of the items in front of it, of which nothing is kept while `before` is None. Returns the
+/// mark of the octets of the item. Behind the first difference no mark is looked for.
 #[inline(always)]
 fn keep(
     front: &[u8],
@@ -113,7 +115,7 @@ fn keep(
     Ok(first_difference(octets, &kept[start..]))
 }
 
-/// Keeps the canonical octets of an item, where those of an item in front of it are not the canonical ones.
+/// Keeps the canonical octets of an item, if what stands in front of it has a mark.
 #[inline(always)]
 fn keep_octets(octets: &[u8], mark: Option<usize>, kept: &mut Vec<u8>) -> Result<(), OutOfMemory>
     ensures { OnOk result ((es : List Event) (event : Event) → IsLeast (SpellsEvent event) octets.now → Keeps mark es kept.old.items → Keeps mark (es ++ event ∷ []) kept.new.items) }
@@ -127,7 +129,7 @@ fn keep_octets(octets: &[u8], mark: Option<usize>, kept: &mut Vec<u8>) -> Result
 /// Room for what follows the first octet that is not canonical. Most values have less.
 const ROOM: usize = 48;
 
-/// Keeps the octets of the items in front of the first that is not canonical.
+/// Keeps the octets of the items in front of the first one that is not canonical.
 fn begin(front: &[u8], kept: &mut Vec<u8>) -> Result<(), OutOfMemory>
     ensures { OnOk result (kept.new.items ≡ kept.old.items ++ front.now) }
 {
@@ -136,7 +138,8 @@ fn begin(front: &[u8], kept: &mut Vec<u8>) -> Result<(), OutOfMemory>
     Ok(())
 }
 
-/// The value with so many events, whose octets these are. They are the canonical ones where nothing is kept.
+/// Returns the value with `count` events. Their canonical octets are `front` if there is no mark, and `kept` if there
+/// is one.
 #[inline(always)]
 fn finish(
     front: &[u8],
@@ -155,20 +158,20 @@ fn finish(
     Ok(Any::of_octets(octets, count))
 }
 
-/// Reads the open value (clause 20.2) at the front of the octets, in any tolerated spelling. Returns it, and how
-/// many octets it takes with its tags; more may follow.
+/// Reads the open value (clause 20.2) at the front of the octets, in any tolerated spelling. Returns it, and how many
+/// octets it takes with its tags. More octets may follow.
 ///
 /// Octets: the opening tag with this number (clause 20.2.1.3.2), which must be at most 254; the elements in their
 /// order; the closing tag with this number. The contents of an element have at most 1,048,576 octets, and at most
 /// 32 groups nest between the two tags.
 ///
 /// # Errors
-/// The place is that of the first octet with which no such value begins. The reason is one of these:
+/// The place is that of the first octet with which no spelling of such a value goes on. The reason is one of these:
 ///
-/// - `Short` where the octets end before there is such an octet, and nowhere else: the place is their number;
+/// - `Short` if the octets end before there is such an octet, and in no other case: the place is their number;
 /// - `Depth` only at the first octet of another group inside 32 open ones;
 /// - `Tag`, `Length` or `Content`;
-/// - `OutOfMemory` where memory is refused: the place is 0.
+/// - `OutOfMemory` if memory is refused: the place is 0.
 ///
 /// # Examples
 /// ```rust
@@ -199,8 +202,8 @@ pub fn read_any(alloc: Global, octets: &[u8], number: u8) -> Result<(Any, usize)
 }
 
 /// Reads what [`read_any`] reads. Returns the value, how many octets it takes with its tags, and the offset of the
-/// first of these octets that differs from the canonical ones, or None where they are canonical. `number` must be
-/// at most 254.
+/// first of these octets that differs from the canonical ones, or None if they are canonical. `number` must be at most
+/// 254.
 ///
 /// # Errors
 /// As those of [`read_any`].
@@ -232,7 +235,7 @@ pub fn read_any_marked(
             place += taken;
             continue;
         }
-        // Most values end so.
+        // Most values end like this.
         if groups.is_empty() && is_short_closing(&octets[place..], number) {
             return match finish(&octets[start..place], mark, kept, count) {
                 Ok(value) => Ok((value, place + 1, mark)),

@@ -56,7 +56,7 @@ impl<'a> Model for Events<'a> {
 }
 
 impl<'a> Events<'a> {
-    /// The walk over so many events, of which these are the canonical octets.
+    /// Returns the walk over `count` events whose canonical octets are `octets`.
     pub(crate) fn over(octets: &'a [u8], count: usize) -> Events<'a>
         requires { (es : List EventOf) × IsLeast (SpellsEvents es) octets.now × (count ≡ length es) }
         ensures { (es : List EventOf) → IsLeast (SpellsEvents es) octets.now → result ≡ es }
@@ -65,8 +65,8 @@ impl<'a> Events<'a> {
     }
 }
 
-/// The first of the events of which these are the canonical octets, where its head was read, which takes so many of
-/// them; and how many octets it takes.
+/// Returns the first of the events whose canonical octets these are, and how many octets it takes. Its head was read
+/// already: it is `head`, and takes `start` octets.
 #[inline(always)]
 fn event_under(head: TagHead, start: usize, octets: &[u8]) -> (Event<'_>, usize)
     requires taken { Takes Heads octets.now (head, start) }
@@ -92,7 +92,7 @@ fn event_under(head: TagHead, start: usize, octets: &[u8]) -> (Event<'_>, usize)
     }
 }
 
-/// The first of the events of which these are the canonical octets, and how many octets it takes.
+/// Returns the first of the events whose canonical octets these are, and how many octets it takes.
 #[inline(always)]
 fn first_event(octets: &[u8]) -> (Event<'_>, usize)
     requires { (e : EventOf) × (es : List EventOf) × IsLeast (SpellsEvents (e ∷ es)) octets.now }

@@ -18,7 +18,7 @@ use bac_tag::{OutOfMemory, TagHead};
 use bac_value::Prim;
 use bac_value::layers::{append_written, written_len_of};
 
-/// Appends contents. Most have one octet to four, which are copied where they stand, without a call.
+/// Appends contents. Most have one to four octets, which are copied without a call.
 #[inline(always)]
 fn append_contents(contents: &[u8], out: &mut Vec<u8>) -> Result<(), OutOfMemory>
     ensures ok { OnOk result (out.new.items ≡ out.old.items ++ contents.now) }
@@ -35,7 +35,7 @@ fn append_contents(contents: &[u8], out: &mut Vec<u8>) -> Result<(), OutOfMemory
     Ok(())
 }
 
-/// Appends an application primitive. Where memory is refused some octets may be there.
+/// Appends an application primitive. If memory is refused, `out` may hold some of the octets.
 fn append_parts(prim: &Prim, out: &mut Vec<u8>) -> Result<(), OutOfMemory>
     ensures ok { OnOk result (AppendsLeast (SpellsPrimitive prim.now) out.old.items out.new.items) }
     ensures err { OnErr result (Extends out.old.items out.new.items) }
@@ -49,7 +49,7 @@ fn append_parts(prim: &Prim, out: &mut Vec<u8>) -> Result<(), OutOfMemory>
     prim.write(out)
 }
 
-/// Appends an application primitive. Where memory is refused `out` stays as it was.
+/// Appends an application primitive. If memory is refused, `out` stays as it was.
 pub(crate) fn append_primitive(prim: &Prim, out: &mut Vec<u8>) -> Result<(), OutOfMemory>
     ensures ok { OnOk result (AppendsLeast (SpellsPrimitive prim.now) out.old.items out.new.items) }
     ensures err { OnErr result (out.new.items ≡ out.old.items) }
@@ -62,8 +62,8 @@ pub(crate) fn append_primitive(prim: &Prim, out: &mut Vec<u8>) -> Result<(), Out
     appended
 }
 
-/// Appends the application primitive with this number and these contents, which may be others than those that are
-/// written. Where memory is refused some octets may be there.
+/// Appends the application primitive with this number and these contents, which may differ from those that are written.
+/// If memory is refused, `out` may hold some of the octets.
 #[inline(never)]
 fn append_application(number: u8, contents: &[u8], out: &mut Vec<u8>) -> Result<(), OutOfMemory>
     requires number { number ≤ 12 }
@@ -77,7 +77,7 @@ fn append_application(number: u8, contents: &[u8], out: &mut Vec<u8>) -> Result<
     append_written(number, contents, out)
 }
 
-/// Appends a context primitive. Where memory is refused some octets may be there.
+/// Appends a context primitive. If memory is refused, `out` may hold some of the octets.
 #[inline]
 fn append_context_parts(number: u8, contents: &[u8], out: &mut Vec<u8>) -> Result<(), OutOfMemory>
     requires number { number ≤ 254 }
@@ -90,7 +90,7 @@ fn append_context_parts(number: u8, contents: &[u8], out: &mut Vec<u8>) -> Resul
     append_contents(contents, out)
 }
 
-/// Appends a context primitive. Where memory is refused `out` stays as it was.
+/// Appends a context primitive. If memory is refused, `out` stays as it was.
 pub(crate) fn append_context(
     number: u8,
     contents: &[u8],
@@ -109,7 +109,7 @@ pub(crate) fn append_context(
     appended
 }
 
-/// Appends what was read, in its canonical octets. Where memory is refused some octets may be there.
+/// Appends the canonical octets of what was read. If memory is refused, `out` may hold some of the octets.
 #[inline]
 pub(crate) fn append_item(item: Item<'_>, out: &mut Vec<u8>) -> Result<(), OutOfMemory>
     requires { IsItem item }
@@ -130,10 +130,10 @@ pub(crate) fn append_item(item: Item<'_>, out: &mut Vec<u8>) -> Result<(), OutOf
     append_contents(contents_of(item), out)
 }
 
-/// The octets of an opening and a closing tag, at most.
+/// How many octets an opening and a closing tag have together at most.
 const TAGS: usize = 4;
 
-/// Appends an open value with its tags. Where memory is refused some octets may be there.
+/// Appends an open value with its tags. If memory is refused, `out` may hold some of the octets.
 #[inline]
 fn append_any(value: &Any, number: u8, out: &mut Vec<u8>) -> Result<(), OutOfMemory>
     requires { number ≤ 254 }
@@ -141,7 +141,7 @@ fn append_any(value: &Any, number: u8, out: &mut Vec<u8>) -> Result<(), OutOfMem
     ensures err { OnErr result (Extends out.old.items out.new.items) }
 {
     let octets = value.octets();
-    // So that a long value is moved to larger room once, and not behind its first octet and behind its last.
+    // So a long value is moved to larger room only once, and not both behind its first octet and behind its last.
     out.reserve(octets.len().saturating_add(TAGS))?;
     append_head(TagHead::Open(number), out)?;
     out.extend_from_slice(octets)?;
@@ -153,7 +153,7 @@ fn append_any(value: &Any, number: u8, out: &mut Vec<u8>) -> Result<(), OutOfMem
 /// number.
 ///
 /// # Errors
-/// `OutOfMemory` where memory is refused. `out` then stays as it was.
+/// `OutOfMemory` if memory is refused. `out` then stays as it was.
 ///
 /// # Examples
 /// ```rust

@@ -9,7 +9,7 @@ use std::fmt;
 use std::fmt::Display;
 use std::marker::Model;
 
-/// Why no address is made. `TooLong` is told first.
+/// Why no address is made. `TooLong` is reported first.
 #[derive(Clone, Copy, Debug, PartialEq, Eq)]
 pub enum MacFault {
     /// It would have more than 255 octets.
@@ -57,8 +57,8 @@ impl Mac {
     /// Returns the address with a copy of these octets.
     ///
     /// # Errors
-    /// `TooLong` where there are more than 255 octets, else `OutOfMemory` where memory is refused, which is never told
-    /// of up to seven octets.
+    /// `TooLong` if there are more than 255 octets. Otherwise `OutOfMemory` if memory is refused. It is never returned
+    /// for up to seven octets.
     pub fn new(alloc: Global, octets: &[u8]) -> Result<Mac, MacFault>
         ensures value { IfOk result (λ mac. mac ≡ octets.now) }
         ensures too_long { IsErrOf result MacFault.TooLong ↔ (255 < length octets.now) }

@@ -44,7 +44,7 @@ impl Flags for Control {
 }
 
 impl Control {
-    /// Returns the canonical control octet that says this.
+    /// Returns the canonical control octet with these flags and this priority.
     #[inline(always)]
     pub(crate) fn new(
         message: bool,
@@ -65,7 +65,7 @@ impl Control {
         )
     }
 
-    /// Returns whether a network message stands behind the head, and not an APDU.
+    /// Returns true if a network message stands behind the head, and not an APDU.
     #[inline(always)]
     pub(crate) fn has_message(self) -> bool
         ensures { self.0 / 2 ^ 7 % 2 ≡ bit_of result }
@@ -73,7 +73,7 @@ impl Control {
         self.contains(Control::MESSAGE)
     }
 
-    /// Returns whether a destination and a hop count are there.
+    /// Returns true if a destination and a hop count are there.
     #[inline(always)]
     pub(crate) fn has_destination(self) -> bool
         ensures { self.0 / 2 ^ 5 % 2 ≡ bit_of result }
@@ -81,7 +81,7 @@ impl Control {
         self.contains(Control::DESTINATION)
     }
 
-    /// Returns whether a source is there.
+    /// Returns true if a source is there.
     #[inline(always)]
     pub(crate) fn has_source(self) -> bool
         ensures { self.0 / 2 ^ 3 % 2 ≡ bit_of result }
@@ -89,7 +89,7 @@ impl Control {
         self.contains(Control::SOURCE)
     }
 
-    /// Returns whether a reply is expected.
+    /// Returns true if a reply is expected.
     #[inline(always)]
     pub(crate) fn has_reply(self) -> bool
         ensures { self.0 / 2 ^ 2 % 2 ≡ bit_of result }

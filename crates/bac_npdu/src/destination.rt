@@ -8,7 +8,7 @@ use crate::addresses::Mac;
 /// behind the octets of the source. An address without octets is that of every device on the network.
 #[derive(Debug, Drop)]
 pub struct Dest {
-    /// The network; 65,535 stands for all of them.
+    /// The network. 65,535 stands for all networks.
     pub network: u16,
     /// How many routers the frame may still pass.
     pub hops: u8,

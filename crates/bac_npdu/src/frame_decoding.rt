@@ -21,7 +21,7 @@ use bac_apdu::layers::{ApduVisitor, visit_apdu};
 use bac_tag::{Refusal, Why};
 use std::alloc::Global;
 
-/// Returns the place of the control octet if an ignored bit of it is not 0, or else None.
+/// Returns the place of the control octet if an ignored bit of it is not 0, and None otherwise.
 #[inline(always)]
 pub(crate) fn mark_of(control: Control) -> Option<usize>
     ensures { IsControlMark control.0 result }
@@ -36,8 +36,8 @@ pub(crate) fn mark_of(control: Control) -> Option<usize>
     if control == least { None } else { Some(1) }
 }
 
-/// Returns the mark of a head of `size` octets, or else that of the body behind it. The places of marks lie within
-/// octets, so the sum does not wrap.
+/// Returns the mark of a head of `size` octets with a body behind it. `first` is the mark of the head alone, and
+/// `second` that of the body alone. A mark is a place within the octets, so the sum does not wrap.
 #[inline(always)]
 fn joined(first: Option<usize>, size: usize, second: Option<usize>) -> Option<usize>
     ensures { IsBehind size second → result ≡ joined_mark first size second }
@@ -61,7 +61,7 @@ struct Behind<'a, V> {
 }
 
 impl<V: FrameVisitor> Behind<'_, V> {
-    /// Takes a body with its mark.
+    /// Gives the visitor the head, this body and the mark of both. `mark` is that of the body alone.
     #[inline(always)]
     fn visit_body(self, body: Body, mark: Option<usize>, place: &mut V::Place) -> V::Made
         ensures { IsBehind self.entry.size mark → V.makes self.entry.visitor (frame_with self.entry.head.now (body_value body)) (joined_mark self.entry.mark self.entry.size mark) place.old place.new result }
@@ -220,7 +220,7 @@ pub fn decode_marked(alloc: Global, octets: &[u8]) -> Result<(Frame, Option<usiz
     decode_any(alloc, octets)
 }
 
-/// Keeps the frame alone, without a mark that would be moved with it.
+/// Keeps only the frame, without a mark that would be moved with it.
 #[derive(Drop)]
 struct KeepFrame {
     alloc: Global,
@@ -263,14 +263,14 @@ fn decode_alone(alloc: Global, octets: &[u8]) -> Result<Frame, Refusal>
 /// # Errors
 /// The place is that of the first octet with which no spelling of a frame goes on. The reason is one of these:
 ///
-/// - `Short` where all the octets begin a spelling, and nowhere else: the place is their number;
-/// - `Trailing` where the octets in front of the place spell a frame, and nowhere else;
-/// - `Version` at the first octet, where it is not 1;
-/// - `Address` at the length of a source's address, where it is 0;
-/// - `PduType` at the first octet of an APDU, where its type is above 7;
+/// - `Short` if all the octets begin a spelling, and in no other case: the place is their number;
+/// - `Trailing` if the octets in front of the place spell a frame, and in no other case;
+/// - `Version` at the first octet, if it is not 1;
+/// - `Address` at the length of a source's address, if it is 0;
+/// - `PduType` at the first octet of an APDU, if its type is above 7;
 /// - `Window` at the octet of a window that is not 1 to 127;
 /// - `Tag`, `Length`, `Content` or `Depth` in a service;
-/// - `OutOfMemory` where memory is refused: the place is 0.
+/// - `OutOfMemory` if memory is refused: the place is 0.
 ///
 /// # Examples
 /// ```rust

@@ -42,7 +42,7 @@ fn control_of(head: &FrameHead<'_>, body: &Body) -> Control
     )
 }
 
-/// Appends the octets in front of the body. Where memory is refused, `out` may hold some of them.
+/// Appends the octets in front of the body. If memory is refused, `out` may hold some of them.
 fn append_head(head: &FrameHead<'_>, body: &Body, out: &mut Vec<u8>) -> Result<(), OutOfMemory>
     ensures written { OnOk result (out.new.items ≡ out.old.items ++ 1 ∷ least_of (control_said (frame_with head.now (body_value body.now))) ∷ least_head (addresses_of (frame_with head.now (body_value body.now)))) }
     ensures addressed { OnOk result (HasAddress head.now.source) }
@@ -63,7 +63,7 @@ fn append_head(head: &FrameHead<'_>, body: &Body, out: &mut Vec<u8>) -> Result<(
     Ok(())
 }
 
-/// Appends the octets of a frame. Where memory is refused, `out` may hold some of them.
+/// Appends the octets of a frame. If memory is refused, `out` may hold some of them.
 fn append_parts(head: &FrameHead<'_>, body: &Body, out: &mut Vec<u8>) -> Result<(), OutOfMemory>
     ensures written { OnOk result (AppendsLeast (SpellsFrame (frame_with head.now (body_value body.now))) out.old.items out.new.items) }
     ensures kept { Extends out.old.items out.new.items }
@@ -80,7 +80,7 @@ impl FrameHead<'_> {
     /// in `out`.
     ///
     /// # Errors
-    /// `OutOfMemory` where memory is refused. `out` then stays as it was.
+    /// `OutOfMemory` if memory is refused. `out` then stays as it was.
     pub fn append_frame(&self, body: &Body, out: &mut Vec<u8>) -> Result<(), OutOfMemory>
         ensures written { OnOk result (AppendsLeast (SpellsFrame (frame_with self.now (body_value body.now))) out.old.items out.new.items) }
         ensures unchanged { OnErr result (out.new.items ≡ out.old.items) }
@@ -97,7 +97,7 @@ impl FrameHead<'_> {
 /// Appends the canonical octets of a frame, its least spelling, behind what stands in `out`.
 ///
 /// # Errors
-/// `OutOfMemory` where memory is refused. `out` then stays as it was.
+/// `OutOfMemory` if memory is refused. `out` then stays as it was.
 pub fn append_frame(frame: &Frame, out: &mut Vec<u8>) -> Result<(), OutOfMemory>
     ensures written { OnOk result (AppendsLeast (SpellsFrame (value_of frame.now)) out.old.items out.new.items) }
     ensures unchanged { OnErr result (out.new.items ≡ out.old.items) }
@@ -108,7 +108,7 @@ pub fn append_frame(frame: &Frame, out: &mut Vec<u8>) -> Result<(), OutOfMemory>
 /// Returns the canonical octets of a frame: its least spelling.
 ///
 /// # Errors
-/// `OutOfMemory` where memory is refused.
+/// `OutOfMemory` if memory is refused.
 ///
 /// # Examples
 /// ```rust

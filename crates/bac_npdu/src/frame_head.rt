@@ -26,15 +26,15 @@ pub struct Addressed<'a> {
 }
 
 /// A destination with a borrowed address.
-// The hop count stands beside the network: behind the address seven octets of nothing would be moved with it, in two
-// moves that overlap, and the processor waits for both.
+// The hop count stands beside the network. Behind the address, seven octets of padding would be moved with it. That
+// would take two moves that overlap, and the processor would wait for both.
 #[derive(Clone, Copy, Debug)]
 pub struct DestRef<'a> {
     /// The network.
     pub network: u16,
     /// The hop count.
     pub hops: u8,
-    /// The octets of the address, at most 255. Where there are none, it is that of every device on the network.
+    /// The octets of the address, at most 255. If there are none, it is the address of every device on the network.
     pub address: &'a [u8],
 }
 
@@ -124,7 +124,7 @@ impl<'a> FrameHead<'a> {
         }
     }
 
-    /// Returns whether a reply is expected.
+    /// Returns true if a reply is expected.
     #[inline(always)]
     pub fn reply(&self) -> bool
         ensures { result ≡ self.now.reply }
@@ -162,7 +162,7 @@ impl<'a> FrameHead<'a> {
     /// Returns the frame with this head and this body, and with copies of the addresses.
     ///
     /// # Errors
-    /// `OutOfMemory` where memory is refused, which is never told where no address has more than seven octets.
+    /// `OutOfMemory` if memory is refused. It is never returned if no address has more than seven octets.
     #[inline(always)]
     pub fn frame(&self, alloc: Global, body: Body) -> Result<Frame, OutOfMemory>
         ensures value { IfOk result (λ frame. value_of frame ≡ frame_with self.now (body_value body)) }

@@ -20,11 +20,11 @@ pub(crate) struct HeadRead<'a> {
     pub(crate) control: Control,
     pub(crate) destination: Option<DestRef<'a>>,
     pub(crate) source: Option<Addressed<'a>>,
-    /// How many octets it has.
+    /// How many octets stand in front of the body.
     pub(crate) size: usize,
 }
 
-/// Splits off a network, a length and an address, or returns None where the octets end before that.
+/// Splits off a network, a length and an address. Returns None if the octets end before the address does.
 #[inline(always)]
 fn split_address(octets: &[u8]) -> Option<(Addressed<'_>, &[u8])>
     ensures some { IfSome result (λ found. octets.now ≡ address_octets found.0.network found.0.address.now ++ found.1.now) }
@@ -42,8 +42,8 @@ fn split_address(octets: &[u8]) -> Option<(Addressed<'_>, &[u8])>
     Some((Addressed { network, address }, behind))
 }
 
-/// Splits off a network, a length and an address where `there` says so, or returns None where the octets end before
-/// that.
+/// Splits off a network, a length and an address if `there` is true. Returns None if the octets end before the address
+/// does.
 #[inline(always)]
 fn split_where(there: bool, octets: &[u8]) -> Option<(Option<Addressed<'_>>, &[u8])>
     ensures some { IfSome result (λ found. octets.now ≡ from_octets (address_read found.0) ++ found.1.now) }
@@ -57,7 +57,7 @@ fn split_where(there: bool, octets: &[u8]) -> Option<(Option<Addressed<'_>>, &[u
     Some((Some(address), behind))
 }
 
-/// Splits off the hop count of a destination, or returns None where the octets end before it.
+/// Splits off the hop count if there is a destination. Returns None if the octets end before the hop count.
 #[inline(always)]
 fn split_hops<'a>(
     goes_to: Option<Addressed<'a>>,
@@ -81,7 +81,7 @@ fn split_hops<'a>(
     Some((Some(destination), behind))
 }
 
-/// Returns whether the length of an address is there, and is 0.
+/// Returns true if the length of an address is there and is 0.
 #[inline(always)]
 fn begins_empty(octets: &[u8]) -> bool
     ensures { (result ≡ true) ↔ ((3 ≤ length octets.now) × (slice_index octets.now 2 ≡ 0)) }
@@ -133,7 +133,7 @@ pub(crate) fn read_head(octets: &[u8]) -> Result<HeadRead<'_>, Refusal>
     })
 }
 
-/// Appends a network, a length and an address. Where memory is refused, `out` may hold some of the octets.
+/// Appends a network, a length and an address. If memory is refused, `out` may hold some of the octets.
 pub(crate) fn append_address(
     network: u16,
     address: &[u8],

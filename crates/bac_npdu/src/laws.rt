@@ -27,7 +27,7 @@ pub fn canonical_octets_give_the_frame_back()
     frames_have_one_value();
 }
 
-/// Canonical octets are their own canonical octets: to normalise twice is to normalise once.
+/// Canonical octets are their own canonical octets: normalising twice gives the same as normalising once.
 pub fn normalised_twice_is_once()
     ensures { (b c d : List ℕ) → IsNormalOf b c → IsNormalOf c d → c ≡ d }
 {

@@ -1,5 +1,5 @@
-//! For the layers above, and for whoever wants something of frames without keeping them: frames that are given to a
-//! visitor where they were decoded. A program that handles whole frames needs none of it.
+//! For the layers above, and for programs that need something from frames without keeping them: frames that are given
+//! to a visitor where they were decoded. A program that handles whole frames needs none of it.
 
 pub use crate::frame_decoding::visit_frame;
 pub use crate::visiting::FrameVisitor;

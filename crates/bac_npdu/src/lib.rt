@@ -1,9 +1,9 @@
 //! NPDUs (clause 6): version, control octet, destination, source and hop count, and behind them an APDU or a network
 //! message.
 //!
-//! [`decode_frame`] reads a frame, and [`encode_frame`] and [`append_frame`] write one. [`decode_strict`] accepts
-//! only canonical octets, [`normalise_frame`] gives the canonical octets of what was read, and [`same_meaning`] tells
-//! whether two inputs spell the same frame. What only the layers above call stands in [`layers`].
+//! [`decode_frame`] reads a frame, and [`encode_frame`] and [`append_frame`] write one. [`decode_strict`] accepts only
+//! canonical octets, [`normalise_frame`] returns the canonical octets of what was read, and [`same_meaning`] returns
+//! whether two inputs spell the same frame. The calls that only the layers above need stand in [`layers`].
 //!
 //! In the examples `rt` is the program's `HostRuntime`.
 #![tactic(auto)]

@@ -46,12 +46,12 @@ fn encoded(alloc: Global, side: Side, frame: &Frame) -> Result<Vec<u8>, (Side, R
     encode_frame(alloc, frame).map_err(|_refused| (side, Refusal::out_of_memory()))
 }
 
-/// Returns whether both inputs spell the same frame. Octets without a mark are canonical already, and are not written
+/// Returns true if both inputs spell the same frame. Octets without a mark are canonical already, and are not written
 /// again.
 ///
 /// # Errors
-/// The side that spells no frame, with the refusal of [`decode_frame`]; where neither side spells one, it is the left
-/// side. Or the side at which memory was refused.
+/// The side that spells no frame, with the refusal of [`decode_frame`]. If neither side spells one, it is the left
+/// side. Or the side at which memory is refused, with `OutOfMemory` at 0.
 ///
 /// # Examples
 /// ```rust

@@ -31,7 +31,7 @@ fn append_list(kind: u8, networks: &[u16], out: &mut Vec<u8>) -> Result<(), OutO
     append_networks(networks, out)
 }
 
-/// Appends the octets of a network message. Where memory is refused, `out` may hold some of them.
+/// Appends the octets of a network message. If memory is refused, `out` may hold some of them.
 pub(crate) fn append_message(message: &NetMessage, out: &mut Vec<u8>) -> Result<(), OutOfMemory>
     ensures written { OnOk result (out.new.items ≡ out.old.items ++ least_head (octets_of (message_value message.now))) }
     ensures formed { OnOk result (IsMessage (message_value message.now)) }

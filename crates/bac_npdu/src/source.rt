@@ -31,7 +31,7 @@ impl Source {
     /// Returns the source with this network and address.
     ///
     /// # Errors
-    /// The address itself, where it is empty.
+    /// The address itself, if it is empty.
     pub fn new(network: u16, address: Mac) -> Result<Source, Mac>
         ensures ok { IsOk result ↔ (1 ≤ length address) }
         ensures value { IfOk result (λ source. source ≡ record { network = network; address = address }) }

@@ -19,8 +19,8 @@ use std::alloc::Global;
 /// Decodes the frame whose canonical octets these are.
 ///
 /// # Errors
-/// As those of [`decode_frame`]; and `NotCanonical` where the octets spell a frame but are not canonical, at the first
-/// place where they differ from the canonical ones.
+/// As those of [`decode_frame`]. Also `NotCanonical` if the octets spell a frame but are not canonical: the place is
+/// the first one at which they differ from the canonical ones.
 ///
 /// # Examples
 /// ```rust
@@ -52,8 +52,8 @@ pub fn decode_strict(alloc: Global, octets: &[u8]) -> Result<Frame, Refusal>
     }
 }
 
-/// Returns whether the octets are found at once to be the canonical ones of a frame (clause 6.2) with an APDU that
-/// carries a service. False tells nothing of the octets.
+/// Returns true if the octets are found at once to be the canonical ones of a frame (clause 6.2) with an APDU that
+/// carries a service. False says nothing about the octets.
 fn is_canonical_frame(alloc: Global, octets: &[u8]) -> bool
     ensures { IsTrue result → IsCanonical SpellsFrame octets.now }
 {
@@ -67,8 +67,8 @@ fn is_canonical_frame(alloc: Global, octets: &[u8]) -> bool
     is_canonical_apdu(alloc, rest)
 }
 
-/// A frame of more octets is first tested for being canonical, and if that is found, copied once: to go through a long
-/// string is faster than to copy it.
+/// A frame of more octets is first tested for being canonical. If it is found to be, it is copied once: going through a
+/// long string is faster than copying it.
 const LONG: usize = 4096;
 
 /// Writes the canonical octets of a frame where it was decoded, so that the frame is not put together and moved.
@@ -113,7 +113,8 @@ impl FrameVisitor for Normalising<'_> {
 /// Returns the canonical octets of the frame that all the octets spell.
 ///
 /// # Errors
-/// As those of [`decode_frame`]; but `OutOfMemory` may be told of any frame, since what is returned needs memory.
+/// As those of [`decode_frame`]. But `OutOfMemory` may be returned for any frame, since the canonical octets need
+/// memory.
 ///
 /// # Examples
 /// ```rust

@@ -7,8 +7,8 @@ ghost use Rattle.bac_npdu.specs.Frames.{FrameValue, body_value};
 use crate::frame::Body;
 use crate::frame_head::FrameHead;
 
-/// What is made of a frame where it was decoded. So the frame need not be put together, which takes longer than to
-/// decode a short one.
+/// What is made of a frame where it was decoded. So the frame need not be put together. To put a frame together takes
+/// longer than to decode a short one.
 pub trait FrameVisitor: Drop {
     /// What the visitor may change.
     type Place;

@@ -3,13 +3,14 @@
 use thiserror::Error;
 
 /// Why a run stopped. Lines are counted from 1. The records of the lines before the line at fault were written, and
-/// nothing more; or, after `WriteFault(k)`, the first `k` octets of the records of the lines that were at hand.
+/// nothing more. After `WriteFault(k)`, exactly the first `k` octets of the records of the lines that were at hand were
+/// written.
 #[derive(Clone, Copy, Debug, PartialEq, Eq, Error)]
 pub enum PackFault {
     /// The line of this number has more than 200,000 octets before its LF.
     #[error("line {0}: too long")]
     LineTooLong(u32),
-    /// What is left of the line of this number is not hexadecimal digits, or an odd number of them.
+    /// What is left of the line of this number is not hexadecimal digits, or is an odd number of them.
     #[error("line {0}: not hexadecimal")]
     NotHex(u32),
     /// The digits of the line of this number are those of more than 65,535 octets.

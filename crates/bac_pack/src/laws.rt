@@ -4,13 +4,13 @@ ghost use Rattle.std.specs.Prelude.{◌≡◌, List, ℕ};
 ghost use Rattle.std.specs.List.{AllByRecursion};
 ghost use Rattle.bac_pack.specs.Lines.{IsText, IsUnbroken, lines_of};
 
-/// A text is its lines, in none of which an LF stands.
+/// A text is its lines, and no LF stands in any of them.
 pub fn texts_are_lines()
     ensures unbroken { (text : List ℕ) → AllByRecursion IsUnbroken (lines_of text) }
     ensures text { (text : List ℕ) → IsText (lines_of text) text }
 {}
 
-/// A text is lines in one way.
+/// A text is lines in only one way.
 pub fn lines_are_unique()
     ensures { (lines : List (List ℕ)) (text : List ℕ) → AllByRecursion IsUnbroken lines → IsText lines text → lines ≡ lines_of text }
 {}

@@ -1,4 +1,4 @@
-//! Lines, and what of them is digits.
+//! Lines, and the digits in them.
 
 ghost use Rattle.std.specs.Prelude.{◌==◌, ◌≡◌, ◌≤◌, MatchOption, OnOk, length, position, take};
 ghost use Rattle.bac_pack.specs.Lines.{IsUnbroken, LF, without_blanks, without_return};
@@ -6,20 +6,20 @@ ghost use Rattle.bac_pack.specs.Packing.{EndsAt};
 
 use std::alloc::AllocError;
 
-/// The most octets of a line, before its LF.
+/// How many octets a line has at most, before its LF.
 pub(crate) const LONGEST: usize = 200_000;
 
-/// How many octets a run holds at most: the longest line and one octet, which is its LF or too many.
+/// How many octets a run holds at most: the longest line and one octet more, which is its LF or one too many.
 pub(crate) const PIECE: usize = LONGEST + 1;
 
-/// Where the first LF stands.
+/// Returns the place of the first LF, or None if there is none.
 fn first_end(octets: &[u8]) -> Option<usize>
     ensures { result ≡ position (λ octet. octet == LF) octets.now }
 {
     octets.iter().position(|octet| *octet == b'\n')
 }
 
-/// Where the first LF stands, of which none is among so many octets at the front.
+/// Returns the place of the first LF, or None if there is none. None of the first `passed` octets may be an LF.
 pub(crate) fn line_end(octets: &[u8], passed: usize) -> Option<usize>
     requires within { passed ≤ length octets.now }
     requires passed { IsUnbroken (take passed octets.now) }
@@ -31,7 +31,7 @@ pub(crate) fn line_end(octets: &[u8], passed: usize) -> Option<usize>
     }
 }
 
-/// The line without one CR at its end.
+/// Returns the line without one CR at its end.
 pub(crate) fn strip_return(line: &[u8]) -> &[u8]
     ensures { result.now ≡ without_return line.now }
 {
@@ -41,7 +41,7 @@ pub(crate) fn strip_return(line: &[u8]) -> &[u8]
     }
 }
 
-/// Makes `digits` the octets without the blanks among them.
+/// Sets `digits` to the octets without the blanks among them.
 pub(crate) fn copy_digits(octets: &[u8], digits: &mut Vec<u8>) -> Result<(), AllocError>
     ensures { OnOk result (digits.new.items ≡ without_blanks octets.now) }
 {

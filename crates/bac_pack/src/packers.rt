@@ -16,7 +16,7 @@ use bac_record::Output;
 use bac_record::layers::write_whole;
 use std::alloc::Global;
 
-/// The most lines of a run.
+/// How many lines a run packs at most.
 const MOST: u32 = 1_000_000;
 
 /// What a run makes of lines.
@@ -24,7 +24,7 @@ const MOST: u32 = 1_000_000;
 pub(crate) struct Packer {
     /// Room for the digits of a line that has blanks.
     digits: Vec<u8>,
-    /// The records that are not written.
+    /// The records that are not yet written.
     pub(crate) output: Vec<u8>,
     /// How many lines were packed.
     pub(crate) lines: u32,
@@ -33,7 +33,7 @@ pub(crate) struct Packer {
 }
 
 impl Packer {
-    /// A packer of no lines.
+    /// Creates a packer that has packed no lines.
     pub(crate) fn new(alloc: Global) -> Packer
         ensures output { result.output.items ≡ [] }
         ensures lines { result.lines ≡ 0 }
@@ -59,8 +59,8 @@ impl Packer {
         Ok(())
     }
 
-    /// Adds the record of the line at the front of the octets, of which so many at the front are no LF. The octets
-    /// taken are told, or `None` where no line lies there whole.
+    /// Adds the record of the line at the front of the octets. None of the first `passed` octets may be an LF. Returns
+    /// how many octets were taken, or `None` if no whole line lies there.
     fn add_next(&mut self, octets: &[u8], passed: usize) -> Result<Option<usize>, PackFault>
         requires lines { self.old.lines ≤ MOST }
         requires room { length octets.now ≤ PIECE }
@@ -88,8 +88,8 @@ impl Packer {
         Ok(Some(end + 1))
     }
 
-    /// Adds the records of the lines that lie whole at the front of the octets, of which so many at the front are no
-    /// LF. Gives the number of octets of these lines, and the fault of the next one, if there is one.
+    /// Adds the records of the lines that lie whole at the front of the octets. None of the first `passed` octets may
+    /// be an LF. Returns the number of octets of these lines, and the fault of the next one, if there is one.
     pub(crate) fn add_whole(&mut self, octets: &[u8], passed: usize) -> (usize, Option<PackFault>)
         requires lines { self.old.lines ≤ MOST }
         requires room { length octets.now ≤ PIECE }

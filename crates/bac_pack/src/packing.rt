@@ -8,10 +8,11 @@ use crate::PackFault;
 use crate::lines::{copy_digits, strip_return};
 use bac_record::LONGEST;
 
-/// Appends the record that the digits spell, as that of the line of this number. After a fault some of it may be there.
+/// Appends the record that the digits spell. `number` is that of its line. After a fault, part of the record may have
+/// been appended.
 ///
-/// The digits are decoded where their octets are to stand. The length octets come first: of digits that are too many
-/// they are not the length, and the caller takes them off with the rest.
+/// The digits are decoded to the place where their octets are to stand. The length octets come first. If there are too
+/// many digits, these two are not their length, and the caller removes them with the rest.
 fn push_record(number: u32, digits: &[u8], output: &mut Vec<u8>) -> Result<(), PackFault>
     ensures ok { OnOk result (Spells digits.now output.old.items output.new.items) }
     ensures fault { IfErr result (SpellsNone digits.now number) }
@@ -35,8 +36,8 @@ fn push_record(number: u32, digits: &[u8], output: &mut Vec<u8>) -> Result<(), P
     Ok(())
 }
 
-/// Appends the record of a line, of which `digits` takes the digits where blanks stand among them. After a fault some
-/// of it may be there.
+/// Appends the record of a line. If the line has blanks, its digits are first copied to `digits`. After a fault, part
+/// of the record may have been appended.
 fn push_line(
     number: u32,
     line: &[u8],

@@ -14,8 +14,8 @@ use std::alloc::Global;
 
 /// Makes a record of each line, to the end of the text or to a fault.
 ///
-/// It reads once, packs every line that lies whole in what it holds, hands all their records over, and only then
-/// reads again: nothing known is held back while it waits for input.
+/// It reads once, packs every line that lies whole in what it holds, hands over all their records, and only then reads
+/// again: nothing known is held back while it waits for input.
 fn run_pieces<R: Input, W: Output>(
     alloc: Global,
     reader: &mut R,
@@ -54,18 +54,18 @@ fn run_pieces<R: Input, W: Output>(
     Ok(packer.lines)
 }
 
-/// Makes one record of each line of a text, in order, to its end or to a fault, and returns their number.
+/// Makes one record of each line of a text, in order, to its end or to a fault. Returns the number of lines.
 ///
-/// A line ends with LF (0A); octets behind the last LF are a line where there are any. One CR (0D) at a line's end is
-/// dropped, and then all blanks (20). The rest must be hexadecimal digits, in either case and an even number. A record
-/// is two octets of length, the most significant first, and then as many octets, at most 65,535. An empty line is a
-/// record of no octets.
+/// A line ends with LF (0A). Octets behind the last LF are a line, if there are any. One CR (0D) at a line's end is
+/// dropped, and then all blanks (20). The rest must be hexadecimal digits, in upper or lower case, and an even number
+/// of them. A record is two octets of length, the most significant first, and then that many octets, at most 65,535. An
+/// empty line is a record of no octets.
 ///
 /// It takes memory for 200,001 octets of input and for the records of the lines that lie in them.
 ///
 /// # Errors
 /// As [`PackFault`] says. Reading stops at what comes first: an octet behind the 1,000,000th line, the 200,001st octet
-/// of a line before its LF, or a failed read. Of a whole line `NotHex` is told before `RecordTooLong`.
+/// of a line before its LF, or a failed read. For a whole line, `NotHex` is reported before `RecordTooLong`.
 ///
 /// # Examples
 /// ```rust
@@ -87,7 +87,7 @@ pub fn run_pack<R: Input, W: Output>(
     ensures through { IfOk result (PacksThrough (R.left reader.old) (R.left reader.new) (W.taken writer.old) (W.taken writer.new)) }
     ensures stopped { IfErr result (Stopped (R.left reader.old) (R.left reader.new) (W.taken writer.old) (W.taken writer.new)) }
 
-    // Where the octets of the reader are known, the answer is that of their lines.
+    // If the octets of the reader are known, the answer is that of their lines.
     ensures files { (file : List ℕ) → R.left reader.old ≡ Some file → RunsOver (lines_of file) (W.taken writer.old) (W.taken writer.new) result }
     ensures counted { MatchResult result
         (λ _. (R.failures reader.new ≡ R.failures reader.old) × (W.failures writer.new ≡ W.failures writer.old))

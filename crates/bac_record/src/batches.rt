@@ -15,7 +15,7 @@ use crate::transfers::write_whole;
 use crate::{Output, RunFault, StreamFault, Summary};
 use std::alloc::Global;
 
-/// What was made of some records and is not written.
+/// What was made of some records and is not yet written.
 #[derive(Drop)]
 pub(crate) struct Batch {
     pub(crate) output: Vec<u8>,
@@ -24,7 +24,7 @@ pub(crate) struct Batch {
     pub(crate) summary: Summary,
 }
 
-/// How many of the ends are not past the place, up to the first that is.
+/// Returns the index of the first end that is past the place, or the number of ends if none is.
 fn first_past(ends: &[usize], place: usize) -> usize
     ensures { IsFirstPast ends.now place result }
 {
@@ -37,7 +37,7 @@ fn first_past(ends: &[usize], place: usize) -> usize
 }
 
 impl Batch {
-    /// A batch of no records.
+    /// Creates a batch of no records.
     pub(crate) fn new(alloc: Global) -> Batch
         ensures output { result.output.items ≡ [] }
         ensures ends { result.ends.items ≡ [] }
@@ -50,7 +50,7 @@ impl Batch {
         }
     }
 
-    /// Drops what was written.
+    /// Empties the batch.
     pub(crate) fn clear(&mut self)
         ensures output { self.new.output.items ≡ [] }
         ensures ends { self.new.ends.items ≡ [] }
@@ -61,8 +61,8 @@ impl Batch {
         self.summary = Summary::default();
     }
 
-    /// Deals with the record at the front of the octets, where so many stand before it in the run. The octets
-    /// taken are told, or `None` where no record lies there whole.
+    /// Deals with the record at the front of the octets. The run dealt with `count` records before it. Returns how many
+    /// octets were taken, or `None` if no whole record lies there.
     fn deal_next<J: Job>(
         &mut self,
         job: &J,
@@ -127,8 +127,8 @@ impl Batch {
         Ok(())
     }
 
-    /// Deals with each record that lies whole at the front of the octets, where so many were dealt with before
-    /// them. Gives the number of octets of these records, and the fault of the next one, if there is one.
+    /// Deals with each record that lies whole at the front of the octets. The run dealt with `before` records before
+    /// them. Returns the number of octets of these records, and the fault of the next one, if there is one.
     pub(crate) fn deal<J: Job>(
         &mut self,
         job: &J,
@@ -152,7 +152,7 @@ impl Batch {
         }
     }
 
-    /// Writes the output of the batch, which stands behind so many records and so many octets of the run.
+    /// Writes the output of the batch. The run wrote the output of `before` records, `sent` octets, before it.
     pub(crate) fn hand_over<W: Output>(
         &self,
         before: u32,

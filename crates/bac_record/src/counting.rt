@@ -10,12 +10,12 @@ const RETRIES: u32 = 63;
 
 /// A standard reader or writer, with the number of its failures.
 ///
-/// A call of the standard device that is interrupted is tried again, up to 63 times. The 64th interruption in one
-/// call, and any other error, is told as `Device::Failed`.
+/// A call of the standard device that is interrupted is tried again, up to 63 times. The 64th interruption in one call,
+/// and any other error, is reported as `Device::Failed`.
 #[derive(Drop)]
 pub struct Counted<T> {
     pub device: T,
-    /// How many calls failed, or took nothing of some octets; at most the largest `u64`.
+    /// How many calls failed, or took none of some octets; at most the largest `u64`.
     pub failures: u64,
 }
 

@@ -18,7 +18,7 @@ pub struct Dealt {
 }
 
 impl Dealt {
-    /// A record that is refused.
+    /// Returns that the record counts as refused.
     #[inline(always)]
     pub fn refused() -> Dealt
         ensures { result ≡ record { is_canonical = false; is_refused = true } }
@@ -29,7 +29,7 @@ impl Dealt {
         }
     }
 
-    /// A record that is accepted: it is canonical where it has no mark.
+    /// Returns that the record does not count as refused, and that it counts as canonical exactly where it has no mark.
     #[inline(always)]
     pub fn accepted(mark: Option<usize>) -> Dealt
         ensures canonical { IsTrue result.is_canonical ↔ (mark ≡ None) }
@@ -48,7 +48,7 @@ pub enum DealFault {
     /// The record ends the run.
     #[error("refused {0}")]
     Stop(Refusal),
-    /// Memory was wanted and refused.
+    /// Memory was refused.
     #[error("out of memory")]
     Memory,
 }
@@ -81,7 +81,7 @@ pub trait Job {
     /// Appends the output of the record of this number, counted from 1, to `out`. Returns how the record counts.
     ///
     /// # Errors
-    /// `Stop` where the record ends the run, and `Memory` where memory is refused. `out` then stays as it was.
+    /// `Stop` if the record ends the run, and `Memory` if memory is refused. `out` then stays as it was.
     fn deal(&self, number: u32, octets: &[u8], out: &mut Vec<u8>) -> Result<Dealt, DealFault>
         requires { IsRecord octets.now }
         ensures dealt { IfOk result (IsDealt (line self.now) (is_canonical self.now) (is_refused self.now) number octets.now out.old.items out.new.items) }

@@ -17,14 +17,14 @@ pub enum Device {
 
 /// What octets are read from.
 pub trait Input {
-    /// The octets that reads will give from here on, where they are known.
+    /// The octets that reads will give from here on, if they are known.
     ghost left: { Self → Option (List ℕ) };
 
     /// How often a read has failed. It stays at the largest `u64`.
     ghost failures: { Self → ℕ };
 
-    /// Reads octets into the front of the buffer. Returns how many, which may be fewer than there are. It returns 0
-    /// at the end, or where the buffer has no room.
+    /// Reads octets into the front of the buffer. Returns how many, which may be fewer than there are. It returns 0 at
+    /// the end, or if the buffer has no room.
     ///
     /// # Errors
     /// `Failed`: no octet was read, and the count of failures rises.
@@ -36,13 +36,13 @@ pub trait Input {
 
 /// What octets are written to.
 pub trait Output {
-    /// The octets that it has taken, where they are known.
+    /// The octets that it has taken, if they are known.
     ghost taken: { Self → Option (List ℕ) };
 
     /// How often a write has failed, or has taken none of some octets. It stays at the largest `u64`.
     ghost failures: { Self → ℕ };
 
-    /// Takes octets from the front of these. Returns how many, which may be fewer than there are.
+    /// Takes octets from the front of `octets`. Returns how many, which may be fewer than there are.
     ///
     /// # Errors
     /// `Failed`: no octet was taken, and the count of failures rises.

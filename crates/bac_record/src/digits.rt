@@ -14,7 +14,7 @@ const DIGITS: [u8; 16] = *b"0123456789ABCDEF";
 const PAIRS: [u8; 200] =
     *b"00010203040506070809101112131415161718192021222324252627282930313233343536373839404142434445464748495051525354555657585960616263646566676869707172737475767778798081828384858687888990919293949596979899";
 
-/// The digit of a number below 10.
+/// Returns the digit of a number below 10.
 #[inline(always)]
 fn digit(number: u64) -> u8
     requires { number < 10 }
@@ -23,7 +23,7 @@ fn digit(number: u64) -> u8
     b'0' + number as u8
 }
 
-/// The two digits of a number below 100, the first of them 0 where one would do.
+/// Returns the two digits of a number below 100. The first is 0 if the number is below 10.
 #[inline(always)]
 fn pair(number: u64) -> (u8, u8)
     requires { number < 100 }
@@ -91,7 +91,7 @@ fn put_four(room: &mut [u8], at: usize, number: u64)
     put_two(room, at + 2, number % 100);
 }
 
-/// How many of the four digits of a number below 10,000 are leading zeros.
+/// Returns how many of the four digits of a number below 10,000 are leading zeros.
 #[inline(always)]
 fn leading_zeros(number: u64) -> usize
     ensures most { result ≤ 3 }
@@ -103,7 +103,7 @@ fn leading_zeros(number: u64) -> usize
     usize::from(number < 10) + usize::from(number < 100) + usize::from(number < 1_000)
 }
 
-/// Four octets without the first, of which so many are left out, at most three. Zeros stand behind the others.
+/// Returns four octets without the first `count` of them, and with zeros behind the others. `count` must be at most 3.
 #[inline(always)]
 fn without_first(a: u8, b: u8, c: u8, d: u8, count: usize) -> [u8; 4]
     requires { count ≤ 3 }
@@ -121,7 +121,8 @@ fn put_front(room: &mut [u8], at: usize, number: u64) -> usize
     ensures most { result ≤ at + 4 }
     ensures two { number < 100 → result ≤ at + 2 }
 {
-    // How many digits there are is told without a branch: the numbers of one text have now two, now three or four.
+    // The number of digits is found without a branch: the numbers of one text have sometimes two, sometimes three or
+    // four.
     let (thousands, hundreds) = pair(number / 100);
     let (tens, ones) = pair(number % 100);
     let zeros = leading_zeros(number);
@@ -193,7 +194,7 @@ pub fn put_decimal(room: &mut [u8], at: usize, number: u64) -> usize
     ensures most { result ≤ at + 20 }
     ensures few { number < 2 ^ 32 → result ≤ at + 10 }
 {
-    // Most numbers have one digit or two to eight: a call for those of one would cost more than it does.
+    // Most numbers have one digit, or two to eight. For a number of one digit a call would cost more than the work.
     if number < 10 {
         room[at] = digit(number);
         return at + 1;
@@ -201,7 +202,7 @@ pub fn put_decimal(room: &mut [u8], at: usize, number: u64) -> usize
     put_digits(room, at, number)
 }
 
-/// Writes a minus where the number is negative, and its decimal digits, without leading zeros, at a place behind which
+/// Writes a minus if the number is negative, and its decimal digits, without leading zeros, at a place behind which
 /// there is room for twenty-one octets. Returns where they end.
 pub fn put_signed_decimal(room: &mut [u8], at: usize, number: i64) -> usize
     requires { at + 21 ≤ length room.old }
@@ -215,7 +216,7 @@ pub fn put_signed_decimal(room: &mut [u8], at: usize, number: i64) -> usize
     put_decimal(room, at, number.unsigned_abs())
 }
 
-/// The two hexadecimal digits of an octet.
+/// Returns the two hexadecimal digits of an octet.
 #[inline(always)]
 fn digits_of(octet: u8) -> [u8; 2]
     ensures { result ≡ hexadecimal_digit (octet / 16) ∷ hexadecimal_digit (octet % 16) ∷ [] }
@@ -241,10 +242,10 @@ pub fn put_hexadecimal(room: &mut [u8], at: usize, octets: &[u8]) -> usize
     at + 2 * octets.len()
 }
 
-/// Makes the vector longer by so many octets, at most 4,096, and returns where they begin.
+/// Makes the vector longer by `ROOM` octets, at most 4,096, and returns where they begin.
 ///
 /// # Errors
-/// `OutOfMemory` where memory is refused. `out` then stays as it was.
+/// `OutOfMemory` if memory is refused. `out` then stays as it was.
 #[inline(always)]
 pub fn add_room<const ROOM: usize>(out: &mut Vec<u8>) -> Result<usize, OutOfMemory>
     requires { ROOM ≤ 4096 }
@@ -256,10 +257,10 @@ pub fn add_room<const ROOM: usize>(out: &mut Vec<u8>) -> Result<usize, OutOfMemo
     Ok(start)
 }
 
-/// How many octets a vector is made longer at once, so that it is seldom asked again.
+/// By how many octets a vector is made longer at once, so that this is seldom needed.
 const STEP: usize = 256;
 
-/// Makes the vector longer, so that there is so much room behind the place.
+/// Makes the vector longer, so that there are at least `room` octets behind the place.
 #[inline(never)]
 fn lengthen(out: &mut Vec<u8>, at: usize, room: usize) -> Result<(), OutOfMemory>
     requires { at ≤ length out.old.items }
@@ -272,12 +273,12 @@ fn lengthen(out: &mut Vec<u8>, at: usize, room: usize) -> Result<(), OutOfMemory
     Ok(())
 }
 
-/// Makes the vector longer where it has less room than this, in octets, behind the place, which must be at most its
-/// length. A text of many parts asks for room part by part, and the vector is made longer only now and then. What stands
-/// behind the place is of no meaning; `truncate` cuts it off where the text ends.
+/// Makes the vector longer if it has fewer than `room` octets behind the place `at`. The place must be at most the
+/// length of the vector. A text of many parts asks for room part by part, and the vector is made longer only now and
+/// then. The octets behind the place have no meaning: `truncate` cuts them off where the text ends.
 ///
 /// # Errors
-/// `OutOfMemory` where memory is refused. `out` then has what it had in front of the place.
+/// `OutOfMemory` if memory is refused. `out` then still has what it had in front of the place.
 #[inline(always)]
 pub fn make_room(out: &mut Vec<u8>, at: usize, room: usize) -> Result<(), OutOfMemory>
     requires { at ≤ length out.old.items }

@@ -1,6 +1,6 @@
-//! For the layers above, and for whoever writes runs or texts itself: words, numbers and octets written at a place, the
-//! record at the front of some octets, the octets that a run holds, and writes that go on. A program that handles whole
-//! files needs none of it.
+//! For the layers above, and for programs that write runs or texts themselves: words, numbers and octets written at a
+//! place, the record at the front of some octets, the octets that a run holds, and writes that go on until all is
+//! written. A program that handles whole files needs none of it.
 
 pub use crate::digits::{
     add_room, make_room, put_decimal, put_hexadecimal, put_octets, put_signed_decimal, put_word,

@@ -1,11 +1,11 @@
 //! Files of records, and runs over them. A record is two octets of length, the most significant first, and then that
-//! many octets; what these say is not asked here.
+//! many octets. What these octets say does not matter here.
 //!
 //! - An [`Input`] and an [`Output`] are what octets are read from and written to, each with a count of its failures.
 //!   [`Counted`] makes one of any standard reader or writer.
-//! - [`read_record`] and [`write_record`] take and give one record.
-//! - [`run`] does a [`Job`] with each record of a file: it appends what the job makes of the record to what it writes,
-//!   and counts. A [`Summary`] or a [`RunFault`] says how it ended.
+//! - [`read_record`] and [`write_record`] read and write one record.
+//! - [`run`] does a [`Job`] with each record of a file: it writes what the job makes of the record, and counts the
+//!   records. A [`Summary`] or a [`RunFault`] says how it ended.
 //! - What only the layers above call stands in [`layers`].
 //!
 //! In the examples `rt` is the program's `HostRuntime`.

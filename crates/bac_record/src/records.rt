@@ -1,4 +1,4 @@
-//! Records: two octets of length, and then so many octets.
+//! Records: two octets of length, and then that many octets.
 
 ghost use Rattle.std.specs.Prelude.{◌≡◌, IfErr, IfOk, List, MatchResult, OnOk, Some, length, ℕ};
 ghost use Rattle.std.specs.Io.KnownBytes.{Appends, Consumes};
@@ -11,10 +11,11 @@ use crate::transfers::{read_full, write_whole};
 use crate::{Input, Output, StreamFault};
 use std::alloc::Global;
 
-/// How many octets the longest record has, without its length octets: as many as these can tell.
+/// How many octets the longest record has, without its length octets: the largest number that these can spell.
 pub const LONGEST: usize = 65_535;
 
-/// The length octets of the next record, as a number, or `None` where the reader is at its end.
+/// Reads the length octets of the next record. Returns the number that they spell, or `None` if the reader is at its
+/// end.
 fn read_length<R: Input>(reader: &mut R) -> Result<Option<usize>, StreamFault>
     ensures found { IfOk result (GivesLength (R.left reader.old) (R.left reader.new)) }
     ensures stops { IfErr result (StopsReading (R.left reader.old) (R.left reader.new)) }
@@ -34,7 +35,7 @@ fn read_length<R: Input>(reader: &mut R) -> Result<Option<usize>, StreamFault>
     Ok(Some(256 * usize::from(high) + usize::from(low)))
 }
 
-/// So many octets. An `Err` is a fault within them.
+/// Reads `count` octets. An `Err` is a fault within them.
 fn read_octets<R: Input>(
     alloc: Global,
     reader: &mut R,
@@ -56,7 +57,7 @@ fn read_octets<R: Input>(
     Ok(octets)
 }
 
-/// The octets of the next record, or `None` where the reader is at its end.
+/// Reads the next record. Returns its octets, or `None` if the reader is at its end.
 fn next_record<R: Input>(alloc: Global, reader: &mut R) -> Result<Option<Vec<u8>>, StreamFault>
     ensures found { IfOk result (λ found. GivesRecord (R.left reader.old) (R.left reader.new) (option_map (λ octets. octets.items) found)) }
     ensures stops { IfErr result (StopsReading (R.left reader.old) (R.left reader.new)) }
@@ -68,14 +69,14 @@ fn next_record<R: Input>(alloc: Global, reader: &mut R) -> Result<Option<Vec<u8>
     Ok(Some(read_octets(alloc, reader, length)?))
 }
 
-/// Reads the next record, and no octet behind it. Returns its octets, or None where the reader is at its end.
+/// Reads the next record, and no octet behind it. Returns its octets, or None if the reader is at its end.
 ///
-/// Octets: two of length, the most significant first, then as many as these say, at most 65,535.
+/// Octets: two of length, the most significant first, then as many as these two say, at most 65,535.
 ///
 /// # Errors
-/// - `Truncated` where the reader ends inside the record.
-/// - `ReadFault` where a read failed. Less than a record was read.
-/// - `OutOfMemory` where memory is refused. The length octets alone were read.
+/// - `Truncated` if the reader ends inside the record.
+/// - `ReadFault` if a read failed. Less than a record was read.
+/// - `OutOfMemory` if memory is refused. Only the length octets were read.
 ///
 /// # Examples
 /// ```rust
@@ -94,7 +95,7 @@ pub fn read_record<R: Input>(alloc: Global, reader: &mut R) -> Result<Option<Vec
     ensures found { IfOk result (λ found. GivesRecord (R.left reader.old) (R.left reader.new) (option_map (λ octets. octets.items) found)) }
     ensures stops { IfErr result (StopsReading (R.left reader.old) (R.left reader.new)) }
 
-    // Where the octets of the reader are known, they are records and a rest in one way.
+    // If the octets of the reader are known, they are records and a rest in only one way.
     ensures files { (list : List (List ℕ)) (rest file : List ℕ) → R.left reader.old ≡ Some file → Records list rest file
         → MatchResult result (λ found. IsFirst list rest (option_map (λ octets. octets.items) found)) (IsFirstFault list rest) }
     ensures counted { MatchResult result (λ _. R.failures reader.new ≡ R.failures reader.old) (ReadFaultCounts (R.failures reader.old) (R.failures reader.new)) }
@@ -102,11 +103,11 @@ pub fn read_record<R: Input>(alloc: Global, reader: &mut R) -> Result<Option<Vec
     next_record(alloc, reader)
 }
 
-/// Writes the octets, of which there must be at most 65,535, as a record: two octets of length, the most significant
-/// first, then the octets.
+/// Writes the octets as a record: two octets of length, the most significant first, then the octets. There must be at
+/// most 65,535 octets.
 ///
 /// # Errors
-/// `WriteFault`, with the number of octets that were taken, the length octets among them.
+/// `WriteFault`, with the number of octets that were taken, including the length octets.
 ///
 /// # Examples
 /// ```rust

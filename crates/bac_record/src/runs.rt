@@ -15,13 +15,13 @@ use std::alloc::Global;
 /// How many octets a run holds at most: the longest record with its length octets.
 const PIECE: usize = LONGEST + 2;
 
-/// The most records of a file.
+/// How many records a file has at most.
 pub const MOST: u32 = 1_000_000;
 
 /// Deals with each record to the end of the file, or to a fault.
 ///
-/// It reads once, deals with every record that lies whole in what it holds, hands all their output over, and
-/// only then reads again: nothing known is held back while it waits for input.
+/// It reads once, deals with every record that lies whole in what it holds, hands over all their output, and only then
+/// reads again: nothing known is held back while it waits for input.
 fn run_pieces<J: Job, R: Input, W: Output>(
     alloc: Global,
     job: &J,
@@ -88,7 +88,7 @@ pub fn run<J: Job, R: Input, W: Output>(
     ensures stopped { IfErr result (Stopped (J.line job.now) (J.stops job.now)
         (R.left reader.old) (R.left reader.new) (W.taken writer.old) (W.taken writer.new)) }
 
-    // Where the octets of the reader are known, they are records and a rest in one way.
+    // If the octets of the reader are known, they are records and a rest in only one way.
     ensures files { (list : List (List ℕ)) (rest file : List ℕ) → R.left reader.old ≡ Some file → Records list rest file
         → RunsOver (J.line job.now) (J.stops job.now) (J.is_canonical job.now) (J.is_refused job.now) list rest
         (W.taken writer.old) (W.taken writer.new) result }

@@ -17,7 +17,7 @@ pub struct Summary {
 }
 
 impl Summary {
-    /// One record more.
+    /// Counts one more record.
     pub(crate) fn add(&mut self, dealt: Dealt)
         requires records { self.old.records < 2 ^ 32 - 1 }
         requires canonical { self.old.canonical ≤ self.old.records }
@@ -31,7 +31,7 @@ impl Summary {
         self.refused += u32::from(dealt.is_refused);
     }
 
-    /// The records of a batch more.
+    /// Adds the counts of a batch.
     pub(crate) fn join(&mut self, batch: Summary)
         requires records { self.old.records + batch.records ≤ MOST }
         requires canonical { self.old.canonical + batch.canonical ≤ MOST }

@@ -7,7 +7,8 @@ ghost use Rattle.bac_record.specs.Transfers.{TakesFront};
 
 use crate::{Device, Input, Output};
 
-/// Fills the buffer, or as much of it as the reader has. An `Err` is a failed read.
+/// Reads until the buffer is full or the reader is at its end. Returns how many octets were read. An `Err` is a failed
+/// read.
 pub(crate) fn read_full<R: Input>(reader: &mut R, buffer: &mut [u8]) -> Result<usize, Device>
     ensures bound { IfOk result (λ n. n ≤ length buffer.new) }
     ensures octets { IfOk result (λ n. Consumes (R.left reader.old) (R.left reader.new) (take n buffer.new)) }
@@ -26,10 +27,10 @@ pub(crate) fn read_full<R: Input>(reader: &mut R, buffer: &mut [u8]) -> Result<u
     Ok(at)
 }
 
-/// Writes all the octets, in as many writes as the writer wants.
+/// Writes all the octets, in as many writes as the writer needs.
 ///
 /// # Errors
-/// The number of octets that were taken, where a write failed or took none of those that were left.
+/// The number of octets that were taken, if a write failed or took none of those that were left.
 pub fn write_whole<W: Output>(writer: &mut W, octets: &[u8]) -> Result<(), usize>
     ensures ok { OnOk result (Appends (W.taken writer.old) (W.taken writer.new) octets.now) }
     ensures front { IfErr result (λ count. TakesFront (W.taken writer.old) (W.taken writer.new) octets.now count) }

@@ -8,10 +8,10 @@ use crate::{Device, Input};
 use std::alloc::{AllocError, Global};
 use std::marker::Model;
 
-/// Octets that were read and are not dealt with, at most `SIZE` of them. A proof sees the octets alone.
+/// Octets that were read and are not yet dealt with, at most `SIZE` of them. A proof sees only these octets.
 #[derive(Drop)]
 pub struct Window<const SIZE: usize> {
-    /// So many octets, of which those in front are held.
+    /// `SIZE` octets. The first `held` of them are those that the window holds.
     buffer: Vec<u8>,
     held: usize,
 }
@@ -25,10 +25,10 @@ impl<const SIZE: usize> Model for Window<SIZE> {
 }
 
 impl<const SIZE: usize> Window<SIZE> {
-    /// Makes a window that holds nothing.
+    /// Creates a window that holds nothing.
     ///
     /// # Errors
-    /// `AllocError`, where memory is refused.
+    /// `AllocError` if memory is refused.
     pub fn new(alloc: Global) -> Result<Window<SIZE>, AllocError>
         ensures { IfOk result (λ window. window ≡ []) }
     {
@@ -36,7 +36,7 @@ impl<const SIZE: usize> Window<SIZE> {
         Ok(Window { buffer, held: 0 })
     }
 
-    /// The octets that it holds.
+    /// Returns the octets that it holds.
     pub fn octets(&self) -> &[u8]
         ensures value { result.now ≡ self.now }
         ensures bound { length result.now ≤ SIZE }
@@ -44,11 +44,11 @@ impl<const SIZE: usize> Window<SIZE> {
         &self.buffer[..self.held]
     }
 
-    /// Reads once, and holds what was read behind the rest. There must be room. Returns how many octets were read: none
-    /// at the reader's end alone.
+    /// Reads once, and holds what was read behind the octets that it held before. There must be room for at least one
+    /// octet. Returns how many octets were read: 0 only at the reader's end.
     ///
     /// # Errors
-    /// `Failed`, where the read failed. What is held is as before.
+    /// `Failed` if the read failed. What is held is as before.
     pub fn fill<R: Input>(&mut self, reader: &mut R) -> Result<usize, Device>
         requires { length self.old < SIZE }
         ensures read { IfOk result (λ count. (fresh : List ℕ) × (length fresh ≡ count) × (self.new ≡ self.old ++ fresh)
@@ -63,12 +63,13 @@ impl<const SIZE: usize> Window<SIZE> {
         Ok(count)
     }
 
-    /// Lets so many of the first octets go, of which there must be as many.
+    /// Drops the first `count` of the octets that it holds. It must hold at least `count` octets.
     pub fn advance(&mut self, count: usize)
         requires { count ≤ length self.old }
         ensures { self.new ≡ drop count self.old }
     {
-        // Where none goes nothing is moved, so that a long record in many small reads costs no more than its octets.
+        // If none is dropped, nothing is moved, so that a long record in many small reads costs no more than its
+        // octets.
         if count > 0 {
             self.buffer.copy_within(count..self.held, 0);
             self.held -= count;

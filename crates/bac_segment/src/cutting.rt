@@ -18,14 +18,14 @@ pub struct CutPlan {
     pub head: SegHead,
     /// The service choice.
     pub choice: u8,
-    /// How many octets each piece has, except the last one, which has 1 to that many. The one piece of an empty message
-    /// has none.
+    /// How many octets each piece has, except the last one. The last one has 1 to that many octets. The one piece of an
+    /// empty message has none.
     pub size: usize,
     /// How many segments are sent before a SegmentACK is awaited, 1 to 127.
     pub window: u8,
 }
 
-/// Why a message is not cut. Where several of these hold, the first is told.
+/// Why a message is not cut. If several hold, the first in this order is reported.
 #[derive(Clone, Copy, Debug, PartialEq, Eq)]
 pub enum CutFault {
     /// A piece would have no octets.
@@ -128,9 +128,13 @@ fn segments(
 /// more follow. A message of no octets has one empty piece.
 ///
 /// # Errors
-/// The first that holds, in this order: `Size`, where the size is 0; `Window`, where the window is not 1 to 127;
-/// `TooLong`, where there are more than 65,535 octets; `TooMany`, where there are more than 256 pieces;
-/// `OutOfMemory`, where memory is refused.
+/// The first of these that holds:
+///
+/// - `Size` if the size is 0;
+/// - `Window` if the window is not 1 to 127;
+/// - `TooLong` if there are more than 65,535 octets;
+/// - `TooMany` if there are more than 256 pieces;
+/// - `OutOfMemory` if memory is refused.
 ///
 /// # Examples
 /// ```rust

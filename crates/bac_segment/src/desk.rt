@@ -20,7 +20,8 @@ use std::marker::Model;
 const MOST_KEYS: usize = 8;
 
 /// Up to eight messages, each with its own key. A key is opened when its first segment is kept, and is open until it is
-/// closed. Keys do not affect each other. After each fault the desk is as it was.
+/// closed. Keys do not affect each other, except by `DeskFull` and by want of memory. After each fault the desk is as
+/// it was.
 #[derive(Debug, Drop)]
 pub struct Desk {
     slots: Vec<Reassembly>,
@@ -42,7 +43,7 @@ impl Model for Desk {
     ghost invariant = { λ d. IsDesk d.slots.items };
 }
 
-/// Returns the place of a key, or None where it is not open.
+/// Returns the place of a key, or None if it is not open.
 fn place(slots: &[Reassembly], key: Key) -> Option<usize>
     ensures { result ≡ place_of slots.now key }
 {
@@ -54,15 +55,15 @@ fn place(slots: &[Reassembly], key: Key) -> Option<usize>
     None
 }
 
-/// Returns whether a segment has the greatest number and yet says that others follow.
+/// Returns true if a segment has the greatest number and yet says that others follow.
 fn cannot_end(segment: &Segment) -> bool
     ensures { result ≡ (segment.now.more && segment.now.seq == 255) }
 {
     segment.more && segment.seq == 255
 }
 
-/// Returns a reassembly with its first segment, and the answer to that. Nothing is allocated for a segment that is refused
-/// as `PastEnd` or `TooLarge`.
+/// Returns a reassembly with its first segment, and the answer to that segment. Nothing is allocated for a segment that
+/// is refused as `PastEnd` or `TooLarge`.
 fn first(alloc: Global, key: Key, segment: &Segment) -> Result<(Reassembly, Taken), TakeFault>
     requires { key_of key.peer (delivery segment.now) ≡ key }
     ensures ok { IfOk result (λ p. Takes (opened key) (delivery segment.now) (Ok p.1) p.0) }
@@ -89,7 +90,7 @@ impl Desk {
     /// Returns a desk with no key open.
     ///
     /// # Errors
-    /// `OutOfMemory`, where memory is refused.
+    /// `OutOfMemory` if memory is refused.
     pub fn new(alloc: Global) -> Result<Desk, OutOfMemory>
         ensures { IfOk result (λ d. d ≡ []) }
     {
@@ -102,8 +103,10 @@ impl Desk {
     /// Takes a segment that this sender sent. The sender and the segment's kind, invoke id and choice make its key.
     ///
     /// # Errors
-    /// The first that holds, in this order: `DeskFull`, where its key is not open and eight others are; `Conflict`,
-    /// `PastEnd`, `TooLarge` and `OutOfMemory`, as a `Reassembly` of its key answers them.
+    /// The first of these that holds:
+    ///
+    /// - `DeskFull` if its key is not open and eight others are;
+    /// - `Conflict`, `PastEnd`, `TooLarge` and `OutOfMemory` as a `Reassembly` of its key returns them.
     ///
     /// # Examples
     /// ```rust
@@ -155,7 +158,7 @@ impl Desk {
         }
     }
 
-    /// Closes a key, and drops what is held of it. Returns whether it was open.
+    /// Closes a key, and drops what is held of it. Returns true if it was open.
     pub fn close(&mut self, key: Key) -> bool
         ensures was_open { result ≡ is_open self.old key }
         ensures closed { self.new ≡ closed self.old key }

@@ -15,7 +15,7 @@ pub enum Taken {
     Complete,
 }
 
-/// Why a segment is not taken. Where several of these hold, `OtherKey` and `DeskFull` are told first, and then
+/// Why a segment is not taken. If several of these hold, `OtherKey` and `DeskFull` are reported first, and then
 /// `Conflict`, `PastEnd`, `TooLarge` and `OutOfMemory`, in this order.
 #[derive(Clone, Copy, Debug, PartialEq, Eq)]
 pub enum TakeFault {

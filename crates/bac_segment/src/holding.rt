@@ -29,7 +29,7 @@ pub(crate) struct Span {
     more: bool,
 }
 
-/// The pieces that are held. A segment in order is appended, so that no other span is looked at.
+/// The pieces that are held. A segment in order is appended, and no other span is looked at.
 #[derive(Debug, Drop)]
 pub(crate) struct Held {
     /// The pieces, joined in order of number.
@@ -56,7 +56,7 @@ fn octets_in(spans: &[Option<Span>]) -> usize
         .sum()
 }
 
-/// Returns whether a segment says the same as what is held under its number.
+/// Returns true if a segment says the same as what is held under its number.
 #[inline(never)]
 fn is_repeat(piece: &[u8], more: bool, segment: &Segment) -> bool
     ensures { result ≡ same_entry (record { piece = piece.now; more = more }) (delivery segment.now) }
@@ -79,14 +79,15 @@ fn grow(octets: &mut Vec<u8>, wanted: usize) -> Result<(), OutOfMemory>
     Ok(())
 }
 
-/// Appends a piece to the octets. Where memory is refused, they stay as they are.
+/// Appends a piece to the octets. If memory is refused, they stay as they are.
 #[inline(always)]
 fn append(octets: &mut Vec<u8>, piece: &[u8]) -> Result<(), OutOfMemory>
     ensures ok { OnOk result (octets.new.items ≡ octets.old.items ++ piece.now) }
     ensures err { OnErr result (octets.new.items ≡ octets.old.items) }
 {
     let end = octets.as_slice().len();
-    // Asked as `extend_from_slice` asks again, which the compiler then leaves out. It never wraps.
+    // The test has the form of the one in `extend_from_slice`, which the compiler then leaves out. The subtraction
+    // never wraps.
     if octets.capacity().wrapping_sub(end) < piece.len() {
         grow(octets, end.saturating_add(piece.len()))?;
     }
@@ -94,7 +95,7 @@ fn append(octets: &mut Vec<u8>, piece: &[u8]) -> Result<(), OutOfMemory>
     Ok(())
 }
 
-/// Inserts a piece in front of the octets from `start` on. Where memory is refused, they stay as they are.
+/// Inserts a piece in front of the octets from `start` on. If memory is refused, they stay as they are.
 #[inline(never)]
 fn insert(octets: &mut Vec<u8>, start: usize, piece: &[u8]) -> Result<(), OutOfMemory>
     requires { start ≤ length octets.old.items }
@@ -106,14 +107,14 @@ fn insert(octets: &mut Vec<u8>, start: usize, piece: &[u8]) -> Result<(), OutOfM
     Ok(())
 }
 
-/// Puts a piece among the octets. Where memory is refused, they stay as they are.
+/// Puts a piece among the octets. If memory is refused, they stay as they are.
 #[inline(always)]
 fn put(octets: &mut Vec<u8>, start: usize, piece: &[u8]) -> Result<(), OutOfMemory>
     requires { start ≤ length octets.old.items }
     ensures ok { OnOk result (octets.new.items ≡ take start octets.old.items ++ piece.now ++ drop start octets.old.items) }
     ensures err { OnErr result (octets.new.items ≡ octets.old.items) }
 {
-    // In order nothing moves.
+    // If the piece is in order, nothing moves.
     if octets.as_slice().len() <= start {
         return append(octets, piece);
     }
@@ -137,7 +138,7 @@ impl Held {
         })
     }
 
-    /// Returns whether all numbers up to a last piece are held.
+    /// Returns true if all numbers up to a last piece are held.
     #[inline(always)]
     pub(crate) fn is_whole(&self) -> bool
         ensures { result ≡ (self.now.ended && self.now.count == self.now.end) }
@@ -164,7 +165,7 @@ impl Held {
         self.octets.as_slice()
     }
 
-    /// Returns whether a segment would be the last one although a greater number is held.
+    /// Returns true if a segment would be the last one although a greater number is held.
     #[inline(always)]
     fn ends_too_early(&self, number: usize, more: bool) -> bool
         requires { number < 256 }
@@ -173,7 +174,7 @@ impl Held {
         !more && number + 1 < self.end
     }
 
-    /// Returns whether a segment stands behind the last one, or says that others follow where none could.
+    /// Returns true if a segment stands behind the last one, or says that others follow although none can.
     #[inline(always)]
     fn is_past_end(&self, number: usize, more: bool) -> bool
         ensures { result ≡ ((self.now.ended && nat_le self.now.end number) || (more && number == 255)) }
@@ -216,7 +217,7 @@ impl Held {
         Ok(())
     }
 
-    /// Returns true where a segment below the end is new, and false where it is repeated.
+    /// Returns true if a segment below the end is new, and false if it is repeated.
     ///
     /// # Errors
     /// `Conflict`, `PastEnd` and `TooLarge`.
@@ -266,7 +267,7 @@ impl Held {
     /// Keeps a segment that is new and fits, with `start` octets in front of its own. After a fault all is as it was.
     ///
     /// # Errors
-    /// `OutOfMemory`, where memory is refused.
+    /// `OutOfMemory` if memory is refused.
     #[inline(always)]
     fn add(&mut self, number: usize, start: usize, segment: &Segment) -> Result<Taken, TakeFault>
         requires held { IsHeld self.old }
@@ -321,7 +322,7 @@ impl Held {
         if number < self.end {
             return self.keep_below(number, segment);
         }
-        // In order nothing stands under its number or above it.
+        // If the segment is in order, nothing is held under its number or above it.
         self.judge_free(number, segment)?;
         self.add(number, self.octets().len(), segment)
     }

@@ -1,4 +1,4 @@
-//! What tells one segmented message from another.
+//! What distinguishes one segmented message from another.
 
 ghost use Rattle.std.specs.Prelude.{◌≡◌};
 ghost use Rattle.bac_segment.specs.Deliveries.{delivery, key_of, is_request, invoke_of};
@@ -19,7 +19,7 @@ pub struct Key {
     pub choice: u8,
 }
 
-/// Returns whether a segment is part of a Confirmed-Request.
+/// Returns true if a segment is part of a Confirmed-Request.
 #[inline(always)]
 fn is_of_request(head: SegHead) -> bool
     ensures { result ≡ is_request head }

@@ -28,7 +28,8 @@ pub fn what_may_be_added_is_kept()
     ensures { (m : Table) (s : Delivery) → (may_add m s ≡ true) ↔ IsKept (answer m s) }
 {}
 
-/// A reassembly holds what those of its segments give that were answered by what was held. Its key stays.
+/// A reassembly holds what its segments give. Only those segments count that were answered by what was held. Its key
+/// stays.
 pub fn what_counts_is_held()
     ensures { (key : Key) (calls : List (Delivery × Answer)) (r : Reassembled) → Delivers (opened key) calls r → (r.key ≡ key) × (r.table ≡ held (counted calls)) }
 {}
@@ -38,30 +39,30 @@ pub fn answers_are_by_what_is_held()
     ensures { (key : Key) (before after : List (Delivery × Answer)) (s : Delivery) (a : Answer) (r : Reassembled) → Delivers (opened key) (before ++ (s, a) ∷ after) r → IsAnswer key (held (counted before)) s a }
 {}
 
-/// A whole message stays as it is, and is told once.
+/// A whole message stays as it is, and is reported as `Complete` only once.
 pub fn whole_once()
     ensures { (old new : Reassembled) (calls : List (Delivery × Answer)) (octets : List ℕ) → whole old.table ≡ Some octets → Delivers old calls new → (whole new.table ≡ Some octets) × AllByRecursion (λ c. c.1 ≢ Ok Complete) calls }
 {}
 
-/// Segments of one cut, in any order, some lost and some repeated, give what was cut exactly where each of them is
-/// there, and else nothing. What is held answers each of them with `Kept`, `Repeat` or `Complete`, and so does a
-/// reassembly ([`answers_are_by_what_is_held`]).
+/// Segments of one cut, in any order, some lost and some repeated, give what was cut exactly where each segment of the
+/// cut is among them, and otherwise nothing. What is held answers each of them with `Kept`, `Repeat` or `Complete`, and
+/// so does a reassembly ([`answers_are_by_what_is_held`]).
 pub fn one_cut_gives_what_was_cut()
     ensures joined { (plan : CutPlan) (octets : List ℕ) (segments l : List Delivery) → cut_fault plan octets ≡ None → IsCutOf plan octets segments → AreAmong segments l → (whole (held l) ≡ Some octets) ↔ AreAmong l segments }
     ensures or_none { (plan : CutPlan) (octets : List ℕ) (segments l : List Delivery) → cut_fault plan octets ≡ None → IsCutOf plan octets segments → AreAmong segments l → (whole (held l) ≡ Some octets) ⊎ (whole (held l) ≡ None) }
     ensures answers { (plan : CutPlan) (octets : List ℕ) (segments l : List Delivery) (s : Delivery) → cut_fault plan octets ≡ None → IsCutOf plan octets segments → AreAmong segments l → IsOneOf segments s → IsGood (answer (held l) s) }
 {}
 
-/// Where all segments of its key come from one cut, a reassembly has what was cut exactly where each segment of the cut
-/// was answered by what was held, and else nothing. Each of its answers is a good one.
+/// If all segments of its key come from one cut, a reassembly has what was cut exactly where each segment of the cut
+/// was answered by what was held, and otherwise nothing. Each of its answers is a good one.
 pub fn what_was_cut_is_joined()
     ensures joined { (plan : CutPlan) (octets : List ℕ) (segments : List Delivery) (key : Key) (calls : List (Delivery × Answer)) (r : Reassembled) → cut_fault plan octets ≡ None → IsCutOf plan octets segments → AreOf key segments calls → Delivers (opened key) calls r → (whole r.table ≡ Some octets) ↔ AreAmong (counted calls) segments }
     ensures or_none { (plan : CutPlan) (octets : List ℕ) (segments : List Delivery) (key : Key) (calls : List (Delivery × Answer)) (r : Reassembled) → cut_fault plan octets ≡ None → IsCutOf plan octets segments → AreOf key segments calls → Delivers (opened key) calls r → (whole r.table ≡ Some octets) ⊎ (whole r.table ≡ None) }
     ensures answers { (plan : CutPlan) (octets : List ℕ) (segments : List Delivery) (key : Key) (calls : List (Delivery × Answer)) (r : Reassembled) → cut_fault plan octets ≡ None → IsCutOf plan octets segments → AreOf key segments calls → Delivers (opened key) calls r → AllByRecursion (λ c. IsGood c.1) calls }
 {}
 
-/// A desk holds of a key what the key's own segments give since it was closed. Other keys change nothing for it but by
-/// `DeskFull` and want of memory.
+/// A desk holds of a key what the key's own segments have given since it was closed. Other keys change nothing for it,
+/// except by `DeskFull` and by want of memory.
 pub fn keys_are_apart()
     ensures { (calls : List DeskCall) (desk : List Reassembled) (key : Key) → DeskRuns [] calls desk → held_of desk key ≡ held (part key calls) }
 {}
@@ -72,19 +73,19 @@ pub fn open_keys_are_used()
 {}
 
 /// Each answer of a desk to a segment goes by what is held of its key. It is `DeskFull` exactly where nothing is held
-/// of its key and something of eight others, and it is never `OtherKey`.
+/// of its key and something is held of eight others. It is never `OtherKey`.
 pub fn desk_answers_are_by_the_key()
     ensures { (before after : List DeskCall) (desk : List Reassembled) (peer : ℕ) (s : Delivery) (a : Answer) → DeskRuns [] (before ++ taken peer s a ∷ after) desk → IsDeskAnswer before peer s a }
 {}
 
-/// When a key is closed, it was open exactly where something was held of it.
+/// Closing a key reports that it was open exactly where something was held of it.
 pub fn closing_tells_what_was_held()
     ensures { (before after : List DeskCall) (desk : List Reassembled) (key : Key) (was_open : Bool) → DeskRuns [] (before ++ closing key was_open ∷ after) desk → was_open ≡ is_held before key }
 {}
 
-/// Where all segments of a key since it was closed come from one cut, a desk has of it what was cut exactly where each
-/// segment of the cut was answered by what was held, and else nothing. Each answer to one more segment of the cut is a
-/// good one.
+/// If all segments of a key since it was closed come from one cut, a desk has of it what was cut exactly where each
+/// segment of the cut was answered by what was held, and otherwise nothing. Each answer to one more segment of the cut
+/// is a good one.
 pub fn a_desk_joins_what_was_cut()
     ensures joined { (plan : CutPlan) (octets : List ℕ) (segments : List Delivery) (key : Key) (calls : List DeskCall) (desk : List Reassembled) → cut_fault plan octets ≡ None → IsCutOf plan octets segments → AreAmong segments (part key calls) → DeskRuns [] calls desk → (whole (held_of desk key) ≡ Some octets) ↔ AreAmong (part key calls) segments }
     ensures or_none { (plan : CutPlan) (octets : List ℕ) (segments : List Delivery) (key : Key) (calls : List DeskCall) (desk : List Reassembled) → cut_fault plan octets ≡ None → IsCutOf plan octets segments → AreAmong segments (part key calls) → DeskRuns [] calls desk → (whole (held_of desk key) ≡ Some octets) ⊎ (whole (held_of desk key) ≡ None) }

@@ -38,7 +38,7 @@ impl Reassembly {
     /// Returns a reassembly that holds nothing.
     ///
     /// # Errors
-    /// `OutOfMemory`, where memory is refused.
+    /// `OutOfMemory` if memory is refused.
     pub fn new(alloc: Global, key: Key) -> Result<Reassembly, OutOfMemory>
         ensures { IfOk result (λ r. r ≡ opened key) }
     {
@@ -51,11 +51,14 @@ impl Reassembly {
     /// Takes a segment. Of its head only the kind and the invoke id are looked at, and its window not at all.
     ///
     /// # Errors
-    /// The first that holds, in this order: `OtherKey`, where its kind, invoke id or choice is not that of the key;
-    /// `Conflict`, where its number is held with another piece or another `more`, or where it is the last one and a
-    /// greater number is held; `PastEnd`, where a smaller number is held as the last one, or where it is number 255
-    /// and others follow; `TooLarge`, where the octets held and its own are more than 65,535 together; `OutOfMemory`,
-    /// where memory is refused.
+    /// The first of these that holds:
+    ///
+    /// - `OtherKey` if its kind, invoke id or choice is not that of the key;
+    /// - `Conflict` if its number is held with another piece or another `more`, or if it is the last one and a greater
+    ///   number is held;
+    /// - `PastEnd` if a smaller number is held as the last one, or if it is number 255 and others follow;
+    /// - `TooLarge` if the octets held and its own are more than 65,535 together;
+    /// - `OutOfMemory` if memory is refused.
     #[inline(always)]
     pub fn take(&mut self, segment: &Segment) -> Result<Taken, TakeFault>
         ensures step { Takes self.old (delivery segment.now) result self.new }

@@ -1,4 +1,4 @@
-//! Services in canonical octets, which are found without the service.
+//! Services in canonical octets, which are recognised without making the service.
 
 ghost use Rattle.std.specs.Prelude.{◌≡◌, true, IsTrue};
 ghost use Rattle.bac_tag.specs.Spelling.{IsCanonical};
@@ -14,7 +14,7 @@ use crate::services::write_property::WriteProperty;
 use crate::services::write_property_multiple::WritePropertyMultiple;
 use std::alloc::Global;
 
-/// What [`is_canonical_service`] tells of a confirmed request.
+/// Returns what [`is_canonical_service`] returns for a confirmed request.
 fn is_canonical_confirmed(alloc: Global, choice: u8, octets: &[u8]) -> bool
     ensures { IsTrue result → IsCanonical (SpellsService true 32 Confirmed choice) octets.now }
 {
@@ -27,7 +27,7 @@ fn is_canonical_confirmed(alloc: Global, choice: u8, octets: &[u8]) -> bool
     }
 }
 
-/// What [`is_canonical_service`] tells of an answer with contents.
+/// Returns what [`is_canonical_service`] returns for an answer with contents.
 fn is_canonical_complex_ack(alloc: Global, choice: u8, octets: &[u8]) -> bool
     ensures { IsTrue result → IsCanonical (SpellsService true 32 ComplexAck choice) octets.now }
 {
@@ -38,8 +38,9 @@ fn is_canonical_complex_ack(alloc: Global, choice: u8, octets: &[u8]) -> bool
     }
 }
 
-/// Whether the octets are the canonical ones of a service (clause 21) of this kind and with this service choice, if that is
-/// found at once. False tells nothing of the octets: it is always told of services that want no memory, which are short.
+/// Returns true if the octets are found at once to be the canonical ones of a service (clause 21) of this kind and with
+/// this service choice. False says nothing about the octets: it is always returned for services that need no memory,
+/// which are short.
 pub fn is_canonical_service(alloc: Global, kind: Kind, choice: u8, octets: &[u8]) -> bool
     ensures { IsTrue result → IsCanonical (SpellsService true 32 kind choice) octets.now }
 {

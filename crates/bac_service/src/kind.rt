@@ -6,7 +6,7 @@ ghost use Rattle.std.specs.Option.{is_some};
 ghost use Rattle.bac_service.specs.declared.kind.Kind.TheVariants.{Error};
 ghost use Rattle.bac_service.specs.ServiceTable.{service_error, rows, production_of};
 
-/// The APDUs that carry a service (clause 20.1). The kinds are in order as they stand here.
+/// The kinds of APDU that carry a service (clause 20.1). They are ordered as they stand here.
 #[derive(Clone, Copy, Debug, PartialEq, Eq, PartialOrd, Ord, Hash)]
 pub enum Kind {
     /// A request that wants an answer (clause 20.1.2).
@@ -19,7 +19,7 @@ pub enum Kind {
     Error,
 }
 
-/// The service choices with a production, of this kind.
+/// Returns the service choices of this kind that have a production.
 fn typed_choices(kind: Kind) -> &'static [u8]
     ensures { result.now ≡ keys_of (rows true kind) }
 {
@@ -30,14 +30,14 @@ fn typed_choices(kind: Kind) -> &'static [u8]
     }
 }
 
-/// Whether this kind and service choice have a production: any others are opaque.
+/// Returns true if this kind and service choice have a production. Services of any other kind and choice are opaque.
 pub(crate) fn has_production(kind: Kind, choice: u8) -> bool
     ensures { result ≡ is_some (production_of true kind choice) }
 {
     typed_choices(kind).contains(&choice)
 }
 
-/// Whether the errors of this service choice are a class and a code, and no more.
+/// Returns true if the errors of this service choice are a class and a code, and no more.
 pub(crate) fn has_cause(choice: u8) -> bool
     ensures { IsTrue result ↔ (production_of true Error choice ≡ Some service_error) }
 {

@@ -38,7 +38,8 @@ fn parts_are_well_spelled<P: Production>()
     ensures { IsWellSpelled P.spells }
 {}
 
-/// Each production of the table is spelled so.
+/// The same holds for each production of the table: no list spells two values, and each value that is spelled has a
+/// least spelling.
 fn productions_are_well_spelled()
     ensures { (production : ServiceProduction) → IsWellSpelled (SpellsBy 32 production) }
 {
@@ -63,8 +64,8 @@ pub fn services_have_canonical_octets()
     productions_are_well_spelled();
 }
 
-/// Only services are spelled. What is spelled has this kind and this choice, which is an octet, and the production
-/// that these name. Where they name none, it is spelled by its own octets alone.
+/// Only services are spelled. What is spelled has this kind and this choice, which is an octet, and the production that
+/// these name. If they name none, it is spelled by its own octets alone.
 pub fn only_services_are_spelled()
     ensures placed { (kind : Kind) (choice : ℕ) (v : ServiceValue) (b : List ℕ) → SpellsService true 32 kind choice v b → (v.kind ≡ kind) × (v.choice ≡ choice) × IsPlaced v }
     ensures opaque { (kind : Kind) (choice : ℕ) (v : ServiceValue) (b : List ℕ) → SpellsService true 32 kind choice v b → IsNone v.production → (v ≡ opaque kind choice b) × IsOctets b }
@@ -100,26 +101,27 @@ pub fn former_services_are_kept()
     ensures least { (kind : Kind) (choice : ℕ) (v : ServiceValue) (b : List ℕ) → IsUnchanged kind choice → IsLeast (SpellsService false 16 kind choice v) b → IsLeast (SpellsService true 32 kind choice v) b }
 {}
 
-/// A list begins what reading a property gave (clause 21) exactly where it begins a value, or an error between its tags.
+/// A list begins the result of reading a property (clause 21) exactly where it begins a value, or an error between its
+/// tags.
 pub fn results_are_viable_in_a_case()
     ensures { (b : List ℕ) → IsViable (SpellsReadResult 32) b ↔ (IsViable (SpellsOpen 32 4) b ⊎ IsViable (Grouped 5 SpellsErrorCause) b) }
 {}
 
-/// A list begins a class and a code (clause 21) exactly where it begins a class, or is a class with the beginning of a code
-/// behind it.
+/// A list begins a class and a code (clause 21) exactly where it begins a class, or is a class with the beginning of a
+/// code behind it.
 pub fn causes_are_viable_in_turn()
     ensures { (b : List ℕ) → IsViable SpellsErrorCause b ↔ (IsViable ApplicationEnumerated b ⊎ IsPartway ApplicationEnumerated (λ _. ApplicationEnumerated) b) }
 {
     joined_parts_are_viable_in_turn::<ApplicationField<Enumerated>, ApplicationField<Enumerated>>();
 }
 
-/// A list begins a spelling of one part or another exactly where it begins one of either.
+/// A list begins a spelling of one part or another exactly where it begins a spelling of either.
 pub(crate) fn choices_are_viable_in_a_case<A: Production, B: Production>()
     ensures { (b : List ℕ) → IsViable (OneOf A.spells B.spells) b ↔ (IsViable A.spells b ⊎ IsViable B.spells b) }
 {}
 
-/// A list begins a spelling of two parts joined exactly where it begins one of the first, or is one of the first with
-/// the beginning of one of the second behind it.
+/// A list begins a spelling of two parts joined exactly where it begins a spelling of the first, or is a spelling of
+/// the first with the beginning of a spelling of the second behind it.
 pub(crate) fn joined_parts_are_viable_in_turn<A: Production, B: Production>()
     requires { IsTrue B.is_sound }
     ensures { (b : List ℕ) → IsViable (Joined A.spells B.spells) b ↔ (IsViable A.spells b ⊎ IsPartway A.spells (λ _. B.spells) b) }

@@ -21,19 +21,19 @@ use crate::services::service_error::ServiceError;
 use bac_tag::Refusal;
 use std::alloc::Global;
 
-/// A service, and the first octet that differs from the canonical ones.
+/// A service and its mark: the place of the first octet that differs from the canonical ones, or None.
 pub(crate) type Marked = (Service, Option<usize>);
 
-/// A service that one kind and one choice name.
+/// A service that is named by one kind and one choice.
 pub(crate) trait Named: Drop {
-    /// What it is spelled as.
+    /// The part that it is spelled as.
     type Part: Production;
 
     ghost kind: { Kind };
 
     ghost choice: { ℕ };
 
-    /// The service that was read.
+    /// Returns the service that was read.
     fn into_service(part: Self::Part) -> Service
         ensures { (b : List ℕ) → Self.Part.spells (Self.Part.view part) b ↔ SpellsService true 32 kind choice (value_of result) b };
 
@@ -42,7 +42,7 @@ pub(crate) trait Named: Drop {
     ghost memory: { IsTrue Self.Part.wants_memory → is_small kind choice ≡ false };
 }
 
-/// Decodes such a service.
+/// Decodes a service of type `S`.
 #[inline(always)]
 pub(crate) fn decode_named<S: Named>(alloc: Global, octets: &[u8]) -> Result<Marked, Refusal>
     requires { IsTrue S.Part.is_sound }
@@ -52,7 +52,8 @@ pub(crate) fn decode_named<S: Named>(alloc: Global, octets: &[u8]) -> Result<Mar
     Ok((S::into_service(part), mark))
 }
 
-/// Whether the octets are the canonical ones of such a service, if that is found at once. False tells nothing of them.
+/// Returns true if the octets are found at once to be the canonical ones of a service of type `S`. False says nothing
+/// about the octets.
 pub(crate) fn is_canonical_named<S: Named>(alloc: Global, octets: &[u8]) -> bool
     requires { IsTrue S.Part.is_sound }
     ensures { IsTrue result → IsCanonical (SpellsService true 32 S.kind S.choice) octets.now }
@@ -60,16 +61,16 @@ pub(crate) fn is_canonical_named<S: Named>(alloc: Global, octets: &[u8]) -> bool
     are_canonical::<S::Part>(alloc, octets)
 }
 
-/// A service that one kind and one choice name, and that is one list.
+/// A service that is named by one kind and one choice, and that is one list.
 pub(crate) trait NamedList: Drop {
-    /// What the list is of.
+    /// The items of the list.
     type Item: Record;
 
     ghost kind: { Kind };
 
     ghost choice: { ℕ };
 
-    /// The service that was read.
+    /// Returns the service that was read.
     fn into_service(items: Vec<Self::Item>) -> Service
         ensures { (b : List ℕ) → Items Self.Item.spells (map Self.Item.view items.items) b ↔ SpellsService true 32 kind choice (value_of result) b };
 
@@ -78,7 +79,7 @@ pub(crate) trait NamedList: Drop {
     ghost memory: { is_small kind choice ≡ false };
 }
 
-/// Decodes such a service.
+/// Decodes a service of type `S`.
 #[inline(always)]
 pub(crate) fn decode_list<S: NamedList>(alloc: Global, octets: &[u8]) -> Result<Marked, Refusal>
     requires { IsTrue (S.Item.Parts.is_sound && (not S.Item.Parts.may_be_empty && disjoint S.Item.Parts.openers S.Item.Parts.continuers)) }
@@ -88,7 +89,8 @@ pub(crate) fn decode_list<S: NamedList>(alloc: Global, octets: &[u8]) -> Result<
     Ok((S::into_service(items), mark))
 }
 
-/// Whether the octets are the canonical ones of such a service, if that is found at once. False tells nothing of them.
+/// Returns true if the octets are found at once to be the canonical ones of a service of type `S`. False says nothing
+/// about the octets.
 pub(crate) fn is_canonical_list<S: NamedList>(alloc: Global, octets: &[u8]) -> bool
     requires { IsTrue (S.Item.Parts.is_sound && (not S.Item.Parts.may_be_empty && disjoint S.Item.Parts.openers S.Item.Parts.continuers)) }
     ensures { IsTrue result → IsCanonical (SpellsService true 32 S.kind S.choice) octets.now }
@@ -96,7 +98,7 @@ pub(crate) fn is_canonical_list<S: NamedList>(alloc: Global, octets: &[u8]) -> b
     are_canonical::<Vec<S::Item>>(alloc, octets)
 }
 
-/// Decodes a notification, which two kinds carry: confirmed or not.
+/// Decodes a notification, which a confirmed or an unconfirmed request carries.
 #[inline(always)]
 pub(crate) fn decode_notification(
     alloc: Global,
@@ -113,14 +115,15 @@ pub(crate) fn decode_notification(
     Ok((Service::CovNotification(notification), mark))
 }
 
-/// Whether the octets are the canonical ones of a notification, if that is found at once. False tells nothing of them.
+/// Returns true if the octets are found at once to be the canonical ones of a notification. False says nothing about
+/// the octets.
 pub(crate) fn is_canonical_notification(alloc: Global, confirmed: bool, octets: &[u8]) -> bool
     ensures { IsTrue result → IsCanonical (SpellsService true 32 (notification_kind confirmed) (notification_choice confirmed)) octets.now }
 {
     are_canonical::<Fields<CovNotification>>(alloc, octets)
 }
 
-/// Decodes the error of a service whose errors are a class and a code: five choices have one production.
+/// Decodes the error of a service whose errors are a class and a code. Five choices share this production.
 #[inline(always)]
 pub(crate) fn decode_error(alloc: Global, choice: u8, octets: &[u8]) -> Result<Marked, Refusal>
     requires { production_of true Error choice ≡ Some service_error }

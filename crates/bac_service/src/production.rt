@@ -49,13 +49,13 @@ pub(crate) struct Spelling<T> {
     pub(crate) value: T,
     /// How many octets it takes.
     pub(crate) taken: usize,
-    /// How many of them stand in front of the first that differs from the canonical ones: all, where none does. It says
-    /// nothing where that was not wanted.
+    /// How many of them stand in front of the first one that differs from the canonical ones. It is all of them if none
+    /// differs. It says nothing if the mark was not wanted.
     pub(crate) same: usize,
 }
 
 impl<T: Drop> Spelling<T> {
-    /// The first octet that differs from the canonical ones.
+    /// Returns the place of the first octet that differs from the canonical ones, or None.
     #[inline(always)]
     pub(crate) fn mark(&self) -> Option<usize>
         ensures { result ≡ mark_within self.now.taken self.now.same }
@@ -67,7 +67,7 @@ impl<T: Drop> Spelling<T> {
         }
     }
 
-    /// The value, and what else is told.
+    /// Returns the value, and the other fields.
     #[inline(always)]
     pub(crate) fn split(self) -> (T, Spelling<()>)
         ensures { result ≡ (self.value, record { value = tt; taken = self.taken; same = self.same }) }
@@ -83,7 +83,7 @@ impl<T: Drop> Spelling<T> {
 }
 
 impl Spelling<()> {
-    /// The same of another value.
+    /// Returns the same fields with another value.
     #[inline(always)]
     pub(crate) fn with<T: Drop>(self, value: T) -> Spelling<T>
         ensures { result ≡ record { value = value; taken = self.taken; same = self.same } }
@@ -96,7 +96,7 @@ impl Spelling<()> {
     }
 }
 
-/// How many of so many octets stand in front of the first that differs from the canonical ones.
+/// Returns how many of `taken` octets stand in front of their mark: all of them if there is none.
 #[inline(always)]
 pub(crate) fn same_octets(taken: usize, mark: Option<usize>) -> usize
     ensures all { IfNone mark (result ≡ taken) }
@@ -108,7 +108,8 @@ pub(crate) fn same_octets(taken: usize, mark: Option<usize>) -> usize
     }
 }
 
-/// The same of two parts, one behind the other, of which the first has `taken` octets.
+/// Returns how many octets of two parts, one behind the other, stand in front of the mark of the whole. `first` and
+/// `second` are the same numbers for each part alone, and the first part has `taken` octets.
 #[inline(always)]
 pub(crate) fn joined_same(first: usize, taken: usize, second: usize) -> usize
     requires { taken + second < 2 ^ 64 }
@@ -119,8 +120,8 @@ pub(crate) fn joined_same(first: usize, taken: usize, second: usize) -> usize
     if first < taken { first } else { taken + second }
 }
 
-/// Whether the mark of a part is wanted that stands behind `taken` octets: where it is wanted of the whole, and all of
-/// these are canonical.
+/// Returns true if the mark of the part behind `taken` octets is wanted. It is if the mark of the whole is wanted and
+/// all the octets in front of the part are canonical.
 #[inline(always)]
 pub(crate) fn is_wanted_behind(wanted: bool, same: usize, taken: usize) -> bool
     ensures { IsTrue result ↔ (IsTrue wanted × (same ≡ taken)) }
@@ -128,21 +129,21 @@ pub(crate) fn is_wanted_behind(wanted: bool, same: usize, taken: usize) -> bool
     wanted && same == taken
 }
 
-/// The longest spelling at the front of octets, and how far they may be spelled.
+/// The longest spelling at the front of octets, and how far the octets can be spelled.
 #[derive(Drop)]
 pub(crate) struct Front<T> {
     /// What the octets spell.
     pub(crate) value: T,
     /// How many octets it takes.
     pub(crate) taken: usize,
-    /// The first of them that differs from the canonical ones.
+    /// The place of the first of them that differs from the canonical ones, or None.
     pub(crate) mark: Option<usize>,
-    /// The place of the first octet with which no spelling begins, and why.
+    /// The place of the first octet with which no spelling goes on, and why.
     pub(crate) reach: Refusal,
 }
 
 impl<T: Drop> Front<T> {
-    /// The value, and what else is told.
+    /// Returns the value, and the other fields.
     #[inline(always)]
     pub(crate) fn split(self) -> (T, Front<()>)
         ensures { result ≡ (self.value, record { value = tt; taken = self.taken; mark = self.mark; reach = self.reach }) }
@@ -162,7 +163,7 @@ impl<T: Drop> Front<T> {
         (value, rest)
     }
 
-    /// The spelling alone.
+    /// Returns the spelling without the reach.
     #[inline(always)]
     pub(crate) fn into_spelling(self) -> Spelling<T>
         ensures value { result.value ≡ self.value }
@@ -179,7 +180,7 @@ impl<T: Drop> Front<T> {
 }
 
 impl Front<()> {
-    /// The same of another value.
+    /// Returns the same fields with another value.
     #[inline(always)]
     pub(crate) fn with<T: Drop>(self, value: T) -> Front<T>
         ensures { result ≡ record { value = value; taken = self.taken; mark = self.mark; reach = self.reach } }
@@ -193,7 +194,8 @@ impl Front<()> {
     }
 }
 
-/// How far octets may be spelled of which so many are a whole spelling, and no more can be: the rest trails.
+/// Returns the reach of octets whose first `taken` octets are a whole spelling that cannot go on. The octets behind
+/// them, if there are any, are trailing.
 pub(crate) fn complete_at(octets: &[u8], taken: usize) -> Refusal
     ensures place { result.place ≡ taken }
     ensures short { (result.why ≡ Why.Short) ↔ (taken ≡ length octets.now) }
@@ -221,22 +223,22 @@ pub(crate) trait Production: Drop {
     /// What a spelling begins with.
     ghost openers: { List Lead };
 
-    /// With what a spelling goes on where a shorter one ends.
+    /// With what a longer spelling goes on where a shorter one ends.
     ghost continuers: { List Lead };
 
-    /// Some value is spelled by no octets.
+    /// Whether some value is spelled by no octets.
     ghost may_be_empty: { Bool };
 
-    /// The next head tells what stands next.
+    /// Whether the next head says what stands next.
     ghost is_sound: { Bool };
 
-    /// Reading may want memory.
+    /// Whether reading may need memory.
     ghost wants_memory: { Bool };
 
-    /// Reads a front of the octets that spells a value, if one is found at once. None tells nothing of the octets. How many
-    /// of them are canonical is told only where `wanted` asks for it.
+    /// Reads a front of the octets that spells a value, if one is found at once. None says nothing about the octets.
+    /// How many of them are canonical is reported only if `wanted` is true.
     ///
-    /// Nothing is kept for a refusal, so this is the fast way where the octets spell a value; [`Production::read`] tells
+    /// Nothing is kept for a refusal, so this is the fast way if the octets spell a value. [`Production::read`] reports
     /// why they spell none.
     fn read_spelling(alloc: Global, octets: &[u8], wanted: bool) -> Option<Spelling<Self>>
         requires { IsTrue is_sound }
@@ -244,8 +246,8 @@ pub(crate) trait Production: Drop {
         ensures mark { IfSome result (λ found. IsTrue wanted → HasMark (spells (view found.value)) (take found.taken octets.now) (mark_within found.taken found.same)) }
         ensures same { IfSome result (λ found. found.same ≤ found.taken) };
 
-    /// How many octets at the front are the canonical ones of a value, if that is found at once. None tells nothing of the
-    /// octets. What may be long is gone through and not kept.
+    /// Returns how many octets at the front are the canonical ones of a value, if that is found at once. None says
+    /// nothing about the octets. What may be long is checked and not kept.
     fn canonical_len(alloc: Global, octets: &[u8]) -> Option<usize>
         requires { IsTrue is_sound }
         ensures { IfSome result (TakesLeast spells octets.now) };
@@ -261,7 +263,7 @@ pub(crate) trait Production: Drop {
         ensures reasons { IfErr result (λ fault. IfRefused fault (λ refusal. IsPartReason refusal.why)) }
         ensures memory { result ≡ Err ReadFault.OutOfMemory → IsTrue wants_memory };
 
-    /// Appends the least spelling. Where memory is refused some octets may be there.
+    /// Appends the least spelling. If memory is refused, `out` may hold some of the octets.
     fn write(&self, out: &mut Vec<u8>) -> Result<(), OutOfMemory>
         requires { IsTrue is_sound }
         ensures ok { OnOk result (AppendsLeast (spells (view self.now)) out.old.items out.new.items) }

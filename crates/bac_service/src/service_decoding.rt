@@ -104,7 +104,7 @@ fn decode_kind(alloc: Global, kind: Kind, choice: u8, octets: &[u8]) -> Result<M
 }
 
 /// Decodes what [`decode_service`] decodes. Returns the service, and the offset of the first octet that differs from
-/// its canonical ones, or None where the octets are canonical.
+/// its canonical ones, or None if the octets are canonical.
 ///
 /// # Errors
 /// As those of [`decode_service`].
@@ -137,15 +137,15 @@ pub fn decode_service_marked(
 /// Decodes the service of this kind and with this service choice that all the octets spell, in any tolerated
 /// spelling. Its type lists its octets in their order (clause 21).
 ///
-/// Where the kind and the choice have no production the service is [`Service::Opaque`], with any octets.
+/// If the kind and the choice have no production, the service is [`Service::Opaque`], with any octets.
 ///
 /// # Errors
-/// The place is that of the first octet with which no spelling of such a service begins. The reason is one of these:
+/// The place is that of the first octet with which no spelling of such a service goes on. The reason is one of these:
 ///
-/// - `Short` where all the octets begin a spelling, and nowhere else: the place is their number;
-/// - `Trailing` where the octets in front of the place spell such a service, and nowhere else;
+/// - `Short` if all the octets begin a spelling, and in no other case: the place is their number;
+/// - `Trailing` if the octets in front of the place spell such a service, and in no other case;
 /// - `Tag`, `Length`, `Content` or `Depth`;
-/// - `OutOfMemory` where memory is refused: the place is 0. It is never told of ReadProperty, SubscribeCOV, I-Am,
+/// - `OutOfMemory` if memory is refused: the place is 0. It is never returned for ReadProperty, SubscribeCOV, I-Am,
 ///   Who-Is and the errors of choice 1, 5, 12, 14, 15 and 16.
 ///
 /// # Examples

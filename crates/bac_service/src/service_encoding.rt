@@ -12,10 +12,10 @@ use crate::service::Service;
 use bac_tag::OutOfMemory;
 use std::alloc::Global;
 
-/// For how many octets there is room at first, as most services want.
+/// How many octets there is room for at first: as many as most services need.
 const FIRST_ROOM: usize = 64;
 
-/// Appends the least spelling of a service. Where memory is refused some octets may be there.
+/// Appends the least spelling of a service. If memory is refused, `out` may hold some of the octets.
 fn append_production(service: &Service, out: &mut Vec<u8>) -> Result<(), OutOfMemory>
     ensures placed { IsPlaced (value_of service.now) }
     ensures ok { OnOk result (AppendsLeast (SpellsSaid 32 (value_of service.now).production (value_of service.now).said) out.old.items out.new.items) }
@@ -42,7 +42,7 @@ fn append_production(service: &Service, out: &mut Vec<u8>) -> Result<(), OutOfMe
 /// in their order (clause 21).
 ///
 /// # Errors
-/// `OutOfMemory` where memory is refused. `out` then stays as it was.
+/// `OutOfMemory` if memory is refused. `out` then stays as it was.
 ///
 /// # Examples
 /// ```rust
@@ -72,7 +72,7 @@ pub fn append_service(service: &Service, out: &mut Vec<u8>) -> Result<(), OutOfM
 /// (clause 21).
 ///
 /// # Errors
-/// `OutOfMemory` where memory is refused.
+/// `OutOfMemory` if memory is refused.
 ///
 /// # Examples
 /// ```rust

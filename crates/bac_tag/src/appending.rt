@@ -7,12 +7,12 @@ ghost use Rattle.bac_tag.specs.Heads.{IsValid, Heads};
 use crate::writing::{first_octet, second_octet};
 use crate::{OutOfMemory, TagHead, head_len, write_head};
 
-/// Appends the canonical octets of the head (clause 20.2.1), those that [`write_head`] returns: 1 to 7, the initial
-/// octet, then the number octet, then the octets of the length, where the initial octet has no room for them. The head
-/// must be valid.
+/// Appends the canonical octets of the head (clause 20.2.1), those that [`write_head`] returns. They are 1 to 7: the
+/// initial octet; the number octet, if the initial octet has no room for the number; the octets of the length, if it
+/// has no room for the length. The head must be valid.
 ///
 /// # Errors
-/// `OutOfMemory` where memory is refused. `out` then stays as it was.
+/// `OutOfMemory` if memory is refused. `out` then stays as it was.
 #[inline(always)]
 pub fn append_head(head: TagHead, out: &mut Vec<u8>) -> Result<(), OutOfMemory>
     requires { IsValid head }

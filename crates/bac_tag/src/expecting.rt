@@ -9,7 +9,7 @@ use crate::TagHead;
 /// The heads that a reader accepts at a place. `least` and `most` limit the length of the contents in octets, and
 /// are themselves accepted.
 ///
-/// Readers want numbers that their class uses, and a `least` no greater than `most`.
+/// Readers require numbers that their class uses, and a `least` no greater than `most`.
 #[derive(Clone, Copy, Debug, PartialEq, Eq)]
 pub enum Expected {
     /// Each valid head.
@@ -22,19 +22,19 @@ pub enum Expected {
     },
     /// The application Boolean, false or true.
     AppBool,
-    /// Context class with this number, 0 to 254, or with any number where it is None.
+    /// Context class with this number, 0 to 254, or with any number if it is None.
     Ctx {
         number: Option<u8>,
         least: u32,
         most: u32,
     },
-    /// An opening tag with this number, 0 to 254, or with any number where it is None.
+    /// An opening tag with this number, 0 to 254, or with any number if it is None.
     Open(Option<u8>),
-    /// A closing tag with this number, 0 to 254, or with any number where it is None.
+    /// A closing tag with this number, 0 to 254, or with any number if it is None.
     Close(Option<u8>),
 }
 
-/// Whether the number is the one that is named, or none is named.
+/// Returns true if the number is the one that is named, or none is named.
 #[inline(always)]
 fn has_number(named: Option<u8>, number: u8) -> bool
     ensures { IsTrue result ↔ HasNumber named number }
@@ -45,7 +45,7 @@ fn has_number(named: Option<u8>, number: u8) -> bool
     }
 }
 
-/// Whether some length from `least` to `most` has this LVT.
+/// Returns true if some length from `least` to `most` has this LVT.
 #[inline(always)]
 fn has_lvt(lvt: u8, least: u32, most: u32) -> bool
     ensures { IsTrue result ↔ HasLvt least most lvt }
@@ -54,7 +54,7 @@ fn has_lvt(lvt: u8, least: u32, most: u32) -> bool
 }
 
 impl Expected {
-    /// Whether the head is among those expected. Whether it is valid is not looked at.
+    /// Returns true if the head is among those expected. It is not checked whether the head is valid.
     pub fn fits(self, head: TagHead) -> bool
         ensures { IsTrue result ↔ Fits self head }
     {
@@ -82,7 +82,7 @@ impl Expected {
         }
     }
 
-    /// Whether some expected head has this class, number and LVT.
+    /// Returns true if some expected head has this class, number and LVT.
     #[inline(always)]
     pub(crate) fn uses(self, context: bool, number: u8, lvt: u8) -> bool
         ensures { IsTrue result ↔ Uses self context number lvt }
@@ -117,7 +117,7 @@ impl Expected {
         }
     }
 
-    /// A number that some expected head has, with whatever class and LVT any has.
+    /// Returns a number that some expected head has, with each class and LVT that any expected head has.
     #[inline(always)]
     pub(crate) fn example(self) -> u8
         ensures { result ≡ example_of self }
@@ -132,7 +132,7 @@ impl Expected {
         }
     }
 
-    /// The least and the most expected length.
+    /// Returns the least and the largest expected length.
     #[inline(always)]
     pub(crate) fn lengths(self) -> (u32, u32)
         ensures least { result.0 ≡ least_of self }

@@ -5,10 +5,10 @@ ghost use Rattle.bac_tag.specs.Heads.{IsValid};
 
 /// A tag head: what stands in front of the contents of an element (clause 20.2.1). It has 1 to 7 octets:
 ///
-/// 1. the initial octet: the number in bits 7 to 4, or 15 where it stands in the next octet; the class in bit 3
-///    (0 application, 1 context); the LVT in bits 2 to 0;
-/// 2. the number, where bits 7 to 4 are 15;
-/// 3. the length, where the LVT is 5: one octet 0 to 253; or FE and two octets; or FF and four octets, the most
+/// 1. the initial octet: the number in bits 7 to 4, or 15 if it stands in the next octet; the class in bit 3 (0
+///    application, 1 context); the LVT in bits 2 to 0;
+/// 2. the number, if bits 7 to 4 are 15;
+/// 3. the length, if the LVT is 5: one octet 0 to 253; or FE and two octets; or FF and four octets, the most
 ///    significant first. An LVT of 0 to 4 is itself the length.
 ///
 /// In the context class an LVT of 6 is an opening tag, and of 7 a closing tag. In the application class the LVT
@@ -28,7 +28,7 @@ pub enum TagHead {
 }
 
 impl TagHead {
-    /// Whether the number is one that the class uses: 0 or 2 to 12 in `App`, and 0 to 254 in `Ctx`, `Open` and
+    /// Returns true if the number is one that the class uses: 0 or 2 to 12 in `App`, and 0 to 254 in `Ctx`, `Open` and
     /// `Close`. `AppBool` is always valid.
     pub fn is_valid(&self) -> bool
         ensures { IsTrue result ↔ IsValid self.now }

@@ -8,7 +8,8 @@ ghost use Rattle.bac_tag.specs.Heads.{IsValid, LengthFits, Heads};
 ghost use Rattle.bac_tag.specs.declared.heads.TagHead.{TagHead};
 ghost use Rattle.bac_tag.specs.declared.refusals.Refusal.{Refusal};
 
-/// Any values, and the lists that spell them. The laws that hold of every such relation are stated over this trait.
+/// Any values, and the lists that spell them. Laws that hold for any values and any spellings are stated over this
+/// trait.
 pub trait Spelled {
     /// The values.
     ghost Value: { Type 0 };
@@ -27,7 +28,7 @@ pub fn no_greater_than_a_greater()
     ensures { (b c d : List ℕ) → NoGreater b c → NoGreater c d → NoGreater b d }
 {}
 
-/// Two lists of which neither is greater are one.
+/// Two lists are equal if each is no greater than the other.
 pub fn neither_is_greater()
     ensures { (b c : List ℕ) → NoGreater b c → NoGreater c b → b ≡ c }
 {}
@@ -42,8 +43,8 @@ pub fn heads_end_themselves()
     ensures { EndsItself Heads }
 {}
 
-/// The canonical octets of a head are no more than those of any spelling of a head with the same number and a
-/// greater length.
+/// The canonical spelling of a head is no longer than any spelling of a head with the same class and number, and with
+/// the same or a greater length.
 pub fn shorter_lengths_have_no_longer_heads()
     ensures application { (number n m : ℕ) (b c : List ℕ) → n ≤ m → IsLeast (Heads (TagHead.App number n)) b → Heads (TagHead.App number m) c → length b ≤ length c }
     ensures context { (number n m : ℕ) (b c : List ℕ) → n ≤ m → IsLeast (Heads (TagHead.Ctx number n)) b → Heads (TagHead.Ctx number m) c → length b ≤ length c }
@@ -59,20 +60,21 @@ pub fn only_valid_heads_are_spelled()
     ensures { (head : TagHead) (b : List ℕ) → Heads head b → IsValid head × LengthFits head }
 {}
 
-/// A list begins a spelling of one case or another exactly where it begins one of either.
+/// A list begins a spelling of a choice between two cases exactly where it begins a spelling of one of the two.
 pub fn choices_are_viable_in_a_case<A: Spelled, B: Spelled>()
     ensures { (b : List ℕ) → IsViable (OneOf A.spells B.spells) b ↔ (IsViable A.spells b ⊎ IsViable B.spells b) }
 {}
 
-/// Where the second of two parts has a spelling, a list begins one of both joined exactly where it begins one of the
-/// first, or is one of the first with the beginning of one of the second behind it.
+/// If the second of two parts has a spelling, a list begins a spelling of both joined exactly where it begins a
+/// spelling of the first part, or is a spelling of the first part with the beginning of a spelling of the second behind
+/// it.
 pub fn joined_parts_are_viable_in_turn<A: Spelled, B: Spelled>()
     ensures { (y : B.Value) (d : List ℕ) → B.spells y d
         → (b : List ℕ) → IsViable (JoinedBy A.spells (λ _. B.spells)) b ↔ (IsViable A.spells b ⊎ IsPartway A.spells (λ _. B.spells) b) }
 {}
 
-/// Two readers refuse one input. The refusal that came farther is right for a reader that accepts what either of
-/// them accepts.
+/// Two readers refuse one input. The refusal of the one that came farther is right for a reader that accepts what
+/// either of them accepts.
 pub fn farther_refusals_are_those_of_a_choice<A: Spelled, B: Spelled>()
     ensures { (input : List ℕ) (first second : Refusal) → IsRefusal A.spells input first → IsRefusal B.spells input second
         → IsRefusal (OneOf A.spells B.spells) input (farther_of first second) }

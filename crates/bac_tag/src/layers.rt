@@ -1,5 +1,5 @@
-//! For the layers above, and for whoever reads or writes octets itself: heads among those that may stand at a place,
-//! heads of one octet, heads that are found at once, heads appended, marks of parts, and numbers. A program that
+//! For the layers above, and for programs that read or write octets themselves: heads among those that may stand at a
+//! place, heads of one octet, heads that are found at once, heads appended, marks of parts, and numbers. A program that
 //! handles whole messages needs none of it.
 
 pub use crate::appending::append_head;

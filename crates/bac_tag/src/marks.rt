@@ -8,8 +8,8 @@ ghost use Rattle.bac_tag.specs.Heads.{IsValid, Heads};
 use crate::writing::first_octet;
 use crate::{TagHead, head_len, write_head};
 
-/// Returns the offset of the first octet that differs between the two lists, or at which the shorter one ends. It
-/// returns None where the lists are equal.
+/// Returns the offset of the first octet that differs between the two lists, or at which the shorter one ends. Returns
+/// None if the lists are equal.
 pub fn first_difference(a: &[u8], b: &[u8]) -> Option<usize>
     ensures none { IfNone result (a.now ≡ b.now) }
     ensures some { IfSome result (FirstDifference a.now b.now) }
@@ -27,8 +27,8 @@ pub fn first_difference(a: &[u8], b: &[u8]) -> Option<usize>
     }
 }
 
-/// Returns the offset of the first octet of `taken` that differs from the canonical octets of `head`, or None
-/// where `taken` is canonical.
+/// Returns the offset of the first octet of `taken` that differs from the canonical octets of `head`, or None if
+/// `taken` is equal to them.
 ///
 /// `head` must be valid, and `taken` a spelling of some head, not necessarily of this one.
 #[inline(always)]
@@ -37,14 +37,14 @@ pub fn mark_head(taken: &[u8], head: TagHead) -> Option<usize>
     requires spelled { IsSpelling Heads taken.now }
     ensures { (b : List ℕ) → IsLeast (Heads head) b → IsMark taken.now b result }
 {
-    // In most spellings that are not the least one the first octet is another.
+    // In most spellings that are not the least one, the first octet differs.
     if taken[0] != first_octet(head) {
         return Some(0);
     }
     mark_whole_head(taken, head)
 }
 
-/// What [`mark_head`] returns, by all the canonical octets.
+/// Returns what [`mark_head`] returns. All the canonical octets are compared.
 #[inline(never)]
 fn mark_whole_head(taken: &[u8], head: TagHead) -> Option<usize>
     requires valid { IsValid head }
@@ -55,7 +55,7 @@ fn mark_whole_head(taken: &[u8], head: TagHead) -> Option<usize>
 }
 
 /// Returns what [`mark_head`] returns. `taken` must be a spelling of `read`: [`read_head`](crate::read_head) has
-/// told its head already, so canonical octets need not be compared.
+/// returned `read` already, so canonical octets need not be compared.
 #[inline(always)]
 pub fn mark_read_head(taken: &[u8], read: TagHead, head: TagHead) -> Option<usize>
     requires valid { IsValid head }

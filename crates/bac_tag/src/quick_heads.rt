@@ -8,8 +8,8 @@ ghost use Rattle.bac_tag.specs.Short.{headed, BeginsLong};
 use crate::TagHead;
 use crate::writing::initial_octet;
 
-/// What stands in front of the length of a head (clause 20.2.1.2): whether the class is context, the number, the LVT, and
-/// how many octets these take.
+/// Returns what stands in front of the length of a head (clause 20.2.1.2): true if the class is context, the number,
+/// the LVT, and how many octets they take.
 #[inline(always)]
 fn find_opening(octets: &[u8]) -> Option<(bool, u8, u8, usize)>
     ensures within { IfSome result (λ found. found.3 ≤ length octets.now) }
@@ -30,8 +30,8 @@ fn find_opening(octets: &[u8]) -> Option<(bool, u8, u8, usize)>
     Some((context, number, lvt, 2))
 }
 
-/// A length with this LVT, which stands in one octet at the place if it does not stand in the LVT (clause 20.2.1.3.1); and
-/// where it ends.
+/// Returns the length with this LVT, and the place where it ends. The length is the LVT, or stands in one octet at
+/// `start` (clause 20.2.1.3.1).
 #[inline(always)]
 fn find_length(octets: &[u8], start: usize, lvt: u8) -> Option<(u32, usize)>
     requires { start ≤ length octets.now }
@@ -48,7 +48,8 @@ fn find_length(octets: &[u8], start: usize, lvt: u8) -> Option<(u32, usize)>
     Some((u32::from(len), start + 1))
 }
 
-/// A length in two octets or four behind the one at the place, which says so (clause 20.2.1.3.1); and where it ends.
+/// Returns the length in two or four octets behind the octet at `start`, which says how many (clause 20.2.1.3.1), and
+/// the place where it ends.
 #[inline(always)]
 fn find_wide_length(octets: &[u8], start: usize) -> Option<(u32, usize)>
     requires { start ≤ length octets.now }
@@ -69,8 +70,8 @@ fn find_wide_length(octets: &[u8], start: usize) -> Option<(u32, usize)>
     None
 }
 
-/// Whether the first octet has this class, and leaves the number to an octet behind it, or has this number and leaves the
-/// length to those (clauses 20.2.1.2 and 20.2.1.3.1).
+/// Returns true if the first octet has this class, and either leaves the number to the octet behind it, or has this
+/// number and leaves the length to the octets behind it (clauses 20.2.1.2 and 20.2.1.3.1).
 #[inline(always)]
 pub fn begins_long(octets: &[u8], context: bool, number: u8) -> bool
     ensures { IsTrue result ↔ BeginsLong (class_bit context) number octets.now }
@@ -82,11 +83,11 @@ pub fn begins_long(octets: &[u8], context: bool, number: u8) -> bool
         || number < 15 && *initial == initial_octet(number, context, 5)
 }
 
-/// Returns the length in the head with this class and number at the front of the octets (clause 20.2.1), in any tolerated
-/// spelling, and how many octets the head takes. None tells nothing of the octets.
+/// Returns the length in the head with this class and number at the front of the octets (clause 20.2.1), in any
+/// tolerated spelling, and how many octets the head takes. None says nothing about the octets.
 ///
-/// The number must be one that the class uses: 0 to 254 where `context` is true, else 0 or 2 to 12. The octets must begin as
-/// [`begins_long`] tells.
+/// The number must be one that the class uses: 0 to 254 if `context` is true, else 0 or 2 to 12. [`begins_long`] must
+/// return true for the octets.
 #[inline(always)]
 pub fn long_length(octets: &[u8], _context: bool, number: u8) -> Option<(u32, usize)>
     requires valid { IsValid (headed _context number 0) }
@@ -111,11 +112,11 @@ pub fn long_length(octets: &[u8], _context: bool, number: u8) -> Option<(u32, us
     Some((len, end))
 }
 
-/// Returns the head at the front of the octets (clause 20.2.1), in any tolerated spelling, and how many octets it takes.
-/// None tells nothing of the octets: heads with longer lengths, and those of Booleans, are left to
+/// Returns the head at the front of the octets (clause 20.2.1), in any tolerated spelling, and how many octets it
+/// takes. None says nothing about the octets: heads with longer lengths, and those of Booleans, are left to
 /// [`read_head`](crate::read_head).
 ///
-/// Nothing is kept for a refusal, so this is the fast way where the octets begin with a head.
+/// Nothing is kept for a refusal, so this is the fast way if the octets begin with a head.
 #[inline(always)]
 pub fn quick_head(octets: &[u8]) -> Option<(TagHead, usize)>
     ensures { IfSome result (Takes Heads octets.now) }

@@ -20,7 +20,7 @@ struct Front {
     lvt: u8,
 }
 
-/// The nibble, whether the class is context, and the LVT of an initial octet.
+/// Returns the parts of an initial octet: the nibble, true if the class is context, and the LVT.
 #[inline(always)]
 pub(crate) fn initial_parts(octet: u8) -> (u8, bool, u8)
     ensures parts { octet ≡ 16 * result.0 + 8 * class_bit result.1 + result.2 }
@@ -30,14 +30,15 @@ pub(crate) fn initial_parts(octet: u8) -> (u8, bool, u8)
     (octet >> 4, (octet >> 3) & 1 == 1, octet & 7)
 }
 
-/// Why an initial octet is refused: for its length where the same number could stand there with another one.
+/// Returns the reason why an initial octet is refused: its length, if the same number could stand there with another
+/// length, else its tag.
 #[inline(always)]
 fn reason_at_first(expected: Expected, context: bool, number: u8, lvt: u8) -> Why
     ensures reason { IsHeadReason result }
     ensures hopeless { result ≢ Why.Short }
 {
     let has_length = !context || lvt < 6;
-    // Where a number uses any LVT of a length it uses 0 or 5.
+    // A number that uses any LVT of a length uses 0 or 5.
     let is_used = expected.uses(context, number, 5) || expected.uses(context, number, 0);
     if has_length && is_used {
         Why::Length
@@ -46,7 +47,7 @@ fn reason_at_first(expected: Expected, context: bool, number: u8, lvt: u8) -> Wh
     }
 }
 
-/// The initial octet and the number octet or none.
+/// Reads the initial octet, and the number octet if there is one.
 #[inline(always)]
 fn read_front(octets: &[u8], expected: Expected) -> Result<(Front, usize), Refusal>
     requires { IsSound expected }
@@ -93,7 +94,7 @@ fn read_front(octets: &[u8], expected: Expected) -> Result<(Front, usize), Refus
     ))
 }
 
-/// The number that the first `width` octets spell, which lies from `low` to `high`.
+/// Reads the number, from `low` to `high`, that the first `width` octets spell.
 fn read_number(octets: &[u8], width: usize, low: u64, high: u64) -> Result<u64, Refusal>
     requires within { width ≤ 8 }
     requires range { low ≤ high }
@@ -116,7 +117,7 @@ const TWO_OCTETS: u8 = 0xFE;
 /// The length octet that says that four octets of a length follow.
 const FOUR_OCTETS: u8 = 0xFF;
 
-/// A length from `least` to `most` in `width` octets behind the first one, which says so.
+/// Reads a length from `least` to `most` in `width` octets behind the first one, which says how many they are.
 fn read_wide_length(
     octets: &[u8],
     width: usize,
@@ -139,7 +140,7 @@ fn read_wide_length(
     }
 }
 
-/// The octets of a length from `least` to `most` whose LVT this is.
+/// Reads the octets of a length from `least` to `most` with this LVT.
 #[inline(always)]
 fn read_length(octets: &[u8], lvt: u8, least: u32, most: u32) -> Result<(u32, usize), Refusal>
     requires lvt { HasLvt least most lvt }
@@ -173,8 +174,8 @@ fn read_length(octets: &[u8], lvt: u8, least: u32, most: u32) -> Result<(u32, us
 /// The expectation must be sound: its numbers are used by its class, and `least` is no greater than `most`.
 ///
 /// # Errors
-/// The place is that of the first octet with which no expected head begins, and the reason is `Tag` or `Length`.
-/// Where the octets end before there is such an octet, it is `Short`, and the place is their number.
+/// The place is that of the first octet with which no expected head begins, and the reason is `Tag` or `Length`. If all
+/// the octets only begin an expected head, the reason is `Short`, and the place is their number.
 #[inline(always)]
 pub fn read_expected(octets: &[u8], expected: Expected) -> Result<(TagHead, usize), Refusal>
     requires { IsSound expected }
@@ -214,8 +215,8 @@ pub fn read_expected(octets: &[u8], expected: Expected) -> Result<(TagHead, usiz
 /// needs.
 ///
 /// # Errors
-/// The place is that of the first octet with which no valid head begins, and the reason is `Tag` or `Length`.
-/// Where the octets end before there is such an octet, it is `Short`, and the place is their number.
+/// The place is that of the first octet with which no valid head begins, and the reason is `Tag` or `Length`. If all
+/// the octets only begin a valid head, the reason is `Short`, and the place is their number.
 ///
 /// # Examples
 /// ```rust
@@ -236,7 +237,7 @@ pub fn read_head(octets: &[u8]) -> Result<(TagHead, usize), Refusal>
     read_expected(octets, Expected::AnyHead)
 }
 
-/// Whether one of several expectations has the head.
+/// Returns true if the head fits one of several expectations.
 fn fits_one(expected: &[Expected], head: TagHead) -> bool
     ensures { IsTrue result ↔ FitsOne expected.now head }
 {
@@ -246,7 +247,7 @@ fn fits_one(expected: &[Expected], head: TagHead) -> bool
     }
 }
 
-/// The refusal of octets that begin with none of the expected heads.
+/// Returns the refusal of octets that begin with none of the expected heads.
 fn refusal_of_all(octets: &[u8], expected: &[Expected]) -> Refusal
     requires some { 0 < length expected.now }
     requires sound { AllByRecursion IsSound expected.now }
@@ -272,8 +273,8 @@ fn refusal_of_all(octets: &[u8], expected: &[Expected]) -> Refusal
 /// There must be at least one expectation, and each must be sound, as [`read_expected`] says.
 ///
 /// # Errors
-/// The place is that of the first octet with which a head of none of the expectations begins, and the reason is
-/// `Tag` or `Length`. Where the octets end before there is such an octet, it is `Short`, and the place is their
+/// The place is that of the first octet with which a head of none of the expectations begins, and the reason is `Tag`
+/// or `Length`. If all the octets only begin a head of one of them, the reason is `Short`, and the place is their
 /// number.
 pub fn read_one_of(octets: &[u8], expected: &[Expected]) -> Result<(TagHead, usize), Refusal>
     requires some { 0 < length expected.now }

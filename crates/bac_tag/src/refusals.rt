@@ -8,7 +8,7 @@ use std::error::Error;
 use std::fmt;
 use std::fmt::Display;
 
-/// Why an input is refused. The reasons are in order as they stand here.
+/// Why an input is refused. The reasons are ordered as they stand here.
 #[derive(Clone, Copy, Debug, PartialEq, Eq, PartialOrd, Ord, Hash)]
 pub enum Why {
     /// The input ends where more must come.
@@ -31,7 +31,7 @@ pub enum Why {
     Content,
     /// A group inside too many others.
     Depth,
-    /// A spelling that is tolerated and not canonical. Only strict calls tell it.
+    /// A spelling that is tolerated and not canonical. Only strict calls report it.
     NotCanonical,
     /// Memory was refused. The place is 0.
     OutOfMemory,
@@ -83,15 +83,15 @@ impl Error for Why {}
 /// ```
 #[derive(Clone, Copy, Debug, PartialEq, Eq)]
 pub struct Refusal {
-    /// The offset of the first octet with which no accepted input begins, counted from 0. It is the number of
-    /// octets where the input is only too short, and 0 where memory was refused.
+    /// The offset of the first octet with which no accepted input begins, counted from 0. It is the number of octets if
+    /// the input is only too short, and 0 if memory was refused.
     pub place: usize,
     /// The reason.
     pub why: Why,
 }
 
 impl Why {
-    /// Returns the refusal for this reason at this place, which [`Refusal`] says how to count.
+    /// Returns the refusal for this reason at this place. [`Refusal`] says how a place is counted.
     #[inline(always)]
     pub fn at(self, place: usize) -> Refusal
         ensures { result ≡ record { place = place; why = self } }
@@ -99,7 +99,8 @@ impl Why {
         Refusal { place, why: self }
     }
 
-    /// How telling the reason is, where several readings of an input come to one place.
+    /// Returns the weight of the reason. If several readings of an input are refused at the same place, the greatest
+    /// weight decides.
     #[inline(always)]
     fn weight(self) -> u8
         ensures { result ≡ weight_of self }
@@ -113,7 +114,7 @@ impl Why {
 }
 
 impl Refusal {
-    /// Returns the refusal where memory was refused: its place is 0.
+    /// Returns the refusal for the reason `OutOfMemory`: its place is 0.
     #[inline(always)]
     pub fn out_of_memory() -> Refusal
         ensures { result ≡ record { place = 0; why = Why.OutOfMemory } }
@@ -121,9 +122,9 @@ impl Refusal {
         Why::OutOfMemory.at(0)
     }
 
-    /// Returns the refusal with the greater place: of two readings of one input, the one that came farther. At one
-    /// place `Depth` goes before `Length`, and `Length` before the other reasons. Where that decides nothing it is
-    /// `self`.
+    /// Returns the refusal with the greater place: of two readings of one input, that of the one that came farther. If
+    /// the places are equal, `Depth` goes before `Length`, and `Length` before the other reasons. If that decides
+    /// nothing, it returns `self`.
     #[inline(always)]
     pub fn farther(self, other: Refusal) -> Refusal
         ensures { result ≡ farther_of self other }
@@ -151,7 +152,7 @@ impl Refusal {
     }
 }
 
-/// As `Tag at 3`.
+/// Writes the reason and the place, as in `Tag at 3`.
 impl Display for Refusal {
     fn fmt<W: fmt::Write>(&self, formatter: &mut fmt::Formatter<W>) -> fmt::Result {
         write!(formatter, "{} at {}", self.why, self.place)

@@ -8,10 +8,10 @@ ghost use Rattle.bac_tag.specs.Short.{headed, BeginsShort, BeginsWith};
 use crate::reading::initial_parts;
 use crate::writing::initial_octet;
 
-/// Returns the length in the head with this class and number, 0 to 4, where the first octet alone is the canonical
-/// spelling of such a head. Else it returns None.
+/// Returns the length, 0 to 4, in the head whose canonical spelling is the first octet alone, if that head has this
+/// class and number. Else it returns None.
 ///
-/// The number must be one that the class uses: 0 to 254 where `context` is true, else 0 or 2 to 12.
+/// The number must be one that the class uses: 0 to 254 if `context` is true, else 0 or 2 to 12.
 #[inline(always)]
 pub fn short_len(octets: &[u8], context: bool, number: u8) -> Option<usize>
     requires { IsValid (headed context number 0) }
@@ -25,7 +25,7 @@ pub fn short_len(octets: &[u8], context: bool, number: u8) -> Option<usize>
     if number > 14 {
         return None;
     }
-    // Behind an octet with another number or class this is 8 or more, also where it wraps.
+    // For an octet with another number or class this is 8 or more, also if it wraps.
     let lvt = initial.wrapping_sub(initial_octet(number, context, 0));
     if lvt < 5 {
         Some(usize::from(lvt))
@@ -34,8 +34,8 @@ pub fn short_len(octets: &[u8], context: bool, number: u8) -> Option<usize>
     }
 }
 
-/// Returns the value of the application Boolean (clause 20.2.3) that the first octet alone spells, which has no other
-/// octet. Else it returns None.
+/// Returns the value of the application Boolean (clause 20.2.3) if the first octet alone is the canonical spelling of
+/// one. Else it returns None.
 #[inline(always)]
 pub fn short_boolean(octets: &[u8]) -> Option<bool>
     ensures some { IfSome result (λ value. BeginsShort (AppBool value) octets.now) }
@@ -48,8 +48,8 @@ pub fn short_boolean(octets: &[u8]) -> Option<bool>
     }
 }
 
-/// Whether the first octet alone is the canonical spelling of the opening tag with this number, which must be at
-/// most 254.
+/// Returns true if the first octet alone is the canonical spelling of the opening tag with this number, which must be
+/// at most 254.
 #[inline(always)]
 pub fn is_short_opening(octets: &[u8], number: u8) -> bool
     requires { IsValid (Open number) }
@@ -58,8 +58,8 @@ pub fn is_short_opening(octets: &[u8], number: u8) -> bool
     begins_tag(octets, number, 6)
 }
 
-/// Whether the first octet alone is the canonical spelling of the closing tag with this number, which must be at
-/// most 254.
+/// Returns true if the first octet alone is the canonical spelling of the closing tag with this number, which must be
+/// at most 254.
 #[inline(always)]
 pub fn is_short_closing(octets: &[u8], number: u8) -> bool
     requires { IsValid (Close number) }
@@ -68,7 +68,7 @@ pub fn is_short_closing(octets: &[u8], number: u8) -> bool
     begins_tag(octets, number, 7)
 }
 
-/// Whether the first octet has context class, this number in its nibble and this LVT.
+/// Returns true if the first octet has context class, this number in its nibble and this LVT.
 #[inline(always)]
 fn begins_tag(octets: &[u8], number: u8, lvt: u8) -> bool
     requires { lvt < 8 }

@@ -8,7 +8,7 @@ ghost use Rattle.bac_tag.specs.Writing.{number_form, length_form, narrow_opening
 use crate::TagHead;
 use arrayvec::ArrayVec;
 
-/// The octet with this nibble, class and LVT.
+/// Returns the octet with this nibble, class and LVT.
 #[inline(always)]
 pub(crate) fn initial_octet(nibble: u8, context: bool, lvt: u8) -> u8
     requires nibble { nibble < 16 }
@@ -18,7 +18,7 @@ pub(crate) fn initial_octet(nibble: u8, context: bool, lvt: u8) -> u8
     (nibble << 4) | (u8::from(context) << 3) | lvt
 }
 
-/// The initial octet, and the number octet where the nibble has no room for the number.
+/// Returns the initial octet, and the number octet if the nibble has no room for the number.
 #[inline(always)]
 fn opening(context: bool, number: u8, lvt: u8) -> ArrayVec<u8, 7>
     requires number { number < 255 }
@@ -35,7 +35,7 @@ fn opening(context: bool, number: u8, lvt: u8) -> ArrayVec<u8, 7>
     octets
 }
 
-/// A head with a length, in its narrowest form.
+/// Returns the octets of a head with a length, in the narrowest form.
 #[inline(always)]
 fn with_length(context: bool, number: u8, len: u32) -> ArrayVec<u8, 7>
     requires { number < 255 }
@@ -66,8 +66,8 @@ fn with_length(context: bool, number: u8, len: u32) -> ArrayVec<u8, 7>
     }
 }
 
-/// Returns the canonical octets of the head (clause 20.2.1): the least list that spells it, of at most 7 octets.
-/// The head must be valid, as [`TagHead::is_valid`] tells.
+/// Returns the canonical octets of the head (clause 20.2.1): the least list that spells it, of at most 7 octets. The
+/// head must be valid: [`TagHead::is_valid`] must return true.
 ///
 /// # Examples
 /// ```rust
@@ -96,8 +96,8 @@ pub fn write_head(head: TagHead) -> ArrayVec<u8, 7>
     }
 }
 
-/// How many octets the initial octet and the number octet are (clause 20.2.1.2): 2 where the nibble has no room
-/// for the number.
+/// Returns how many octets the initial octet and the number octet are together (clause 20.2.1.2): 2 if the nibble has
+/// no room for the number, else 1.
 #[inline(always)]
 fn opening_len(number: u8) -> usize
     ensures { result ≡ 1 + length (number_octets (number_form number) number) }
@@ -108,8 +108,8 @@ fn opening_len(number: u8) -> usize
     }
 }
 
-/// How many octets a length takes behind those, in its narrowest form (clause 20.2.1.3.1): none where it is the
-/// LVT, else 1, or 3 with `FE` in front, or 5 with `FF` in front.
+/// Returns how many octets a length takes behind those, in its narrowest form (clause 20.2.1.3.1): 0 if it is the LVT,
+/// else 1, or 3 with `FE` in front, or 5 with `FF` in front.
 #[inline(always)]
 fn length_len(len: u32) -> usize
     ensures { result ≡ length (length_octets (length_form len) len) }
@@ -137,7 +137,7 @@ pub fn head_len(head: TagHead) -> usize
     }
 }
 
-/// The initial octet of a head in its narrowest form, with this class, number and LVT.
+/// Returns the initial octet of a head in its narrowest form, with this class, number and LVT.
 #[inline(always)]
 fn narrow_initial(context: bool, number: u8, lvt: u8) -> u8
     requires { lvt < 8 }
@@ -149,7 +149,7 @@ fn narrow_initial(context: bool, number: u8, lvt: u8) -> u8
     }
 }
 
-/// The LVT of a length in its narrowest form: the length, or 5 where it stands in octets of its own.
+/// Returns the LVT of a length in its narrowest form: the length, or 5 if it stands in octets of its own.
 #[inline(always)]
 fn length_lvt(len: u32) -> u8
     ensures lvt { result ≡ lvt_of (length_form len) len }
@@ -159,7 +159,8 @@ fn length_lvt(len: u32) -> u8
     if len < 5 { len as u8 } else { 5 }
 }
 
-/// The first of the octets that [`write_head`] writes of the head, without the others. The head must be valid.
+/// Returns the first of the octets that [`write_head`] writes of the head, without writing the others. The head must be
+/// valid.
 #[inline(always)]
 pub(crate) fn first_octet(head: TagHead) -> u8
     requires { IsValid head }
@@ -175,8 +176,8 @@ pub(crate) fn first_octet(head: TagHead) -> u8
     }
 }
 
-/// The second of the octets that [`write_head`] writes of a head, where they are two: the number octet, or where the
-/// nibble has room for the number that of the length.
+/// Returns the second of the octets that [`write_head`] writes of a head, if they are two: the number octet, or that of
+/// the length if the nibble has room for the number.
 #[inline(always)]
 pub(crate) fn second_octet(head: TagHead) -> u8
     requires { IsValid head }

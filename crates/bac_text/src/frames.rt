@@ -12,7 +12,7 @@ use crate::texts::{HasText, write_field, write_named, write_optional, write_word
 use bac_npdu::{Addressed, Body, DestRef, Frame, FrameHead};
 use bac_tag::OutOfMemory;
 
-/// Writes the octets of an address, or `*` where it has none.
+/// Writes the octets of an address, or `*` if it has none.
 fn write_address(out: &mut Vec<u8>, at: usize, octets: &[u8]) -> Result<usize, OutOfMemory>
     requires { at ≤ length out.old.items }
     ensures text { IfOk result (λ end. take end out.new.items ≡ take at out.old.items ++ address_text octets.now) }
@@ -25,7 +25,7 @@ fn write_address(out: &mut Vec<u8>, at: usize, octets: &[u8]) -> Result<usize, O
     write_digits(out, at, octets)
 }
 
-/// Writes `prio=P reply=R`, with which every line begins, at once.
+/// Writes `prio=P reply=R`, with which every line begins, in one step.
 #[inline(always)]
 fn write_control(
     out: &mut Vec<u8>,
@@ -85,12 +85,12 @@ impl HasText for Body {
     }
 }
 
-/// Writes the text of the frame with this head and this body, which [`append_text`] describes, at a place of the vector,
-/// which must be at most its length, and returns where it ends. The vector is made longer where it has too little room;
-/// behind the end anything may stand.
+/// Writes the text of the frame with this head and this body, which [`append_text`] describes, at the place `at` of the
+/// vector, which must be at most its length. Returns where the text ends. The vector is made longer if it has too
+/// little room. Behind the end of the text anything may stand.
 ///
 /// # Errors
-/// `OutOfMemory` where memory is refused. Some of the text may then be there.
+/// `OutOfMemory` if memory is refused. `out` may then hold some of the text.
 pub fn write_text_of(
     head: &FrameHead<'_>,
     body: &Body,
@@ -108,13 +108,12 @@ pub fn write_text_of(
     write_field(out, end, b" ", body)
 }
 
-/// Appends the text of a frame, without a line feed behind it:
-/// `prio=P reply=R [dest=NET/ADR hops=H] [src=NET/HEX]` and the APDU or the network message. P is the priority, R whether
-/// a reply is expected, NET a network, HEX an address on it, ADR the same or `*` for an address without octets, and H the
-/// hop count.
+/// Appends the text of a frame, without a line feed behind it: `prio=P reply=R [dest=NET/ADR hops=H] [src=NET/HEX]` and
+/// the APDU or the network message. P is the priority, R whether a reply is expected, NET a network, HEX an address on
+/// it, ADR the same or `*` for an address without octets, and H the hop count.
 ///
 /// # Errors
-/// `OutOfMemory` where memory is refused. `out` then stays as it was.
+/// `OutOfMemory` if memory is refused. `out` then stays as it was.
 ///
 /// # Examples
 /// ```rust

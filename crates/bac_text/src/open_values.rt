@@ -26,7 +26,7 @@ fn put_blank(room: &mut [u8], at: usize, first: bool) -> usize
     put_word(room, at, b" ")
 }
 
-/// Writes a blank, unless what follows is the first of its group, `[N` of a number, and what stands behind it.
+/// Writes a blank unless what follows is the first of its group, then `[N` for the number N, then the octets `behind`.
 #[inline(always)]
 fn write_tag<const N: usize>(
     out: &mut Vec<u8>,
@@ -48,7 +48,7 @@ fn write_tag<const N: usize>(
     Ok(put_word(room, end, behind))
 }
 
-/// Writes what one event adds.
+/// Writes what one event adds to the text.
 #[inline(always)]
 fn write_event(
     out: &mut Vec<u8>,
@@ -77,7 +77,7 @@ fn write_event(
     }
 }
 
-/// Whether what stands behind an event is the first of its group.
+/// Returns true if what stands behind an event is the first of its group.
 #[inline]
 fn begins_group(event: &Event<'_>) -> bool
     ensures { result ≡ begins_group (event_of event.now) }

@@ -18,7 +18,7 @@ use bac_record::layers::{make_room, put_octets, put_signed_decimal, put_word};
 use bac_tag::OutOfMemory;
 use bac_value::{Boolean, Null, PrimRef};
 
-/// Whether an octet is neither a control octet nor a quotation mark, a backslash or a delete.
+/// Returns true if an octet is neither a control octet nor a quotation mark, a backslash or a delete.
 #[inline]
 fn is_plain_octet(octet: u8) -> bool
     ensures { result ≡ is_plain_octet octet }
@@ -26,21 +26,22 @@ fn is_plain_octet(octet: u8) -> bool
     octet >= b' ' && octet != b'"' && octet != b'\\' && octet != 0x7F
 }
 
-/// Whether each octet is plain.
+/// Returns true if each octet is plain.
 fn are_plain_octets(octets: &[u8]) -> bool
     ensures { result ≡ list_all is_plain_octet octets.now }
 {
     octets.iter().all(|octet| is_plain_octet(*octet))
 }
 
-/// Whether octets are UTF-8.
+/// Returns true if the octets are UTF-8.
 fn is_utf8(octets: &[u8]) -> bool
     ensures { result ≡ is_utf8 octets.now }
 {
     simdutf8::basic::from_utf8(octets).is_ok()
 }
 
-/// Whether the octets of a text are shown as they are: in UTF-8, and each of them plain.
+/// Returns true if the octets of a text are shown as they are: its character set is 0, they are UTF-8, and each of them
+/// is plain.
 fn is_plain(set: u8, octets: &[u8]) -> bool
     ensures { result ≡ is_plain (record { set = set; octets = octets.now }) }
 {
@@ -61,7 +62,7 @@ fn write_quoted(out: &mut Vec<u8>, at: usize, octets: &[u8]) -> Result<usize, Ou
     Ok(put_word(room, end, b"\""))
 }
 
-/// Writes `s:"TEXT"` where the octets of the text are plain, or `sSET:OCTETS`.
+/// Writes `s:"TEXT"` if the octets of the text are shown as they are, and otherwise `sSET:OCTETS`.
 fn write_string(out: &mut Vec<u8>, at: usize, set: u8, octets: &[u8]) -> Result<usize, OutOfMemory>
     requires { at ≤ length out.old.items }
     ensures text { IfOk result (λ end. take end out.new.items ≡ take at out.old.items ++ string_text (record { set = set; octets = octets.now })) }
@@ -76,7 +77,7 @@ fn write_string(out: &mut Vec<u8>, at: usize, set: u8, octets: &[u8]) -> Result<
     }
 }
 
-/// The digit of a bit.
+/// Returns the digit of a bit.
 #[inline]
 fn bit_digit(packed: &[u8], place: usize) -> u8
     requires { place / 8 < length packed.now }
@@ -89,7 +90,7 @@ fn bit_digit(packed: &[u8], place: usize) -> u8
     }
 }
 
-/// Writes a digit for each of so many bits at a place. Returns where they end.
+/// Writes a digit for each of `count` bits at a place. Returns where the digits end.
 fn put_bits(room: &mut [u8], at: usize, packed: &[u8], count: usize) -> usize
     requires packed { IsPacked count packed.now }
     requires room { at + count ≤ length room.old }
@@ -102,7 +103,7 @@ fn put_bits(room: &mut [u8], at: usize, packed: &[u8], count: usize) -> usize
     at + count
 }
 
-/// Writes `b:` and a digit for each of so many bits.
+/// Writes `b:` and a digit for each of `count` bits.
 fn write_bits(
     out: &mut Vec<u8>,
     at: usize,

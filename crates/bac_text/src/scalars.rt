@@ -42,7 +42,7 @@ pub(crate) fn write_octets<const N: usize>(
     write_digits(out, end, octets)
 }
 
-/// Writes a name, and two digits for each octet of a few, at most sixteen.
+/// Writes a name, and two digits for each of at most sixteen octets.
 #[inline(always)]
 pub(crate) fn write_few_octets<const N: usize, const M: usize>(
     out: &mut Vec<u8>,

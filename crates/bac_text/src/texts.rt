@@ -14,8 +14,8 @@ pub(crate) trait HasText: Drop {
     /// Its text.
     ghost text: { Self → List ℕ };
 
-    /// Writes the text at a place of the vector, which is made longer where it has too little room. Returns where it ends.
-    /// Where memory is refused some of the text may be there.
+    /// Writes the text at the place `at` of the vector, which is made longer if it has too little room. Returns where
+    /// the text ends. If memory is refused, `out` may hold some of the text.
     fn write_text(&self, out: &mut Vec<u8>, at: usize) -> Result<usize, OutOfMemory>
         requires { at ≤ length out.old.items }
         ensures text { IfOk result (λ end. take end out.new.items ≡ take at out.old.items ++ text self.now) }
@@ -58,7 +58,7 @@ pub(crate) fn put_field<T: HasShortText, const N: usize>(
     part.put_text(room, end)
 }
 
-/// Writes a name and a part at a place, where the part is there, and returns where they end.
+/// Writes a name and a part at a place, if the part is there, and returns where they end.
 #[inline(always)]
 pub(crate) fn put_optional<T: HasShortText, const N: usize>(
     room: &mut [u8],
@@ -144,7 +144,7 @@ pub(crate) fn write_field<T: HasText, const N: usize>(
     part.write_text(out, end)
 }
 
-/// Writes a name and a part, where the part is there.
+/// Writes a name and a part, if the part is there.
 #[inline(always)]
 pub(crate) fn write_optional<T: HasText, const N: usize>(
     out: &mut Vec<u8>,

@@ -15,7 +15,7 @@ pub enum JobFault {
     Pack(PackFault),
 }
 
-/// With the number of the record or line where that is at fault.
+/// Writes the fault, with the number of the record or line if that is at fault.
 impl Display for JobFault {
     fn fmt<W: fmt::Write>(&self, formatter: &mut fmt::Formatter<W>) -> fmt::Result {
         match self {

@@ -1,9 +1,9 @@
 //! The program `bactool`: shows, checks, normalises and packs files of BACnet frames (ANSI/ASHRAE 135).
 //!
 //! A file is a list of records, each two octets of length and then a frame: one NPDU (clause 6), with an APDU (clause
-//! 20.1) or a network message (clause 6.4) in it. The runs over such files are those of bac_stream, and the one that makes
-//! a file of lines of hexadecimal digits that of bac_pack; here stand the words of the command line, the exit status and
-//! what is told on standard error.
+//! 20.1) or a network message (clause 6.4) in it. The runs over these files are those of bac_stream. The run that makes
+//! a file from lines of hexadecimal digits is that of bac_pack. Here stand the words of the command line, the exit
+//! status and what is written to standard error.
 #![tactic(auto)]
 
 mod command_line;
@@ -21,7 +21,7 @@ use std::process::ExitCode;
 pub use tool::run_tool;
 pub use words::job;
 
-/// The status where the words or the standard streams cannot be had.
+/// The status if the words or the standard streams are not available.
 const FAILED: u8 = 2;
 
 fn main(rt: HostRuntime) -> ExitCode {
@@ -34,7 +34,7 @@ fn main(rt: HostRuntime) -> ExitCode {
     }
 }
 
-/// Hands the words and the standard streams of the process over.
+/// Runs the program with the words and the standard streams of the process. Returns its exit status.
 fn run_process(rt: &HostRuntime) -> io::Result<u8> {
     let alloc = rt.alloc();
     let texts: Vec<String> = std::env::args(rt)?.collect(alloc)?;

@@ -21,16 +21,16 @@ const WELL: u8 = 0;
 /// A frame was refused, and nothing worse happened.
 const REFUSED: u8 = 1;
 
-/// The words, a device, the framing or memory.
+/// The words have a fault, or a device, the framing or memory failed.
 const FAILED: u8 = 2;
 
-/// The line that tells want of memory. It is ready, since there may be no memory to make it.
+/// The line that reports that memory was refused. It is a constant, since there may be no memory to make it.
 const OUT_OF_MEMORY: &[u8] = b"bactool: out of memory\n";
 
 /// The longest line on standard error, with room to spare.
 const LINE: usize = 128;
 
-/// Writes the program's name and what it has to say as a line. No memory is taken.
+/// Writes the program's name and `what` as one line. No memory is taken.
 pub(crate) fn tell<E: Output, T: Display>(what: &T, errors: &mut E) {
     let mut line = ArrayString::<LINE>::new();
     if writeln!(line, "bactool: {what}").is_ok() {
@@ -38,14 +38,14 @@ pub(crate) fn tell<E: Output, T: Display>(what: &T, errors: &mut E) {
     }
 }
 
-/// Writes a text, or as much of it as the errors take.
+/// Writes a text, or as much of it as `errors` takes.
 fn tell_text<E: Output>(text: &[u8], errors: &mut E)
     ensures { Receives (record { taken = E.taken errors.old; failures = E.failures errors.old }) (record { taken = E.taken errors.new; failures = E.failures errors.new }) text.now }
 {
     let _ = write_whole(errors, text);
 }
 
-/// Writes a text that was asked for, and gives the status.
+/// Writes a text that was asked for, and returns the status.
 fn write_text<W: Output, E: Output>(text: &[u8], output: &mut W, errors: &mut E) -> u8
     ensures { Gives text.now (record { taken = W.taken output.old; failures = W.failures output.old }) (record { taken = W.taken output.new; failures = W.failures output.new })
         (record { taken = E.taken errors.old; failures = E.failures errors.old }) (record { taken = E.taken errors.new; failures = E.failures errors.new }) result }
@@ -59,7 +59,8 @@ fn write_text<W: Output, E: Output>(text: &[u8], output: &mut W, errors: &mut E)
     }
 }
 
-/// Answers words that name no job, and gives the status: help and the version go to the output, a mistake to the errors.
+/// Answers words that name no job, and returns the status. Help and the version go to the output, a mistake goes to the
+/// errors.
 fn answer_words<W: Output, E: Output>(
     alloc: Global,
     error: &Error,
@@ -112,7 +113,7 @@ fn run_job<R: Input, W: Output>(
     Ok(summary.refused)
 }
 
-/// The exit status by the answer of a job.
+/// Returns the exit status for the answer of a job.
 fn status_of(answer: &Result<u32, JobFault>) -> u8
     ensures { result ≡ status_of_answer answer.now }
 {
@@ -123,11 +124,11 @@ fn status_of(answer: &Result<u32, JobFault>) -> u8
     }
 }
 
-/// Runs the program: does what the words ask for, from the input to the output, with one line on `errors` where it
-/// fails. What `errors` does not take is dropped.
+/// Runs the program: does what the words ask for, from the input to the output, with one line on `errors` if it fails.
+/// What `errors` does not take is dropped.
 ///
-/// Returns the exit status: 0 where all went well, and where help or the version was asked for and written; 1 where a frame was
-/// refused and nothing worse happened; 2 where the words have a fault, or a device, the framing or memory failed.
+/// Returns the exit status: 0 if all went well, or if help or the version was asked for and written; 1 if a frame was
+/// refused and nothing worse happened; 2 if the words have a fault, or a device, the framing or memory failed.
 pub fn run_tool<R: Input, W: Output, E: Output>(
     alloc: Global,
     words: &[&str],

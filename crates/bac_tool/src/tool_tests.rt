@@ -24,7 +24,7 @@ const WRITE_SEVERAL: &str = "0104000502100C004000011E09552E4442C800002F39081F";
 const SHOWN: &str =
     "1 prio=0 reply=1 conf id=1 sa=0 segs=0 resp=5 ReadProperty object=0:5 property=85\n";
 
-/// Stops the test unless what it found in the case is what it wanted.
+/// Stops the test unless `found` is equal to `wanted` in this case.
 fn assert_same<T: PartialEq + Debug + Drop, C: Debug + Drop>(
     rt: &impl Abort,
     found: T,
@@ -34,22 +34,22 @@ fn assert_same<T: PartialEq + Debug + Drop, C: Debug + Drop>(
     assert_eq!(rt; found, wanted, "of {case:?}");
 }
 
-/// Stops the test unless this holds of the case.
+/// Stops the test unless `holds` is true in this case.
 fn assert_holds<C: Debug + Drop>(rt: &impl Abort, holds: bool, case: C) {
     assert!(rt; holds, "of {case:?}");
 }
 
-/// The words of a line, with a bar between each two.
+/// Returns the words of a line, in which bars separate them.
 fn words_of<'a>(rt: &impl Abort, alloc: Global, line: &'a str) -> Vec<&'a str> {
     line.split('|').collect(alloc).expect(rt, "memory")
 }
 
-/// The octets that these digits tell.
+/// Returns the octets that these digits spell.
 fn octets_of(rt: &impl Abort, alloc: Global, digits: &str) -> Vec<u8> {
     hex::decode(alloc, digits.as_bytes()).expect(rt, "octets")
 }
 
-/// The frames as a file of records.
+/// Returns the frames as a file of records.
 fn file_of(rt: &impl Abort, alloc: Global, frames: &[&str]) -> Vec<u8> {
     let mut file = Vec::new(alloc);
     for frame in frames {
@@ -62,12 +62,12 @@ fn file_of(rt: &impl Abort, alloc: Global, frames: &[&str]) -> Vec<u8> {
     file
 }
 
-/// So many of this octet.
+/// Returns `count` octets, each of them this one.
 fn repeated(rt: &impl Abort, alloc: Global, octet: u8, count: usize) -> Vec<u8> {
     vec![in alloc; octet; count].expect(rt, "memory")
 }
 
-/// The status of the program over these devices, and what it tells.
+/// Runs the program over these devices. Returns the status, and what was written to the errors.
 fn told<R: Input, W: Output>(
     alloc: Global,
     words: &[&str],
@@ -79,7 +79,7 @@ fn told<R: Input, W: Output>(
     (status, errors.device)
 }
 
-/// Over the file the program ends with this status, when it has written this output and these errors.
+/// Stops the test unless over the file the program writes this output and these errors, and ends with this status.
 fn runs(
     rt: &impl Abort,
     alloc: Global,
@@ -95,7 +95,8 @@ fn runs(
     assert_same(rt, got, status, line);
 }
 
-/// Over the file the program tells a write fault where the output takes so many octets of the whole.
+/// Stops the test unless over the file the program reports a write fault if the output takes only `room` octets of the
+/// whole.
 fn write_fails(rt: &impl Abort, alloc: Global, line: &str, file: &[u8], whole: &[u8], room: usize) {
     let words = words_of(rt, alloc, line);
     let mut front = repeated(rt, alloc, 0, room);
@@ -186,7 +187,7 @@ fn check_counts_and_stops(rt: HostRuntime) {
     runs(&rt, alloc, "bactool|check", &[], (0, b"", ""));
 }
 
-// Example 30, for a writer of each room.
+// Example 30, for writers that take each number of octets.
 #[test]
 fn a_writer_that_fails_is_told(rt: HostRuntime) {
     let alloc = rt.alloc();
@@ -202,13 +203,13 @@ fn is_shown(rt: &impl Abort, alloc: Global, fault: JobFault, text: &str) {
     assert_same(rt, shown.as_str(), text, fault);
 }
 
-/// A fault of the stream at the third record is shown so.
+/// Stops the test unless this is how a fault of the stream at the third record is shown.
 fn is_shown_of_stream(rt: &impl Abort, alloc: Global, fault: StreamFault, text: &str) {
     let fault = JobFault::Run(RunFault::Stream { at: 3, fault });
     is_shown(rt, alloc, fault, text);
 }
 
-// That a frame is refused is told of records that are normalised.
+// That a frame is refused is reported for records that are normalised.
 #[test]
 fn faults_are_shown(rt: HostRuntime) {
     let alloc = rt.alloc();
@@ -228,7 +229,7 @@ fn faults_are_shown(rt: HostRuntime) {
     is_shown(&rt, alloc, fault, "line 2: not hexadecimal");
 }
 
-/// Gives these octets, one a call, and then fails.
+/// A reader that gives these octets, one in each call, and then fails.
 #[derive(Drop)]
 struct Failing<'a> {
     octets: &'a [u8],
@@ -248,7 +249,8 @@ impl<'a> Read for Failing<'a> {
     }
 }
 
-/// The program tells so of a reader that gives these octets, one a call, and then fails, when it has written this.
+/// Stops the test unless over a reader that gives these octets, one in each call, and then fails, the program writes
+/// this output and this line to the errors, and ends with status 2.
 fn read_fails(
     rt: &impl Abort,
     alloc: Global,
@@ -266,7 +268,7 @@ fn read_fails(
     assert_same(rt, status, 2, octets);
 }
 
-// A reader of one octet a call, for each call that fails.
+// A reader of one octet in each call, for each call that fails.
 #[test]
 fn a_reader_that_fails_is_told(rt: HostRuntime) {
     let alloc = rt.alloc();
@@ -280,8 +282,8 @@ fn a_reader_that_fails_is_told(rt: HostRuntime) {
     }
 }
 
-/// Over a reader that gives this octet without end the program stops behind a million records, when it has written so
-/// many octets.
+/// Stops the test unless over a reader that gives this octet without end the program stops behind a million records,
+/// and has written `count` octets. Returns these octets.
 fn is_left(rt: &impl Abort, alloc: Global, line: &str, octet: u8, count: usize) -> Vec<u8> {
     let words = words_of(rt, alloc, line);
     let mut taken = Counted::new(Vec::new(alloc));
@@ -311,13 +313,13 @@ fn lines_without_end_are_left(rt: HostRuntime) {
     is_left(&rt, rt.alloc(), "bactool|pack", b'\n', 2_000_000);
 }
 
-/// Over a file of F2 alone the program ends with this status, when it has written this output.
+/// Stops the test unless over a file of F2 alone the program writes this output, and ends with this status.
 fn is_run(rt: &impl Abort, alloc: Global, line: &str, status: u8, output: &str) {
     let file = file_of(rt, alloc, &[F2]);
     runs(rt, alloc, line, &file, (status, output.as_bytes(), ""));
 }
 
-// F2 is tolerated and not canonical, so what is written of it tells the command and the mode.
+// F2 is tolerated and not canonical, so what is written of it shows the command and the mode.
 #[test]
 fn words_that_are_taken_are_run(rt: HostRuntime) {
     let alloc = rt.alloc();
@@ -333,7 +335,7 @@ fn words_that_are_taken_are_run(rt: HostRuntime) {
     is_run(&rt, alloc, "another name|check", 0, tolerated);
 }
 
-// The same of `normalise`.
+// The same for `normalise`.
 #[test]
 fn words_of_normalise_are_run(rt: HostRuntime) {
     let alloc = rt.alloc();
@@ -401,7 +403,8 @@ fn pack_tells_of_its_devices(rt: HostRuntime) {
     read_fails(&rt, alloc, "bactool|pack", b"AB\nC", Some(&record), said);
 }
 
-/// Other words: the status is 2, nothing is read and nothing is written; a text is told, as far as there is room.
+/// Stops the test unless the answer to other words is this: the status is 2, nothing is read, nothing is written to the
+/// output, and a text is written to the errors, as far as there is room.
 fn is_answered(rt: &impl Abort, alloc: Global, words: &[&str]) {
     let mut input = Counted::new([0, 0].as_slice());
     let mut taken = Counted::new(Vec::new(alloc));
@@ -436,7 +439,7 @@ bactool|show|--strict|--strict
 bactool|show|check
 bactool|show|--|--strict";
 
-// Which texts answer other words is not fixed; where they go and the statuses are.
+// The texts that answer other words are not fixed. Where they go and the statuses are fixed.
 #[test]
 fn other_words_are_answered(rt: HostRuntime) {
     is_answered(&rt, rt.alloc(), &[]);
@@ -446,7 +449,8 @@ fn other_words_are_answered(rt: HostRuntime) {
     }
 }
 
-/// What the program writes where it is asked for a text: the status is 0, nothing is read and nothing is told.
+/// Returns what the program writes if it is asked for a text. Stops the test unless the status is 0, nothing is read
+/// and nothing is written to the errors.
 fn text_of(rt: &impl Abort, alloc: Global, line: &str) -> Vec<u8> {
     let words = words_of(rt, alloc, line);
     let mut input = Counted::new([0, 0].as_slice());
@@ -465,7 +469,8 @@ fn the_version_is_written(rt: HostRuntime) {
     }
 }
 
-/// The help is written. Where the output does not take it whole that is told as a write fault is.
+/// Stops the test unless the help is written, and a write fault is reported if the output does not take the whole of
+/// it.
 fn is_helped(rt: &impl Abort, alloc: Global, line: &str) {
     let text = text_of(rt, alloc, line);
     let begins = text.starts_with(b"Shows") || text.starts_with(b"Write");

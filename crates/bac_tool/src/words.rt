@@ -12,7 +12,7 @@ use clap::error::ErrorKind;
 use clap::{Arg, ArgAction, ArgMatches, Command, Error};
 use std::alloc::{AllocError, Global};
 
-/// The flag for the strict mode.
+/// Returns the flag for the strict mode.
 fn strict_flag<'a>(alloc: Global) -> Arg<'a>
     ensures rule { rule_of result ≡ strict }
     ensures local { result.global ≡ false }
@@ -23,7 +23,7 @@ fn strict_flag<'a>(alloc: Global) -> Arg<'a>
         .help("Accept canonical records alone")
 }
 
-/// A command that takes the flag.
+/// Returns a command that takes the flag.
 fn moded_command<'a>(
     alloc: Global,
     name: &'a str,
@@ -39,7 +39,7 @@ fn moded_command<'a>(
         .arg(strict_flag(alloc))
 }
 
-/// The command that reads a text and no records, and so takes no flag.
+/// Returns the command that reads a text and no records, and so takes no flag.
 fn pack_command<'a>(alloc: Global) -> Command<'a>
     ensures shape { app_of result ≡ new_app (codes "pack") }
     ensures local { (fields_of result).has_globals ≡ false }
@@ -49,7 +49,7 @@ fn pack_command<'a>(alloc: Global) -> Command<'a>
         .after_help("Example: echo 0104 0005010C 0C00000005 1955 | bactool pack | bactool show")
 }
 
-/// The program before its subcommands.
+/// Returns the program without its subcommands.
 fn bare_command<'a>(alloc: Global) -> Command<'a>
     ensures { app_of result ≡ bare }
 {
@@ -62,7 +62,7 @@ fn bare_command<'a>(alloc: Global) -> Command<'a>
         .disable_help_subcommand(true)
 }
 
-/// The commands of the program.
+/// Returns the program with its subcommands.
 fn command<'a>(alloc: Global) -> Result<Command<'a>, AllocError>
     ensures { IfOk result (λ c. app_of c ≡ bactool) }
 {
@@ -90,7 +90,7 @@ fn command<'a>(alloc: Global) -> Result<Command<'a>, AllocError>
     three.subcommand(pack_command(alloc))
 }
 
-/// The mode that the flag of a subcommand's matches names.
+/// Returns the mode that the flag of a subcommand's matches names.
 fn mode_of(matches: &ArgMatches) -> Mode
     ensures { HasMode (one_text (found_of matches.now) (codes "strict")) result }
 {
@@ -101,7 +101,7 @@ fn mode_of(matches: &ArgMatches) -> Mode
     }
 }
 
-/// The job that the subcommand and the flag of the words name.
+/// Returns the job that the subcommand and the flag of the words name.
 fn named_job<'a>(alloc: Global, words: &'a [&'a str]) -> Result<Job, Error>
     ensures named { IfOk result (NamesJob (subcommand_of bactool (map (λ word. word.now) words.entry.now))) }
     ensures taken { IfErr result (λ error. takes bactool (map (λ word. word.now) words.entry.now) ≡ true → kind_of error ≡ ErrorKind.OutOfMemory) }
@@ -128,8 +128,8 @@ fn named_job<'a>(alloc: Global, words: &'a [&'a str]) -> Result<Job, Error>
 /// Returns the job that the words ask for. The first word is the program's name.
 ///
 /// # Errors
-/// Where the words break a rule of the command line, or ask for help, the error has a text for the user. Where they
-/// do neither, the only error is want of memory.
+/// If the words break a rule of the command line, or ask for help, the error has a text for the user. If they do
+/// neither, the only error is that memory was refused.
 pub fn job<'a>(alloc: Global, words: &'a [&'a str]) -> Result<Job, Error>
     ensures named { IfOk result (NamesJob (subcommand_of bactool (map (λ word. word.now) words.entry.now))) }
     ensures taken { IfErr result (λ error. takes bactool (map (λ word. word.now) words.entry.now) ≡ true → kind_of error ≡ ErrorKind.OutOfMemory) }

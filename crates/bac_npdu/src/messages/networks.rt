@@ -27,7 +27,7 @@ pub(crate) fn decode_who_is_router(octets: &[u8]) -> Result<NetMessage, Refusal>
 /// Reads the networks behind the type, two octets each, up to the end.
 ///
 /// # Errors
-/// `Short` where the last one has only one octet; `OutOfMemory` where memory is refused.
+/// `Short` if the last one has only one octet; `OutOfMemory` if memory is refused.
 pub(crate) fn read_networks(alloc: Global, octets: &[u8]) -> Result<Vec<u16>, Refusal>
     requires { 0 < length octets.now }
     ensures found { IfOk result (λ networks. Headed (networks_of networks.items) (λ rest. rest ≡ []) (drop 1 octets.now)) }
@@ -51,7 +51,7 @@ pub(crate) fn read_networks(alloc: Global, octets: &[u8]) -> Result<Vec<u16>, Re
     Ok(networks)
 }
 
-/// Appends networks, two octets each. Where memory is refused, `out` may hold some of them.
+/// Appends networks, two octets each. If memory is refused, `out` may hold some of them.
 pub(crate) fn append_networks(networks: &[u16], out: &mut Vec<u8>) -> Result<(), OutOfMemory>
     ensures written { OnOk result (out.new.items ≡ out.old.items ++ least_head (networks_of networks.now)) }
     ensures kept { Extends out.old.items out.new.items }
@@ -62,7 +62,7 @@ pub(crate) fn append_networks(networks: &[u16], out: &mut Vec<u8>) -> Result<(),
     Ok(())
 }
 
-/// Appends a network, if there is one. Where memory is refused, `out` stays as it was.
+/// Appends a network, if there is one. If memory is refused, `out` stays as it was.
 pub(crate) fn append_network(network: Option<u16>, out: &mut Vec<u8>) -> Result<(), OutOfMemory>
     ensures written { OnOk result (out.new.items ≡ out.old.items ++ least_head (network_or_none network)) }
     ensures kept { Extends out.old.items out.new.items }

@@ -9,7 +9,7 @@ use std::fmt;
 use std::fmt::Display;
 use std::marker::Model;
 
-/// Why no opaque network message is made, in the order in which the faults are told.
+/// Why no opaque network message is made. If several hold, the first in this order is reported.
 #[derive(Clone, Copy, Debug, PartialEq, Eq)]
 pub enum NetFault {
     /// The type has a layout.
@@ -32,7 +32,7 @@ impl Display for NetFault {
 
 impl Error for NetFault {}
 
-/// Returns whether messages of this type have a layout.
+/// Returns true if messages of this type have a layout.
 #[inline(always)]
 pub(crate) fn has_layout(kind: u8) -> bool
     ensures { result ≡ is_typed kind }
@@ -64,11 +64,12 @@ impl Model for OpaqueNet {
 }
 
 impl OpaqueNet {
-    /// Returns the message of this type and vendor with a copy of these octets, which may be any.
+    /// Returns the message of this type and vendor with a copy of these octets, which may be any octets.
     ///
     /// # Errors
-    /// `Typed` where the type has a layout; `Vendor` where a type below 128 has a vendor, or one from 128 on has none;
-    /// else `OutOfMemory` where memory is refused.
+    /// - `Typed` if the type has a layout.
+    /// - Otherwise `Vendor` if a type below 128 has a vendor, or one from 128 on has none.
+    /// - Otherwise `OutOfMemory` if memory is refused.
     pub fn new(
         alloc: Global,
         kind: u8,
@@ -103,7 +104,7 @@ impl OpaqueNet {
         self.kind
     }
 
-    /// Returns its vendor, or None where its type is below 128.
+    /// Returns its vendor, or None if its type is below 128.
     pub fn vendor(&self) -> Option<u16>
         ensures vendor { result ≡ self.now.vendor }
         ensures vendored { IsVendored self.now.kind result }

@@ -31,7 +31,7 @@ impl Ports {
     /// Returns the table of these ports.
     ///
     /// # Errors
-    /// The list itself, where it has more than 255 ports.
+    /// The list itself, if it has more than 255 ports.
     pub fn new(list: Vec<Port>) -> Result<Ports, Vec<Port>>
         ensures ok { IsOk result ↔ (length list.items < 256) }
         ensures value { IfOk result (λ ports. ports ≡ list.items) }

@@ -18,7 +18,7 @@ use std::alloc::Global;
 /// Reads the port at a place, and returns it with the place behind it.
 ///
 /// # Errors
-/// `Short` where the octets end within the port; `OutOfMemory` where memory is refused.
+/// `Short` if the octets end within the port; `OutOfMemory` if memory is refused.
 fn read_port(alloc: Global, octets: &[u8], place: usize) -> Result<(Port, usize), Refusal>
     requires { place ≤ length octets.now }
     ensures found { IfOk result (λ found. Headed (ports_of (found.0 ∷ [])) (λ rest. rest ≡ drop found.1 octets.now) (drop place octets.now)) }
@@ -47,8 +47,8 @@ fn read_port(alloc: Global, octets: &[u8], place: usize) -> Result<(Port, usize)
 /// Reads the routing table behind the type: the number of ports, and one port after the other up to the end.
 ///
 /// # Errors
-/// `Short` where the octets end before the last port does; `Trailing` behind the last port; `OutOfMemory` where memory
-/// is refused.
+/// `Short` if the octets end before the last port does; `Trailing` behind the last port; `OutOfMemory` if memory is
+/// refused.
 fn read_ports(alloc: Global, octets: &[u8]) -> Result<Ports, Refusal>
     requires { 0 < length octets.now }
     ensures found { IfOk result (λ ports. Headed (table_of ports) (λ rest. rest ≡ []) (drop 1 octets.now)) }
@@ -94,7 +94,7 @@ pub(crate) fn decode_init_table_ack(alloc: Global, octets: &[u8]) -> Result<NetM
     Ok(NetMessage::InitTableAck(Some(read_ports(alloc, octets)?)))
 }
 
-/// Appends a port. Where memory is refused, `out` may hold some of its octets.
+/// Appends a port. If memory is refused, `out` may hold some of its octets.
 fn append_port(port: &Port, out: &mut Vec<u8>) -> Result<(), OutOfMemory>
     ensures written { OnOk result (out.new.items ≡ out.old.items ++ least_head (ports_of (port.now ∷ []))) }
     ensures kept { Extends out.old.items out.new.items }
@@ -106,7 +106,7 @@ fn append_port(port: &Port, out: &mut Vec<u8>) -> Result<(), OutOfMemory>
     Ok(())
 }
 
-/// Appends a routing table. Where memory is refused, `out` may hold some of its octets.
+/// Appends a routing table. If memory is refused, `out` may hold some of its octets.
 pub(crate) fn append_ports(ports: &Ports, out: &mut Vec<u8>) -> Result<(), OutOfMemory>
     ensures written { OnOk result (out.new.items ≡ out.old.items ++ least_head (table_of ports.now)) }
     ensures kept { Extends out.old.items out.new.items }

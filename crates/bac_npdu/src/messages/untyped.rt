@@ -14,7 +14,7 @@ use crate::octets::number_at;
 use bac_tag::{OutOfMemory, Refusal, Why};
 use std::alloc::Global;
 
-/// Appends the type, the vendor and the data. Where memory is refused, `out` may hold some of the octets.
+/// Appends the type, the vendor and the data. If memory is refused, `out` may hold some of the octets.
 pub(crate) fn append_opaque_net(message: &OpaqueNet, out: &mut Vec<u8>) -> Result<(), OutOfMemory>
     ensures written { OnOk result (out.new.items ≡ out.old.items ++ least_head (octets_of (opaque message.now))) }
     ensures formed { OnOk result (IsMessage (opaque message.now)) }

@@ -12,12 +12,12 @@ use crate::production::{Front, Production, ReadFault, Spelling};
 use bac_tag::OutOfMemory;
 use std::alloc::Global;
 
-/// The one or the other, as the first head says.
+/// One part or the other, as the first head says.
 #[derive(Drop)]
 pub(crate) enum Choice<A, B> {
     /// The part that is tried first.
     First(A),
-    /// The part that is read where the first is not there.
+    /// The part that is read if the first is not there.
     Second(B),
 }
 

@@ -8,8 +8,8 @@ use crate::production::{Production, ReadFault};
 use bac_tag::{Refusal, Why};
 use std::alloc::Global;
 
-/// The value that all the octets spell, and the first of them that differs from the canonical ones, part by part with
-/// how far each may be spelled.
+/// Decodes the value that all the octets spell, part by part with the reach of each. Returns it with its mark: the
+/// place of the first octet that differs from the canonical ones.
 ///
 /// # Errors
 /// As those of [`decode`].
@@ -41,11 +41,12 @@ fn decode_part_by_part<P: Production>(
     Err(front.reach)
 }
 
-/// The value that all the octets spell, and the first of them that differs from the canonical ones.
+/// Decodes the value that all the octets spell. Returns it with its mark: the place of the first octet that differs
+/// from the canonical ones.
 ///
 /// # Errors
-/// At the first octet with which no spelling begins; `Trailing` where those in front of it are one; `Short` where
-/// all of them begin one. `OutOfMemory` at 0 where memory is refused.
+/// The place is that of the first octet with which no spelling goes on. The reason is `Trailing` if the octets in front
+/// of it are a spelling, and `Short` if all the octets begin one. `OutOfMemory` at 0 if memory is refused.
 #[inline(always)]
 pub(crate) fn decode<P: Production>(
     alloc: Global,
@@ -67,7 +68,8 @@ pub(crate) fn decode<P: Production>(
     decode_part_by_part(alloc, octets)
 }
 
-/// Whether all the octets are the canonical ones of a value, if that is found at once. False tells nothing of the octets.
+/// Returns true if all the octets are found at once to be the canonical ones of a value. False says nothing about the
+/// octets.
 pub(crate) fn are_canonical<P: Production>(alloc: Global, octets: &[u8]) -> bool
     requires { IsTrue P.is_sound }
     ensures { IsTrue result → IsCanonical P.spells octets.now }

@@ -24,7 +24,7 @@ use bac_tag::{OutOfMemory, TagHead, Why};
 use bac_value::Primitive;
 use std::alloc::Global;
 
-/// Reads contents of so many octets at the front of the octets.
+/// Reads contents of `size` octets at the front of the octets.
 #[inline(always)]
 fn read_contents<T: Primitive>(alloc: Global, octets: &[u8], size: usize) -> Result<T, ReadFault>
     requires size { (T.SHORTEST ≤ size) × (size ≤ T.LONGEST) }
@@ -52,7 +52,7 @@ fn read_contents<T: Primitive>(alloc: Global, octets: &[u8], size: usize) -> Res
     }
 }
 
-/// The head of a field: of context class with this number, or of application class with that of its type.
+/// Returns the head of a field: of context class with this number, or of application class with that of its type.
 #[inline(always)]
 fn head_of<T: Primitive>(context: Option<u8>, len: u32) -> TagHead
     ensures { result ≡ heading context T.APP len }
@@ -66,7 +66,7 @@ fn head_of<T: Primitive>(context: Option<u8>, len: u32) -> TagHead
     }
 }
 
-/// Such heads, with the lengths that contents of the type have.
+/// Returns the expected heads of a field: those with the lengths that contents of the type have.
 #[inline(always)]
 fn expected_head<T: Primitive>(context: Option<u8>) -> Expected
     ensures { result ≡ expected_heading context T.APP T.SHORTEST T.LONGEST }
@@ -86,7 +86,7 @@ fn expected_head<T: Primitive>(context: Option<u8>) -> Expected
     }
 }
 
-/// The mark of a field, of which the head has these octets and the contents those.
+/// Returns the mark of a field, from the octets of its head and the octets of its contents.
 #[inline(always)]
 fn mark_of<T: Primitive>(
     head: &[u8],
@@ -105,8 +105,8 @@ fn mark_of<T: Primitive>(
     joined_marks(mark, head.len(), value.mark(contents))
 }
 
-/// What [`mark_of`] returns, by a call that is not inlined: the way of a short field whose contents are the least ones is
-/// shorter without that code.
+/// Returns what [`mark_of`] returns, by a call that is not inlined. Without that code the path of a short field whose
+/// contents are the least ones is shorter.
 #[inline(never)]
 fn mark_of_other<T: Primitive>(
     head: &[u8],
@@ -122,7 +122,7 @@ fn mark_of_other<T: Primitive>(
     mark_of(head, value, context, contents)
 }
 
-/// What [`mark_of`] returns, where the head is the least one and has one octet.
+/// Returns what [`mark_of`] returns, for a head that is the least one and has one octet.
 #[inline(always)]
 fn mark_of_short<T: Primitive>(
     head: &[u8],
@@ -141,7 +141,7 @@ fn mark_of_short<T: Primitive>(
     }
 }
 
-/// The number in the head of a field.
+/// Returns the number in the head of a field.
 #[inline(always)]
 fn number_of<T: Primitive>(context: Option<u8>) -> u8
     ensures { result ≡ number_in context T.APP }
@@ -152,7 +152,7 @@ fn number_of<T: Primitive>(context: Option<u8>) -> u8
     }
 }
 
-/// What [`mark_of`] returns, where the head is not that of one octet.
+/// Returns what [`mark_of`] returns, for a head of more than one octet.
 #[inline(always)]
 fn mark_of_long<T: Primitive>(
     head: &[u8],
@@ -172,7 +172,8 @@ fn mark_of_long<T: Primitive>(
     mark_of_other(head, value, context, contents)
 }
 
-/// The length of the head of a field at the front of the octets, where that is the least one and has one octet.
+/// Returns the length in the head of a field at the front of the octets, if that head is the least one and has one
+/// octet.
 #[inline(always)]
 fn short_size<T: Primitive>(octets: &[u8], context: Option<u8>) -> Option<usize>
     requires { IsHeading context T.APP }
@@ -184,8 +185,8 @@ fn short_size<T: Primitive>(octets: &[u8], context: Option<u8>) -> Option<usize>
     }
 }
 
-/// Reads the field of which the head at the front is the least one and has one octet, where the contents say nothing
-/// against it.
+/// Reads the field at the front of the octets, if nothing in its contents speaks against it. Its head is the least one
+/// and has one octet.
 #[inline(always)]
 fn read_short_field<T: Primitive>(
     alloc: Global,
@@ -222,7 +223,7 @@ fn read_short_field<T: Primitive>(
     })
 }
 
-/// Reads the field with such a head at the front of the octets.
+/// Reads the field at the front of the octets.
 #[inline(always)]
 fn read_field<T: Primitive>(
     alloc: Global,
@@ -268,7 +269,8 @@ fn read_field<T: Primitive>(
     }
 }
 
-/// The head of a field at the front of the octets, where it has more than one. None tells nothing of the octets.
+/// Returns the head of a field at the front of the octets, if it has more than one octet. None says nothing about the
+/// octets.
 #[inline(always)]
 fn long_head_of<T: Primitive>(octets: &[u8], context: Option<u8>) -> Option<FoundHead>
     requires { IsHeading context T.APP }
@@ -280,7 +282,7 @@ fn long_head_of<T: Primitive>(octets: &[u8], context: Option<u8>) -> Option<Foun
     }
 }
 
-/// Reads a field at the front of the octets, if one is found at once. None tells nothing of the octets.
+/// Reads a field at the front of the octets, if one is found at once. None says nothing about the octets.
 #[inline(always)]
 fn find_field<T: Primitive>(
     alloc: Global,
@@ -316,8 +318,8 @@ fn find_field<T: Primitive>(
     })
 }
 
-/// How many octets the field at the front takes, where these are its canonical ones and it is found at once. None tells
-/// nothing of the octets.
+/// Returns how many octets the field at the front takes, if they are its canonical ones and it is found at once. None
+/// says nothing about the octets.
 fn canonical_field_len<T: Primitive>(
     alloc: Global,
     octets: &[u8],
@@ -333,7 +335,7 @@ fn canonical_field_len<T: Primitive>(
     }
 }
 
-/// Appends the least octets of a field. Where memory is refused some octets may be there.
+/// Appends the least octets of a field. If memory is refused, `out` may hold some of the octets.
 #[inline(always)]
 fn write_field<T: Primitive>(
     value: &T,

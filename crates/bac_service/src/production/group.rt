@@ -18,8 +18,8 @@ use std::alloc::Global;
 #[derive(Drop)]
 pub(crate) struct Group<P, const N: u8>(pub(crate) P);
 
-/// Appends the least octets of a part and the tags of this number around it. Where memory is refused some octets
-/// may be there.
+/// Appends the least octets of a part and the tags of this number around it. If memory is refused, `out` may hold some
+/// of the octets.
 #[inline(always)]
 pub(crate) fn write_group<P: Production, const N: u8>(
     part: &P,

@@ -9,11 +9,11 @@ ghost use Rattle.bac_service.specs.Fields.{Found};
 use bac_tag::layers::{begins_long, long_length};
 use std::marker::Model;
 
-/// A head that was found: how many octets it has, and the length in it. In one number, which a call returns in a
-/// register.
+/// A head that was found: how many octets it has, and the length in it. Both are in one number, which a call returns in
+/// a register.
 #[derive(Drop)]
 pub(crate) struct FoundHead {
-    /// 256 times the length, and the number of octets.
+    /// 256 times the length, plus the number of octets.
     number: u64,
 }
 
@@ -33,7 +33,7 @@ impl FoundHead {
         }
     }
 
-    /// How many octets it has.
+    /// Returns how many octets it has.
     #[inline(always)]
     pub(crate) fn taken(&self) -> usize
         ensures { result ≡ self.now.taken }
@@ -41,7 +41,7 @@ impl FoundHead {
         (self.number % 256) as usize
     }
 
-    /// The length in it.
+    /// Returns the length in it.
     #[inline(always)]
     pub(crate) fn size(&self) -> usize
         ensures { result ≡ self.now.len }
@@ -50,7 +50,7 @@ impl FoundHead {
     }
 }
 
-/// What [`long_head`] returns, where the first octet may begin such a head.
+/// Returns what [`long_head`] returns, for octets of which the first may begin such a head.
 #[inline(never)]
 fn find_head(octets: &[u8], context: bool, number: u8) -> Option<FoundHead>
     requires valid { IsValid (headed context number 0) }
@@ -61,8 +61,9 @@ fn find_head(octets: &[u8], context: bool, number: u8) -> Option<FoundHead>
     Some(FoundHead::new(taken, len))
 }
 
-/// The length in the head with this class and number at the front of the octets, and how many of them it takes. It is looked
-/// for only where their first leaves the number or the length to others, and None tells nothing of them.
+/// Returns the length in the head with this class and number at the front of the octets, and how many octets the head
+/// takes. The head is looked for only if the first octet leaves the number or the length to the octets behind it. None
+/// says nothing about the octets.
 #[inline(always)]
 pub(crate) fn long_head(octets: &[u8], context: bool, number: u8) -> Option<FoundHead>
     requires { IsValid (headed context number 0) }

@@ -19,8 +19,8 @@ use std::alloc::Global;
 #[derive(Drop)]
 pub(crate) struct OpenValue<const N: u8>(pub(crate) Any);
 
-/// Appends the least octets of an open value and the tags of this number around it. Where memory is refused nothing
-/// is appended.
+/// Appends the least octets of an open value and the tags of this number around it. If memory is refused, nothing is
+/// appended.
 #[inline(always)]
 pub(crate) fn write_open<const N: u8>(value: &Any, out: &mut Vec<u8>) -> Result<(), OutOfMemory>
     requires { IsTrue (nat_le N 254) }

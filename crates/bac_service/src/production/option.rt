@@ -13,7 +13,7 @@ use bac_tag::OutOfMemory;
 use bac_value::{Boolean, Primitive};
 use std::alloc::Global;
 
-/// Where no front is a spelling, the part is absent.
+/// If no front is a spelling, the part is absent.
 impl<P: Production> Production for Option<P> {
     ghost Value = { Option P.Value };
 
@@ -80,7 +80,7 @@ impl<P: Production> Production for Option<P> {
     ghost has_least = { option_least P.spells P.has_least };
 }
 
-/// What a field holds that may be absent.
+/// Returns the value of a field that may be absent.
 #[inline(always)]
 pub(crate) fn bare<T: Primitive, const N: u8>(field: Option<Field<T, N>>) -> Option<T>
     ensures { result ≡ option_map (λ field. field.0) field }
@@ -88,7 +88,7 @@ pub(crate) fn bare<T: Primitive, const N: u8>(field: Option<Field<T, N>>) -> Opt
     Some(field?.0)
 }
 
-/// The field of a value that may be absent.
+/// Returns the field of a value that may be absent.
 #[inline(always)]
 pub(crate) fn under<T: Primitive, const N: u8>(value: Option<T>) -> Option<Field<T, N>>
     ensures { option_map (λ field. field.0) result ≡ value }
@@ -96,7 +96,7 @@ pub(crate) fn under<T: Primitive, const N: u8>(value: Option<T>) -> Option<Field
     Some(Field(value?))
 }
 
-/// The bit of a Boolean that may be absent.
+/// Returns the bit of a Boolean that may be absent.
 #[inline(always)]
 pub(crate) fn bit_of(value: Option<Boolean>) -> Option<bool>
     ensures { result ≡ option_map (λ value. value.0) value }
@@ -104,7 +104,7 @@ pub(crate) fn bit_of(value: Option<Boolean>) -> Option<bool>
     value.map(|value| value.0)
 }
 
-/// The Boolean of a bit that may be absent.
+/// Returns the Boolean of a bit that may be absent.
 #[inline(always)]
 pub(crate) fn boolean_of(bit: Option<bool>) -> Option<Boolean>
     ensures { option_map (λ value. value.0) result ≡ bit }

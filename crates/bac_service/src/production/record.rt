@@ -30,7 +30,7 @@ pub(crate) trait Record: Drop {
     fn from_parts(parts: Self::Parts) -> Self
         ensures { (b : List ℕ) → Self.Parts.spells (Self.Parts.view parts) b ↔ spells (view result) b };
 
-    /// Appends the least spelling of the fields. Where memory is refused some octets may be there.
+    /// Appends the least spelling of the fields. If memory is refused, `out` may hold some of the octets.
     fn write_fields(&self, out: &mut Vec<u8>) -> Result<(), OutOfMemory>
         requires { IsTrue Self.Parts.is_sound }
         ensures ok { OnOk result (AppendsLeast (spells (view self.now)) out.old.items out.new.items) }

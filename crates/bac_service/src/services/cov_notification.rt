@@ -23,7 +23,7 @@ pub struct CovNotification {
     pub process_identifier: Unsigned32,
     /// The device that sends the notification.
     pub device: ObjectId,
-    /// The object whose values are told.
+    /// The object whose values are reported.
     pub object: ObjectId,
     /// For how many seconds the subscription goes on; 0 is without end.
     pub time_remaining: Unsigned32,
@@ -51,7 +51,8 @@ impl Record for CovNotification {
 
     ghost spells = { SpellsNotification 32 };
 
-    /// Leaves `confirmed` false: the octets do not tell it. `decode_notification` puts it in, by the service choice.
+    /// Leaves `confirmed` false, since the octets do not contain it. `decode_notification` sets it by the service
+    /// choice.
     fn from_parts(parts: Parts) -> CovNotification {
         let ((process_identifier, (device, object)), (time_remaining, values)) = parts;
         CovNotification {

@@ -14,7 +14,7 @@ use bac_value::Enumerated;
 /// Octets (clause 21), each part under the application tag of its type: error class (Enumerated), error code
 /// (Enumerated).
 ///
-/// Causes are in order by the class, then by the code.
+/// Causes are ordered by the class, then by the code.
 #[derive(Clone, Copy, Debug, PartialEq, Eq, PartialOrd, Ord, Hash)]
 pub struct ErrorCause {
     /// What the error concerns, as a device, an object or a property (clause 18). Any number below 2^32 is kept.

@@ -19,7 +19,8 @@ pub(crate) type ObjectProperty = (
     (Field<Enumerated, 1>, Option<Field<Unsigned32, 2>>),
 );
 
-/// Appends the least octets of such a reference. Where memory is refused some octets may be there.
+/// Appends the least octets of a reference to a property of an object. If memory is refused, `out` may hold some of the
+/// octets.
 #[inline(always)]
 pub(crate) fn write_object_property(
     object: ObjectId,

@@ -18,10 +18,10 @@ use std::fmt;
 use std::fmt::Display;
 use std::marker::Model;
 
-/// Why no opaque service is made. `Typed` is told first.
+/// Why no opaque service is made. `Typed` is reported first.
 #[derive(Clone, Copy, Debug, PartialEq, Eq)]
 pub enum OpaqueFault {
-    /// The kind and the choice have a production, so that the service is a typed one.
+    /// The kind and the choice have a production, so the service is a typed one.
     Typed = 1,
     /// Memory was refused.
     OutOfMemory,
@@ -38,7 +38,7 @@ impl Display for OpaqueFault {
 
 impl Error for OpaqueFault {}
 
-/// A service of a kind and a choice without a production. It is its octets, whatever they are and however many.
+/// A service of a kind and a choice without a production. It consists of its octets: any octets, in any number.
 #[derive(Debug)]
 pub struct Opaque {
     kind: Kind,
@@ -72,7 +72,7 @@ impl Model for Opaque {
     ghost invariant = { λ service. IsNone (production_of true service.kind service.choice) };
 }
 
-/// Two opaque services are equal exactly where their kinds, their service choices and their octets are.
+/// Two opaque services are equal exactly where their kinds, their service choices and their octets are equal.
 impl PartialEq for Opaque {
     ghost eq = { same_opaque };
 
@@ -96,7 +96,7 @@ impl Clone for Opaque {
     ghost is_clone = { λ service copy. copy ≡ service };
 
     /// # Errors
-    /// `AllocError` where memory is refused.
+    /// `AllocError` if memory is refused.
     fn clone(&self) -> Result<Opaque, AllocError> {
         let alloc = *self.octets.allocator();
         let octets = Vec::from_slice(alloc, &self.octets)?;
@@ -112,7 +112,7 @@ impl Opaque {
     /// Returns the service of this kind and choice with a copy of these octets, which may be any.
     ///
     /// # Errors
-    /// `Typed` where the kind and the choice have a production, else `OutOfMemory` where memory is refused.
+    /// `Typed` if the kind and the choice have a production. Otherwise `OutOfMemory` if memory is refused.
     pub fn new(alloc: Global, kind: Kind, choice: u8, octets: &[u8]) -> Result<Opaque, OpaqueFault>
         ensures value { IfOk result (λ service. service ≡ record { kind = kind; choice = choice; octets = octets.now }) }
         ensures typed { IsErrOf result OpaqueFault.Typed ↔ IsSome (production_of true kind choice) }
@@ -152,7 +152,7 @@ impl Opaque {
         self.octets.as_slice()
     }
 
-    /// Appends its octets. Where memory is refused nothing is appended.
+    /// Appends its octets. If memory is refused, nothing is appended.
     pub(crate) fn write_octets(&self, out: &mut Vec<u8>) -> Result<(), OutOfMemory>
         ensures placed { IsPlaced (opaque self.now.kind self.now.choice self.now.octets) }
         ensures ok { OnOk result (AppendsLeast (SpellsSaid 32 None self.now.octets) out.old.items out.new.items) }

@@ -14,12 +14,12 @@ use bac_value::{Enumerated, Unsigned32};
 ///
 /// Octets (clause 21): `[0]` property identifier, `[1]` array index (optional).
 ///
-/// References are in order by the property, then by the index; none comes before any index.
+/// References are ordered by the property, then by the index. An absent index comes before every index.
 #[derive(Clone, Copy, Debug, PartialEq, Eq, PartialOrd, Ord, Hash)]
 pub struct PropertyReference {
     /// The identifier of the property.
     pub property: Enumerated,
-    /// The index of the element, where the property is an array and one element is meant.
+    /// The index of the element, if the property is an array and one element is meant.
     pub index: Option<Unsigned32>,
 }
 

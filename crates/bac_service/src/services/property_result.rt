@@ -36,13 +36,13 @@ pub enum ReadResult {
 pub struct PropertyResult {
     /// The identifier of the property.
     pub property: Enumerated,
-    /// The index of the element, where the property is an array and one element is meant.
+    /// The index of the element, if the property is an array and one element is meant.
     pub index: Option<Unsigned32>,
     /// The value, or the error.
     pub result: ReadResult,
 }
 
-/// The one or the other.
+/// Returns the value or the error, whichever was read.
 fn result_of(choice: Choice<OpenValue<4>, Group<Fields<ErrorCause>, 5>>) -> ReadResult
     ensures { result ≡ read_result_of (either_of (λ value. value.0) (λ group. group.0.0) choice) }
 {

@@ -20,11 +20,11 @@ use bac_value::{Enumerated, Priority, Unsigned32};
 pub struct PropertyValue {
     /// The identifier of the property.
     pub property: Enumerated,
-    /// The index of the element, where the property is an array and one element is meant.
+    /// The index of the element, if the property is an array and one element is meant.
     pub index: Option<Unsigned32>,
     /// The value of the property or of its element.
     pub value: Any,
-    /// The priority, 1 to 16, where the property is commanded.
+    /// The priority, 1 to 16, if the property is commanded.
     pub priority: Option<Priority>,
 }
 

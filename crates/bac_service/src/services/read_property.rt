@@ -20,7 +20,7 @@ pub struct ReadProperty {
     pub object: ObjectId,
     /// The identifier of the property.
     pub property: Enumerated,
-    /// The index of the element, where the property is an array and one element is meant.
+    /// The index of the element, if the property is an array and one element is meant.
     pub index: Option<Unsigned32>,
 }
 

@@ -14,7 +14,7 @@ use bac_tag::OutOfMemory;
 use bac_value::Enumerated;
 use std::marker::Model;
 
-/// Why a request failed whose service choice is 1, 5, 12, 14 or 15.
+/// Why a request with service choice 1, 5, 12, 14 or 15 failed.
 ///
 /// Octets (clause 21): those of its [`ErrorCause`]. The choice stands in front of them, in the header of the
 /// APDU.
@@ -40,8 +40,8 @@ impl Model for ServiceError {
 }
 
 impl ServiceError {
-    /// Returns the error of this service choice with this class and this code, or None where the choice is not 1, 5,
-    /// 12, 14 or 15.
+    /// Returns the error of this service choice with this class and this code, or None if the choice is not 1, 5, 12,
+    /// 14 or 15.
     pub fn new(choice: u8, class: u32, code: u32) -> Option<ServiceError>
         ensures some { IsSome result ↔ (production_of true Error choice ≡ Some service_error) }
         ensures value { IfSome result (λ error. error ≡ record { choice = choice; cause = record { class = record { 0 = class }; code = record { 0 = code } } }) }
@@ -56,7 +56,7 @@ impl ServiceError {
         Some(ServiceError { choice, cause })
     }
 
-    /// The error of the service with this choice, which is typed.
+    /// Returns the error of the service with this choice, which must be 1, 5, 12, 14 or 15.
     pub(crate) fn of(choice: u8, cause: ErrorCause) -> ServiceError
         requires { production_of true Error choice ≡ Some service_error }
         ensures { result ≡ record { choice = choice; cause = cause } }
@@ -86,7 +86,7 @@ impl ServiceError {
         self.cause.code.0
     }
 
-    /// Appends the least spelling of its class and its code. Where memory is refused some octets may be there.
+    /// Appends the least spelling of its class and its code. If memory is refused, `out` may hold some of the octets.
     pub(crate) fn write_cause(&self, out: &mut Vec<u8>) -> Result<(), OutOfMemory>
         ensures typed { production_of true Error self.now.choice ≡ Some service_error }
         ensures ok { OnOk result (AppendsLeast (SpellsErrorCause self.now.cause) out.old.items out.new.items) }

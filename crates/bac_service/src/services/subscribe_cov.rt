@@ -12,8 +12,8 @@ use crate::service::Service;
 use bac_tag::OutOfMemory;
 use bac_value::{Boolean, ObjectId, Unsigned32};
 
-/// A request to be notified of changes of an object's values or, with neither `confirmed` nor `lifetime`, not to be
-/// notified any more.
+/// A request to be notified of changes of an object's values. With neither `confirmed` nor `lifetime`, it is a request
+/// not to be notified any more.
 ///
 /// Octets (clause 21): `[0]` subscriber process identifier, `[1]` monitored object identifier, `[2]` issue
 /// confirmed notifications (optional), `[3]` lifetime (optional).

@@ -25,11 +25,11 @@ pub struct WriteProperty {
     pub object: ObjectId,
     /// The identifier of the property.
     pub property: Enumerated,
-    /// The index of the element, where the property is an array and one element is meant.
+    /// The index of the element, if the property is an array and one element is meant.
     pub index: Option<Unsigned32>,
     /// The value to write.
     pub value: Any,
-    /// The priority, 1 to 16, where the property is commanded.
+    /// The priority, 1 to 16, if the property is commanded.
     pub priority: Option<Priority>,
 }
 

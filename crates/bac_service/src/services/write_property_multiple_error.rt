@@ -15,7 +15,7 @@ use crate::services::object_property::ObjectProperty;
 use bac_tag::OutOfMemory;
 use bac_value::{Enumerated, ObjectId, Unsigned32};
 
-/// Why a WritePropertyMultiple failed, and the first write that did.
+/// Why a WritePropertyMultiple failed, and the first write that failed.
 ///
 /// Octets (clause 21): `[0] {` error `}`, `[1] {` `[0]` object identifier, `[1]` property identifier, `[2]` array
 /// index (optional) `}`.
@@ -29,7 +29,7 @@ pub struct WritePropertyMultipleError {
     pub object: ObjectId,
     /// The identifier of that property.
     pub property: Enumerated,
-    /// The index of the element, where the property is an array and one element is meant.
+    /// The index of the element, if the property is an array and one element is meant.
     pub index: Option<Unsigned32>,
 }
 

@@ -22,7 +22,7 @@ pub(crate) fn write_who_is_router(
     write_optional(out, end, b" network=", network)
 }
 
-/// Writes `net type=TT`, which is handed in, and ` networks=(N N ..)`.
+/// Writes `name`, which is `net type=TT`, and ` networks=(N N ..)`.
 #[inline(always)]
 pub(crate) fn write_networks<const N: usize>(
     out: &mut Vec<u8>,

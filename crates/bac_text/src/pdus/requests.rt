@@ -9,7 +9,7 @@ use bac_apdu::{ConfirmedRequest, RequestHead, UnconfirmedRequest};
 use bac_record::layers::{make_room, put_word};
 use bac_tag::OutOfMemory;
 
-/// Writes ` sa=A segs=S resp=` at once, and M. Returns where they end.
+/// Writes ` sa=A segs=S resp=` in one step, and M. Returns where they end.
 #[inline(always)]
 fn put_limits(room: &mut [u8], at: usize, sa: bool, segs: u8, resp: u8) -> usize
     requires few { segs < 10 }

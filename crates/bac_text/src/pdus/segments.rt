@@ -1,4 +1,4 @@
-//! The text of segments, and of what is told of them.
+//! The text of segments, and of acknowledgements of segments.
 
 use crate::pdus::requests::put_request_head;
 use crate::scalars::write_octets;

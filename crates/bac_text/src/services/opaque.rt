@@ -23,7 +23,7 @@ fn write_choice_name(out: &mut Vec<u8>, at: usize, kind: Kind) -> Result<usize, 
     }
 }
 
-/// `opaque choice=C octets=HEX`; of an error `choice=C octets=HEX`.
+/// `opaque choice=C octets=HEX`; for an error `choice=C octets=HEX`.
 impl HasText for Opaque {
     ghost use Rattle.bac_text.specs.OpaqueText.{opaque_text};
 
