@@ -1,5 +1,5 @@
-//! Contents of any primitive type (clauses 20.2.2 to 20.2.14), without a value of their own: they are written,
-//! counted and marked where they lie.
+//! Contents of any primitive type (clauses 20.2.2 to 20.2.14), of which no value is made: they are written, counted and
+//! marked where they lie.
 
 ghost use Rattle.std.specs.Prelude.{◌≡◌, ◌↔◌, ◌≤◌, ◌++◌, length, IsTrue, OnOk, OnErr, IfNone, IfSome};
 ghost use Rattle.bac_tag.specs.Octets.{FirstDifference};
@@ -10,11 +10,11 @@ use crate::thirteen::at_number;
 use crate::variants::{append_variant, is_written_variant, mark_variant, written_len_variant};
 use bac_tag::OutOfMemory;
 
-/// Appends what is written of the value whose contents these are, of the type with that application number
-/// (clause 20.2.1.4), at most 12.
+/// Appends the contents that are written for the value that `contents` spell. `number` is the application number of its
+/// type (clause 20.2.1.4), at most 12.
 ///
 /// # Errors
-/// `OutOfMemory` where memory is refused. `out` then stays as it was.
+/// `OutOfMemory` if memory is refused. `out` then stays as it was.
 pub fn append_written(number: u8, contents: &[u8], out: &mut Vec<u8>) -> Result<(), OutOfMemory>
     requires number { number ≤ 12 }
     requires contents { (prim : PrimitiveValue) × ContentsOf number prim contents.now }
@@ -24,8 +24,8 @@ pub fn append_written(number: u8, contents: &[u8], out: &mut Vec<u8>) -> Result<
     at_number!(number, append_variant(contents, out))
 }
 
-/// Returns how many octets are written of the value whose contents these are, of the type with that application number
-/// (clause 20.2.1.4), at most 12.
+/// Returns how many octets are written for the value that `contents` spell. `number` is the application number of its
+/// type (clause 20.2.1.4), at most 12.
 pub fn written_len_of(number: u8, contents: &[u8]) -> usize
     requires number { number ≤ 12 }
     requires contents { (prim : PrimitiveValue) × ContentsOf number prim contents.now }
@@ -34,8 +34,8 @@ pub fn written_len_of(number: u8, contents: &[u8]) -> usize
     at_number!(number, written_len_variant(contents))
 }
 
-/// Returns the first place, counted from 0, at which contents differ from those that are written of their value, or
-/// None where they are the same. `number` is the application number of the type (clause 20.2.1.4), at most 12.
+/// Returns the offset, counted from 0, of the first octet that differs from the contents that are written for the same
+/// value, or None if none differs. `number` is the application number of the type (clause 20.2.1.4), at most 12.
 #[inline(always)]
 pub fn mark_contents(number: u8, contents: &[u8]) -> Option<usize>
     requires number { number ≤ 12 }
@@ -46,7 +46,7 @@ pub fn mark_contents(number: u8, contents: &[u8]) -> Option<usize>
     at_number!(number, mark_variant(contents))
 }
 
-/// Whether the octets are the written contents of some value of the type with that application number (clause
+/// Returns true if the octets are the written contents of some value of the type with this application number (clause
 /// 20.2.1.4), at most 12.
 #[inline(always)]
 pub fn are_written(number: u8, octets: &[u8]) -> bool

@@ -4,10 +4,10 @@ ghost use Rattle.std.specs.Prelude.{◌≡◌, ◌≢◌, IfOk, IfErr, length};
 
 use bac_tag::{Refusal, Why};
 
-/// The octets, where they are `N`.
+/// Returns the octets, if there are `N` of them.
 ///
 /// # Errors
-/// `Length` at 0 where they are not.
+/// `Length` at 0 if there are more or fewer.
 #[inline(always)]
 pub(crate) fn all_of<const N: usize>(octets: &[u8]) -> Result<[u8; N], Refusal>
     ensures found { IfOk result (λ all. (all ≡ octets.now) × (length octets.now ≡ N)) }

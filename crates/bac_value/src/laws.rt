@@ -26,7 +26,7 @@ pub fn contents_keep_the_limit()
     ensures { (prim : PrimitiveValue) (octets : List ℕ) → PrimContents prim octets → length octets ≤ 1048576 }
 {}
 
-/// Contents and an application number tell the value.
+/// Contents and an application number determine the value.
 pub fn contents_tell_the_value()
     ensures { (number : ℕ) (prim : PrimitiveValue) (octets : List ℕ) → ContentsOf number prim octets → prim_of_contents number octets ≡ prim }
 {}

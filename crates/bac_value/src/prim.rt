@@ -23,7 +23,7 @@ use crate::types::real::RealBits;
 use crate::types::signed_integer::Signed;
 use crate::types::time_value::Time;
 use crate::types::unsigned_integer::Unsigned;
-use crate::variants::{application_number_of, hopeless_variant, lengths_of, read_variant};
+use crate::variants::{Variant, application_number_of, hopeless_variant, lengths_of, read_variant};
 use bac_tag::{OutOfMemory, Refusal, Why};
 use std::alloc::Global;
 
@@ -46,16 +46,16 @@ pub enum PrimitiveValue {
 }
 
 impl PrimitiveValue {
-    /// The value of the type with that application number (clause 20.2.1.4), at most 12, whose contents are these
-    /// octets. Those of a Boolean are the ones of the context form (clause 20.2.3).
+    /// Returns the value whose contents are these octets, of the type with that application number (clause 20.2.1.4),
+    /// at most 12. Those of a Boolean are the ones of the context form (clause 20.2.3).
     ///
     /// # Errors
     /// The place is counted from 0. The reason is one of these:
     ///
-    /// - `Length` where no value of the type has so many octets of contents: the place is 0;
+    /// - `Length` if no value of the type has contents of that many octets: the place is 0;
     /// - `Content` at the first octet that no contents of that length can have there;
-    /// - `OutOfMemory` where memory is refused: the place is 0. It is told only of octet strings, character strings and
-    ///   bit strings, numbers 6 to 8.
+    /// - `OutOfMemory` if memory is refused: the place is 0. It is reported only for octet strings, character strings
+    ///   and bit strings, numbers 6 to 8.
     pub fn read(alloc: Global, number: u8, octets: &[u8]) -> Result<PrimitiveValue, Refusal>
         requires number { number ≤ 12 }
         ensures value { IfOk result IsPrim }
@@ -81,8 +81,9 @@ impl PrimitiveValue {
     }
 
     /// Returns the place, counted from 0, of the first octet of `front` with which no contents of `size` octets begin,
-    /// or None where such contents begin with all of `front`. `number` is the application number of the type, at most
-    /// 12; some contents of the type must have `size` octets, and `front` no more than these.
+    /// or None if some contents of `size` octets begin with all of `front`. `number` is the application number of the
+    /// type, at most 12. Some contents of the type must have `size` octets, and `front` must have at most `size`
+    /// octets.
     pub fn hopeless(number: u8, front: &[u8], size: usize) -> Option<usize>
         requires number { number ≤ 12 }
         requires size { IsBegun (ContentsOf number) [] size }
@@ -93,7 +94,7 @@ impl PrimitiveValue {
         at_number!(number, hopeless_variant(front, size))
     }
 
-    /// The number of the application tag of its type, 0 to 12.
+    /// Returns the number of the application tag of its type, 0 to 12.
     pub fn number(&self) -> u8
         ensures { result ≡ application_number self.now }
     {
@@ -108,8 +109,8 @@ impl PrimitiveValue {
         at_value!(self, value => value.written_len())
     }
 
-    /// Returns the first place, counted from 0, at which contents of the value differ from those that are written, or
-    /// None where they are the same.
+    /// Returns the offset, counted from 0, of the first octet of contents of the value that differs from those that are
+    /// written, or None if none differs.
     pub fn mark(&self, octets: &[u8]) -> Option<usize>
         requires { PrimContents self.now octets.now }
         ensures none { IfNone result (octets.now ≡ prim_written self.now) }
@@ -121,7 +122,7 @@ impl PrimitiveValue {
     /// Appends the contents that are written.
     ///
     /// # Errors
-    /// `OutOfMemory` where memory is refused. `out` then stays as it was.
+    /// `OutOfMemory` if memory is refused. `out` then stays as it was.
     pub fn write(&self, out: &mut Vec<u8>) -> Result<(), OutOfMemory>
         ensures value { IsPrim self.now }
         ensures ok { OnOk result (out.new.items ≡ out.old.items ++ prim_written self.now) }
@@ -130,31 +131,11 @@ impl PrimitiveValue {
         at_value!(self, value => value.write(out))
     }
 
-    /// The same value, borrowed.
+    /// Returns the same value, borrowed.
     pub fn as_prim_ref(&self) -> PrimRef<'_>
         ensures value { prim_of result ≡ self.now }
         ensures packed { IsPackedRef result }
     {
-        match self {
-            Self::Null(value) => PrimRef::Null(*value),
-            Self::Boolean(value) => PrimRef::Boolean(*value),
-            Self::Unsigned(value) => PrimRef::Unsigned(*value),
-            Self::Signed(value) => PrimRef::Signed(*value),
-            Self::RealBits(value) => PrimRef::RealBits(*value),
-            Self::DoubleBits(value) => PrimRef::DoubleBits(*value),
-            Self::Octets(value) => PrimRef::Octets(value.octets()),
-            Self::Text(value) => PrimRef::Text {
-                set: value.set(),
-                octets: value.octets(),
-            },
-            Self::Bits(value) => PrimRef::Bits {
-                count: value.len(),
-                packed: value.packed(),
-            },
-            Self::Enumerated(value) => PrimRef::Enumerated(*value),
-            Self::Date(value) => PrimRef::Date(*value),
-            Self::Time(value) => PrimRef::Time(*value),
-            Self::ObjectId(value) => PrimRef::ObjectId(*value),
-        }
+        at_value!(self, value => value.as_prim_ref())
     }
 }

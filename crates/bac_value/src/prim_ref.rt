@@ -5,22 +5,18 @@ ghost use Rattle.bac_value.specs.declared.prim.PrimitiveValue.{PrimitiveValue};
 ghost use Rattle.bac_value.specs.PrimContents.{application_number, ContentsOf, IsWrittenOf};
 ghost use Rattle.bac_value.specs.PrimRefValue.{prim_of, IsPackedRef};
 
-use crate::primitives::Primitive;
-use crate::thirteen::at_number;
-use crate::types::bit_string::Bits;
+use crate::thirteen::{at_borrowed, at_number};
 use crate::types::boolean_value::Boolean;
-use crate::types::character_string::Text;
 use crate::types::date_value::Date;
 use crate::types::double::DoubleBits;
 use crate::types::enumeration::Enumerated;
 use crate::types::null_value::Null;
 use crate::types::object_identifier::ObjectId;
-use crate::types::octet_string::Octets;
 use crate::types::real::RealBits;
 use crate::types::signed_integer::Signed;
 use crate::types::time_value::Time;
 use crate::types::unsigned_integer::Unsigned;
-use crate::variants::borrow_variant;
+use crate::variants::{application_number_at, borrow_variant};
 
 /// A value of any primitive type (clauses 20.2.2 to 20.2.14), under the name of its type. The octets of the three
 /// strings are borrowed.
@@ -40,10 +36,10 @@ pub enum PrimRef<'a> {
         octets: &'a [u8],
     },
     Bits {
-        /// How many bits.
+        /// The number of bits.
         count: usize,
-        /// The octets that hold them, eight bits to an octet, from its highest bit downwards. The unused bits
-        /// of the last are zero.
+        /// The octets that hold them, eight bits to an octet, from its highest bit downwards. The unused bits of the
+        /// last octet are zero.
         packed: &'a [u8],
     },
     Enumerated(Enumerated),
@@ -53,8 +49,8 @@ pub enum PrimRef<'a> {
 }
 
 impl<'a> PrimRef<'a> {
-    /// The value of the type with that application number of which these contents are written, borrowed from
-    /// them.
+    /// Returns the value of which these contents are written, borrowed from them. It is of the type with that
+    /// application number, at most 12.
     #[inline(always)]
     pub fn of_contents(number: u8, octets: &'a [u8]) -> PrimRef<'a>
         requires number { number ≤ 12 }
@@ -65,24 +61,10 @@ impl<'a> PrimRef<'a> {
         at_number!(number, borrow_variant(octets))
     }
 
-    /// The number of the application tag of its type, 0 to 12.
+    /// Returns the number of the application tag of its type, 0 to 12.
     pub fn number(&self) -> u8
         ensures { result ≡ application_number (prim_of self.now) }
     {
-        match self {
-            PrimRef::Null(_) => Null::APP,
-            PrimRef::Boolean(_) => Boolean::APP,
-            PrimRef::Unsigned(_) => Unsigned::APP,
-            PrimRef::Signed(_) => Signed::APP,
-            PrimRef::RealBits(_) => RealBits::APP,
-            PrimRef::DoubleBits(_) => DoubleBits::APP,
-            PrimRef::Octets(_) => Octets::APP,
-            PrimRef::Text { .. } => Text::APP,
-            PrimRef::Bits { .. } => Bits::APP,
-            PrimRef::Enumerated(_) => Enumerated::APP,
-            PrimRef::Date(_) => Date::APP,
-            PrimRef::Time(_) => Time::APP,
-            PrimRef::ObjectId(_) => ObjectId::APP,
-        }
+        at_borrowed!(self, application_number_at())
     }
 }

@@ -36,17 +36,17 @@ pub trait Primitive: Sized + Drop {
     /// The contents that are written.
     ghost written: { Self → List ℕ };
 
-    /// Reading may want memory.
+    /// Reading may need memory.
     ghost wants_memory: { Bool };
 
-    /// The value whose contents are these octets.
+    /// Returns the value whose contents are these octets.
     ///
     /// # Errors
     /// The place is counted from 0. The reason is one of these:
     ///
-    /// - `Length` where no value has so many octets of contents: the place is 0;
+    /// - `Length` if no value has contents of that many octets: the place is 0;
     /// - `Content` at the first octet that no contents of that length can have there;
-    /// - `OutOfMemory` where memory is refused: the place is 0. It is told only of a type with `wants_memory`.
+    /// - `OutOfMemory` if memory is refused: the place is 0. It is reported only for a type with `wants_memory`.
     fn read(alloc: Global, octets: &[u8]) -> Result<Self, Refusal>
         ensures value { IfOk result is_value }
         ensures found { IfOk result (λ value. contents value octets.now) }
@@ -57,7 +57,7 @@ pub trait Primitive: Sized + Drop {
         ensures length { IfErr result (λ refusal. refusal.why ≡ Why.Length → (refusal.place ≡ 0) × (IsBegun contents [] (length octets.now) → ⊥)) }
         ensures content { IfErr result (λ refusal. refusal.why ≡ Why.Content → IsHopelessAt contents octets.now (length octets.now) refusal.place) };
 
-    /// Returns the value whose contents the first `size` octets are, or None, which tells nothing of them: ask
+    /// Returns the value whose contents the first `size` octets are, or None. None says nothing about them: call
     /// [`Primitive::read`] then. Octets behind the first `size` do not change the value. They make it possible to read
     /// four octets of a number without a branch for each `size`.
     #[inline(always)]
@@ -70,8 +70,8 @@ pub trait Primitive: Sized + Drop {
     }
 
     /// Returns the place, counted from 0, of the first octet of `front` with which no contents of `size` octets begin,
-    /// or None where such contents begin with all of `front`. `size` must be from `SHORTEST` to `LONGEST`, and `front`
-    /// must have at most `size` octets.
+    /// or None if some contents of `size` octets begin with all of `front`. `size` must be from `SHORTEST` to
+    /// `LONGEST`, and `front` must have at most `size` octets.
     fn hopeless(front: &[u8], size: usize) -> Option<usize>
         requires size { (SHORTEST ≤ size) × (size ≤ LONGEST) }
         requires sized { length front.now ≤ size }
@@ -83,8 +83,8 @@ pub trait Primitive: Sized + Drop {
         ensures value { is_value self.now }
         ensures len { result ≡ length (written self.now) };
 
-    /// Returns the first place, counted from 0, at which contents of the value differ from those that are written, or
-    /// None where they are the same.
+    /// Returns the offset, counted from 0, of the first octet of contents of the value that differs from those that are
+    /// written, or None if none differs.
     fn mark(&self, octets: &[u8]) -> Option<usize>
         requires { contents self.now octets.now }
         ensures none { IfNone result (octets.now ≡ written self.now) }
@@ -93,7 +93,7 @@ pub trait Primitive: Sized + Drop {
     /// Appends the contents that are written.
     ///
     /// # Errors
-    /// `OutOfMemory` where memory is refused. `out` then stays as it was.
+    /// `OutOfMemory` if memory is refused. `out` then stays as it was.
     fn write(&self, out: &mut Vec<u8>) -> Result<(), OutOfMemory>
         ensures value { is_value self.now }
         ensures ok { OnOk result (out.new.items ≡ out.old.items ++ written self.now) }
@@ -105,18 +105,18 @@ pub trait Primitive: Sized + Drop {
     /// No octets are contents of two values.
     ghost one_value: { (a b : Self) (octets : List ℕ) → contents a octets → contents b octets → a ≡ b };
 
-    /// What is written of a value are contents of it,
+    /// What is written of a value is contents of it.
     ghost written_contents: { (value : Self) → is_value value → contents value (written value) };
 
-    /// and they are no greater than any others.
+    /// What is written of a value is no greater than any contents of it.
     ghost written_least: { (value : Self) (octets : List ℕ) → contents value octets → NoGreater (written value) octets };
 
-    /// The number of octets of contents lies between the two,
+    /// Contents have at least `SHORTEST` and at most `LONGEST` octets.
     ghost lengths: { (value : Self) (octets : List ℕ) → contents value octets → (SHORTEST ≤ length octets) × (length octets ≤ LONGEST) };
 
-    /// each number between them is that of some contents,
+    /// Some contents have each number of octets from `SHORTEST` to `LONGEST`.
     ghost each_length: { (size : ℕ) → SHORTEST ≤ size → size ≤ LONGEST → IsBegun contents [] size };
 
-    /// and they are a range, none of them above the limit of 1,048,576.
+    /// `SHORTEST` is at most `LONGEST`, which is at most the limit of 1,048,576.
     ghost within_limit: { (SHORTEST ≤ LONGEST) × (LONGEST ≤ 1048576) };
 }

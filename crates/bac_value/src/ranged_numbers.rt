@@ -10,7 +10,7 @@ ghost use Rattle.bac_value.specs.Numbers.{NumberContents, HasNumberLength, least
 use bac_tag::layers::{first_difference, first_hopeless, number_within};
 use bac_tag::{OutOfMemory, Refusal, Why};
 
-/// Returns the number of one octet or two, or None of more or fewer.
+/// Returns the number that one or two octets spell, or None if there are more or fewer.
 #[inline(always)]
 fn short_number(octets: &[u8]) -> Option<u64>
     ensures number { IfSome result (λ n. n ≡ number octets.now) }
@@ -23,7 +23,7 @@ fn short_number(octets: &[u8]) -> Option<u64>
     }
 }
 
-/// What [`read_number`] returns, whatever the number of octets.
+/// Returns what [`read_number`] returns, for any number of octets.
 ///
 /// # Errors
 /// As those of [`read_number`].
@@ -45,12 +45,12 @@ fn read_any_number(octets: &[u8], low: u64, high: u64) -> Result<u64, Refusal>
     }
 }
 
-/// The number from `low` to `high` whose contents are these octets, the most significant octet first. `low` must be no
-/// greater than `high`, and below 256.
+/// Returns the number from `low` to `high` whose contents are these octets, the most significant octet first. `low`
+/// must be no greater than `high`, and below 256.
 ///
 /// # Errors
-/// `Length` at 0 where there are not 1 to 8 octets, else `Content` at the first octet that no contents of that length
-/// can have there, counted from 0.
+/// `Length` at 0 if there are not 1 to 8 octets, else `Content` at the first octet that no contents of that length can
+/// have there, counted from 0.
 #[inline(always)]
 pub fn read_number(octets: &[u8], low: u64, high: u64) -> Result<u64, Refusal>
     requires range { low ≤ high }
@@ -61,15 +61,15 @@ pub fn read_number(octets: &[u8], low: u64, high: u64) -> Result<u64, Refusal>
     ensures length { IfErr result (λ refusal. refusal.why ≡ Why.Length → (refusal.place ≡ 0) × (HasNumberLength (length octets.now) → ⊥)) }
     ensures content { IfErr result (λ refusal. refusal.why ≡ Why.Content → HasNumberLength (length octets.now) × MissesAt low high octets.now (length octets.now) refusal.place) }
 {
-    // Most numbers have one octet or two.
+    // Most numbers have one or two octets.
     match short_number(octets) {
         Some(number) if low <= number && number <= high => Ok(number),
         _ => read_any_number(octets, low, high),
     }
 }
 
-/// Returns the number that the first `size` octets spell, or None where `size` is not 1 to 4 or there are fewer than
-/// four octets.
+/// Returns the number that the first `size` octets spell, or None if `size` is not 1 to 4 or there are fewer than four
+/// octets.
 #[inline(always)]
 fn front_number(octets: &[u8], size: usize) -> Option<u64>
     ensures number { IfSome result (λ n. n ≡ number (take size octets.now)) }
@@ -85,7 +85,7 @@ fn front_number(octets: &[u8], size: usize) -> Option<u64>
     Some(u64::from(word >> (32 - 8 * size as u32)))
 }
 
-/// Returns the number from `low` to `high` whose contents the first `size` octets are, or None where there is none.
+/// Returns the number from `low` to `high` whose contents the first `size` octets are, or None if there is none.
 #[inline(always)]
 pub(crate) fn find_number(octets: &[u8], size: usize, low: u64, high: u64) -> Option<u64>
     requires size { size ≤ length octets.now }
@@ -99,9 +99,9 @@ pub(crate) fn find_number(octets: &[u8], size: usize, low: u64, high: u64) -> Op
     }
 }
 
-/// Returns the place, counted from 0, of the first octet of `front` with which no contents of `size` octets of a
-/// number from `low` to `high` begin, or None where such contents begin with all of `front`. `size` must be 1 to 8,
-/// and `front` must have at most `size` octets; `low` must be no greater than `high`, and below 256.
+/// Returns the place, counted from 0, of the first octet of `front` with which no contents of `size` octets of a number
+/// from `low` to `high` begin, or None if some of these contents begin with all of `front`. `size` must be 1 to 8, and
+/// `front` must have at most `size` octets. `low` must be no greater than `high`, and below 256.
 #[inline]
 pub fn hopeless_number(front: &[u8], size: usize, low: u64, high: u64) -> Option<usize>
     requires size { HasNumberLength size }
@@ -114,7 +114,7 @@ pub fn hopeless_number(front: &[u8], size: usize, low: u64, high: u64) -> Option
     first_hopeless(front, size, low, high)
 }
 
-/// Returns the place of the first octet that is not 0, or None where each is 0.
+/// Returns the place of the first octet that is not 0, or None if each is 0.
 #[inline]
 pub(crate) fn first_other_than_zero(octets: &[u8]) -> Option<usize>
     ensures none { IfNone result ((k : ℕ) → k < length octets.now → slice_index octets.now k ≡ 0) }
@@ -125,7 +125,7 @@ pub(crate) fn first_other_than_zero(octets: &[u8]) -> Option<usize>
     octets.iter().position(|octet| *octet != 0)
 }
 
-/// How many zeros stand in front of the last octet.
+/// Returns how many zeros the octets begin with. The last octet is not counted.
 #[inline]
 fn zeros_in_front(octets: &[u8]) -> usize
     requires { 0 < length octets.now }
@@ -136,7 +136,7 @@ fn zeros_in_front(octets: &[u8]) -> usize
     first_other_than_zero(octets).unwrap_or(octets.len() - 1)
 }
 
-/// The octets without the zeros in front, but for the last.
+/// Returns the octets without the zeros in front. The last octet stays, even if it is zero.
 #[inline]
 pub(crate) fn significant(octets: &[u8]) -> &[u8]
     requires { HasNumberLength (length octets.now) }
@@ -145,8 +145,8 @@ pub(crate) fn significant(octets: &[u8]) -> &[u8]
     &octets[zeros_in_front(octets)..]
 }
 
-/// Returns what [`significant`] does, of a number below 2^32: the octets in front of the last four are zeros, and are
-/// not looked at.
+/// Returns what [`significant`] returns, for a number below 2^32: the octets in front of the last four are zeros, and
+/// are not looked at.
 #[inline]
 pub(crate) fn significant_of_four(octets: &[u8]) -> &[u8]
     requires sized { HasNumberLength (length octets.now) }
@@ -170,7 +170,7 @@ fn len_of_word(number: u32) -> usize
     1 + usize::from(number > 0xFF) + usize::from(number > 0xFFFF) + usize::from(number > 0xFF_FFFF)
 }
 
-/// How many octets are written of a number.
+/// Returns how many octets are written of a number.
 #[inline]
 pub fn written_number_len(number: u64) -> usize
     ensures { result ≡ length (least_number number) }
@@ -182,7 +182,7 @@ pub fn written_number_len(number: u64) -> usize
     }
 }
 
-/// What [`mark_number`] returns where the first octet is 0.
+/// Returns what [`mark_number`] returns. The first octet must be 0.
 #[inline(never)]
 fn mark_zeros(octets: &[u8]) -> Option<usize>
     requires sized { HasNumberLength (length octets.now) }
@@ -190,22 +190,22 @@ fn mark_zeros(octets: &[u8]) -> Option<usize>
     ensures none { IfNone result (octets.now ≡ least_number (number octets.now)) }
     ensures some { IfSome result (FirstDifference octets.now (least_number (number octets.now))) }
 {
-    // The fewest octets begin with another one, unless the number is zero.
+    // The fewest octets do not begin with 0, unless the number is zero.
     match first_other_than_zero(octets) {
         Some(_) => Some(0),
         None => first_difference(octets, significant(octets)),
     }
 }
 
-/// Returns the first place, counted from 0, at which the octets of a number, 1 to 8 of them, differ from the fewest
-/// octets that spell it (clauses 20.2.4 and 20.2.11), or None where they are the same.
+/// Returns the offset, counted from 0, of the first octet that differs from the fewest octets that spell the same
+/// number (clauses 20.2.4 and 20.2.11), or None if none differs. There must be 1 to 8 octets.
 #[inline(always)]
 pub fn mark_number(octets: &[u8]) -> Option<usize>
     requires { HasNumberLength (length octets.now) }
     ensures none { IfNone result (octets.now ≡ least_number (number octets.now)) }
     ensures some { IfSome result (FirstDifference octets.now (least_number (number octets.now))) }
 {
-    // Only zeros in front of others are too many.
+    // Only zeros in front of other octets are superfluous.
     match octets {
         [_] => None,
         [first, ..] if *first != 0 => None,
@@ -213,8 +213,8 @@ pub fn mark_number(octets: &[u8]) -> Option<usize>
     }
 }
 
-/// What [`mark_number`] returns of the octets of a number that was read from them. Since the number is known, octets
-/// behind the first are looked at only where it is 0.
+/// Returns what [`mark_number`] returns. `read` is the number that was read from the octets: since it is known, octets
+/// behind the first are looked at only if it is 0.
 #[inline(always)]
 pub(crate) fn mark_read_number(read: u64, octets: &[u8]) -> Option<usize>
     requires sized { HasNumberLength (length octets.now) }
@@ -222,18 +222,18 @@ pub(crate) fn mark_read_number(read: u64, octets: &[u8]) -> Option<usize>
     ensures none { IfNone result (octets.now ≡ least_number (number octets.now)) }
     ensures some { IfSome result (FirstDifference octets.now (least_number (number octets.now))) }
 {
-    // Only zeros in front of others are too many.
+    // Only zeros in front of other octets are superfluous.
     if octets.len() == 1 || octets[0] != 0 {
         return None;
     }
-    // The fewest octets begin with another one, unless the number is zero.
+    // The fewest octets do not begin with 0, unless the number is zero.
     if read != 0 {
         return Some(0);
     }
     mark_zeros(octets)
 }
 
-/// What [`write_number`] does with a number of more than four octets.
+/// Appends a number of more than four octets as [`write_number`] does.
 ///
 /// # Errors
 /// As those of [`write_number`].
@@ -246,8 +246,8 @@ fn write_long(number: u64, out: &mut Vec<u8>) -> Result<(), OutOfMemory>
     Ok(())
 }
 
-/// What [`write_number`] does where there is no room for four octets: only those that stay are appended, so that a new
-/// vector does not grow for others.
+/// Appends a number as [`write_number`] does, if there is no room for four octets: only the octets that stay are
+/// appended, so that a new vector does not grow for others.
 ///
 /// # Errors
 /// As those of [`write_number`].
@@ -282,7 +282,7 @@ fn last_of_word(number: u32, count: usize) -> [u8; 4]
 /// 20.2.11).
 ///
 /// # Errors
-/// `OutOfMemory` where memory is refused. `out` then stays as it was.
+/// `OutOfMemory` if memory is refused. `out` then stays as it was.
 #[inline(always)]
 pub fn write_number(number: u64, out: &mut Vec<u8>) -> Result<(), OutOfMemory>
     ensures ok { OnOk result (out.new.items ≡ out.old.items ++ least_number number) }
@@ -294,7 +294,7 @@ pub fn write_number(number: u64, out: &mut Vec<u8>) -> Result<(), OutOfMemory>
     if out.capacity() - out.len() < 4 {
         return write_closely(word, out);
     }
-    // Four octets are appended, and those of them cut off again that are too many.
+    // Four octets are appended, and the superfluous ones are cut off again.
     let count = len_of_word(word);
     let end = out.len() + count;
     out.extend_from_slice(&last_of_word(word, count))?;

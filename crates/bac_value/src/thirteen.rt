@@ -1,6 +1,6 @@
 //! The thirteen primitive types, of which a match takes one.
 
-/// The call at the type with that application number, at most 12.
+/// Calls a function at the type with that application number, at most 12.
 macro_rules! at_number {
     ($number:expr, $call:ident($($argument:expr),*)) => {
         match $number {
@@ -21,7 +21,7 @@ macro_rules! at_number {
     };
 }
 
-/// What is asked of the value, whichever type it has.
+/// Evaluates what is asked of the value, whichever type it has.
 macro_rules! at_value {
     ($prim:expr, $value:ident => $asked:expr) => {
         match $prim {
@@ -42,5 +42,27 @@ macro_rules! at_value {
     };
 }
 
+/// Calls a function at the type of a borrowed value, whichever type it is.
+macro_rules! at_borrowed {
+    ($prim:expr, $call:ident($($argument:expr),*)) => {
+        match $prim {
+            Self::Null(_) => $call::<$crate::types::null_value::Null>($($argument),*),
+            Self::Boolean(_) => $call::<$crate::types::boolean_value::Boolean>($($argument),*),
+            Self::Unsigned(_) => $call::<$crate::types::unsigned_integer::Unsigned>($($argument),*),
+            Self::Signed(_) => $call::<$crate::types::signed_integer::Signed>($($argument),*),
+            Self::RealBits(_) => $call::<$crate::types::real::RealBits>($($argument),*),
+            Self::DoubleBits(_) => $call::<$crate::types::double::DoubleBits>($($argument),*),
+            Self::Octets(_) => $call::<$crate::types::octet_string::Octets>($($argument),*),
+            Self::Text { .. } => $call::<$crate::types::character_string::Text>($($argument),*),
+            Self::Bits { .. } => $call::<$crate::types::bit_string::Bits>($($argument),*),
+            Self::Enumerated(_) => $call::<$crate::types::enumeration::Enumerated>($($argument),*),
+            Self::Date(_) => $call::<$crate::types::date_value::Date>($($argument),*),
+            Self::Time(_) => $call::<$crate::types::time_value::Time>($($argument),*),
+            Self::ObjectId(_) => $call::<$crate::types::object_identifier::ObjectId>($($argument),*),
+        }
+    };
+}
+
+pub(crate) use at_borrowed;
 pub(crate) use at_number;
 pub(crate) use at_value;

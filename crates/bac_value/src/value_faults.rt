@@ -4,7 +4,7 @@ use std::error::Error;
 use std::fmt;
 use std::fmt::Display;
 
-/// Why a constructor made no value. `TooLong` is told first.
+/// Why a constructor made no value. If both faults hold, it is `TooLong`.
 #[derive(Clone, Copy, Debug, PartialEq, Eq)]
 pub enum ValueFault {
     /// Its contents would have more than 1,048,576 octets.
@@ -44,5 +44,5 @@ impl Display for RangeFault {
 
 impl Error for RangeFault {}
 
-/// The most octets of the contents of one value.
+/// The largest number of octets that the contents of one value have.
 pub const LIMIT: usize = 1_048_576;

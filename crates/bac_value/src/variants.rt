@@ -35,11 +35,16 @@ use std::alloc::Global;
 pub(crate) trait Variant: Primitive {
     ghost wrapped: { Self → PrimitiveValue };
 
-    /// The value as one of any type.
+    /// Returns the value as one of any type.
     fn wrap(self) -> PrimitiveValue
         ensures { result ≡ wrapped self };
 
-    /// The value of which these contents are written, borrowed from them.
+    /// Returns the value as one of any type, borrowed.
+    fn as_prim_ref(&self) -> PrimRef<'_>
+        ensures value { prim_of result ≡ wrapped self.now }
+        ensures packed { IsPackedRef result };
+
+    /// Returns the value of which these contents are written, borrowed from them.
     fn borrowed(octets: &[u8]) -> PrimRef<'_>
         requires { IsWritten Self.contents Self.written octets.now }
         ensures value { (value : Self) → Self.contents value octets.now → prim_of result ≡ wrapped value }
@@ -52,43 +57,50 @@ pub(crate) trait Variant: Primitive {
     ghost is_written: { (value : Self) → prim_written (wrapped value) ≡ Self.written value };
 }
 
-/// Such a type, whose contents are always those that are written.
+/// A primitive type whose contents are always those that are written.
 pub(crate) trait Kept: Variant {
     ghost kept: { (value : Self) (octets : List ℕ) → Self.contents value octets → octets ≡ Self.written value };
 }
 
-/// Such a type, with what is written of its contents where they lie.
+/// A primitive type whose contents are written, counted and marked where they lie.
 pub(crate) trait Rewritten: Variant {
-    /// Appends what is written of the value whose contents these are.
+    /// Appends the contents that are written for the value that `octets` spell.
     ///
     /// # Errors
-    /// `OutOfMemory` where memory is refused. `out` then stays as it was.
+    /// `OutOfMemory` if memory is refused. `out` then stays as it was.
     fn append_written(octets: &[u8], out: &mut Vec<u8>) -> Result<(), OutOfMemory>
         requires { (value : Self) × Self.contents value octets.now }
         ensures ok { OnOk result ((value : Self) → Self.contents value octets.now → out.new.items ≡ out.old.items ++ Self.written value) }
         ensures err { OnErr result (out.new.items ≡ out.old.items) };
 
-    /// How many octets are written of the value whose contents these are.
+    /// Returns how many octets are written for the value that `octets` spell.
     fn written_len_of(octets: &[u8]) -> usize
         requires { (value : Self) × Self.contents value octets.now }
         ensures { (value : Self) → Self.contents value octets.now → result ≡ length (Self.written value) };
 
-    /// Returns the first place, counted from 0, at which contents of a value differ from those that are written, or
-    /// None where they are the same.
+    /// Returns the offset, counted from 0, of the first octet that differs from the contents that are written for the
+    /// same value, or None if none differs.
     fn mark_contents(octets: &[u8]) -> Option<usize>
         requires { (value : Self) × Self.contents value octets.now }
         ensures none { IfNone result ((value : Self) → Self.contents value octets.now → octets.now ≡ Self.written value) }
         ensures some { IfSome result (λ place. (value : Self) → Self.contents value octets.now → FirstDifference octets.now (Self.written value) place) };
 }
 
-/// The number of the application tag of the value's type.
+/// Returns the number of the application tag of the value's type.
 pub(crate) fn application_number_of<T: Primitive>(_value: &T) -> u8
     ensures { result ≡ T.APP }
 {
     T::APP
 }
 
-/// The value of this type whose contents are these octets.
+/// Returns the number of the application tag of this type.
+pub(crate) fn application_number_at<T: Primitive>() -> u8
+    ensures { result ≡ T.APP }
+{
+    T::APP
+}
+
+/// Returns the value of this type whose contents are these octets.
 ///
 /// # Errors
 /// As those of [`Primitive::read`].
@@ -107,7 +119,7 @@ pub(crate) fn read_variant<T: Variant>(
     Ok(T::read(alloc, octets)?.wrap())
 }
 
-/// The value of this type of which these contents are written, borrowed from them.
+/// Returns the value of this type of which these contents are written, borrowed from them.
 pub(crate) fn borrow_variant<T: Variant>(octets: &[u8]) -> PrimRef<'_>
     requires { IsWrittenOf T.APP octets.now }
     ensures value { (prim : PrimitiveValue) → ContentsOf T.APP prim octets.now → prim_of result ≡ prim }
@@ -116,10 +128,10 @@ pub(crate) fn borrow_variant<T: Variant>(octets: &[u8]) -> PrimRef<'_>
     T::borrowed(octets)
 }
 
-/// Appends what is written of the value of this type whose contents these are.
+/// Appends the contents that are written for the value of this type that `octets` spell.
 ///
 /// # Errors
-/// `OutOfMemory` where memory is refused. `out` then stays as it was.
+/// `OutOfMemory` if memory is refused. `out` then stays as it was.
 pub(crate) fn append_variant<T: Rewritten>(
     octets: &[u8],
     out: &mut Vec<u8>,
@@ -131,7 +143,7 @@ pub(crate) fn append_variant<T: Rewritten>(
     T::append_written(octets, out)
 }
 
-/// How many octets are written of the value of this type whose contents these are.
+/// Returns how many octets are written for the value of this type that `octets` spell.
 pub(crate) fn written_len_variant<T: Rewritten>(octets: &[u8]) -> usize
     requires { (prim : PrimitiveValue) × ContentsOf T.APP prim octets.now }
     ensures { (prim : PrimitiveValue) → ContentsOf T.APP prim octets.now → result ≡ length (prim_written prim) }
@@ -139,8 +151,8 @@ pub(crate) fn written_len_variant<T: Rewritten>(octets: &[u8]) -> usize
     T::written_len_of(octets)
 }
 
-/// Returns the first place, counted from 0, at which contents of a value of this type differ from those that are
-/// written, or None where they are the same.
+/// Returns the offset, counted from 0, of the first octet that differs from the contents that are written for the same
+/// value of this type, or None if none differs.
 pub(crate) fn mark_variant<T: Rewritten>(octets: &[u8]) -> Option<usize>
     requires { (prim : PrimitiveValue) × ContentsOf T.APP prim octets.now }
     ensures none { IfNone result ((prim : PrimitiveValue) → ContentsOf T.APP prim octets.now → octets.now ≡ prim_written prim) }
@@ -149,7 +161,7 @@ pub(crate) fn mark_variant<T: Rewritten>(octets: &[u8]) -> Option<usize>
     T::mark_contents(octets)
 }
 
-/// The least and the largest number of octets of contents of this type.
+/// Returns the least and the largest number of octets of contents of this type.
 pub(crate) fn lengths_of<T: Variant>() -> (usize, usize)
     ensures lengths { AreLengths (ContentsOf T.APP) result.0 result.1 }
     ensures limit { (result.0 ≤ result.1) × (result.1 ≤ 1048576) }
@@ -158,7 +170,7 @@ pub(crate) fn lengths_of<T: Variant>() -> (usize, usize)
 }
 
 /// Returns the place, counted from 0, of the first octet of `front` with which no contents of this type of `size`
-/// octets begin, or None where such contents begin with all of `front`.
+/// octets begin, or None if some of these contents begin with all of `front`.
 pub(crate) fn hopeless_variant<T: Variant>(front: &[u8], size: usize) -> Option<usize>
     requires size { IsBegun (ContentsOf T.APP) [] size }
     requires sized { length front.now ≤ size }
@@ -168,7 +180,7 @@ pub(crate) fn hopeless_variant<T: Variant>(front: &[u8], size: usize) -> Option<
     T::hopeless(front, size)
 }
 
-/// Whether the octets are the written contents of some value of this type.
+/// Returns true if the octets are the written contents of some value of this type.
 #[inline(always)]
 pub(crate) fn is_written_variant<T: Rewritten>(octets: &[u8]) -> bool
     ensures { IsTrue result ↔ IsWrittenOf T.APP octets.now }
@@ -187,6 +199,10 @@ impl Variant for Null {
         PrimitiveValue::Null(self)
     }
 
+    fn as_prim_ref(&self) -> PrimRef<'_> {
+        PrimRef::Null(*self)
+    }
+
     fn borrowed(_octets: &[u8]) -> PrimRef<'_> {
         PrimRef::Null(Null)
     }
@@ -203,6 +219,10 @@ impl Variant for Boolean {
         PrimitiveValue::Boolean(self)
     }
 
+    fn as_prim_ref(&self) -> PrimRef<'_> {
+        PrimRef::Boolean(*self)
+    }
+
     fn borrowed(octets: &[u8]) -> PrimRef<'_> {
         PrimRef::Boolean(Boolean(octets[0] == 1))
     }
@@ -217,6 +237,10 @@ impl Variant for Unsigned {
 
     fn wrap(self) -> PrimitiveValue {
         PrimitiveValue::Unsigned(self)
+    }
+
+    fn as_prim_ref(&self) -> PrimRef<'_> {
+        PrimRef::Unsigned(*self)
     }
 
     fn borrowed(octets: &[u8]) -> PrimRef<'_> {
@@ -248,6 +272,10 @@ impl Variant for Signed {
 
     fn wrap(self) -> PrimitiveValue {
         PrimitiveValue::Signed(self)
+    }
+
+    fn as_prim_ref(&self) -> PrimRef<'_> {
+        PrimRef::Signed(*self)
     }
 
     fn borrowed(octets: &[u8]) -> PrimRef<'_> {
@@ -282,6 +310,10 @@ impl Variant for RealBits {
         PrimitiveValue::RealBits(self)
     }
 
+    fn as_prim_ref(&self) -> PrimRef<'_> {
+        PrimRef::RealBits(*self)
+    }
+
     fn borrowed(octets: &[u8]) -> PrimRef<'_> {
         PrimRef::RealBits(RealBits(u32::from_be_bytes([
             octets[0], octets[1], octets[2], octets[3],
@@ -301,6 +333,10 @@ impl Variant for DoubleBits {
         PrimitiveValue::DoubleBits(self)
     }
 
+    fn as_prim_ref(&self) -> PrimRef<'_> {
+        PrimRef::DoubleBits(*self)
+    }
+
     fn borrowed(octets: &[u8]) -> PrimRef<'_> {
         PrimRef::DoubleBits(DoubleBits(number_of(octets)))
     }
@@ -317,6 +353,10 @@ impl Variant for Octets {
         PrimitiveValue::Octets(self)
     }
 
+    fn as_prim_ref(&self) -> PrimRef<'_> {
+        PrimRef::Octets(self.octets())
+    }
+
     fn borrowed(octets: &[u8]) -> PrimRef<'_> {
         PrimRef::Octets(octets)
     }
@@ -331,6 +371,13 @@ impl Variant for Text {
 
     fn wrap(self) -> PrimitiveValue {
         PrimitiveValue::Text(self)
+    }
+
+    fn as_prim_ref(&self) -> PrimRef<'_> {
+        PrimRef::Text {
+            set: self.set(),
+            octets: self.octets(),
+        }
     }
 
     fn borrowed(octets: &[u8]) -> PrimRef<'_> {
@@ -350,6 +397,13 @@ impl Variant for Bits {
 
     fn wrap(self) -> PrimitiveValue {
         PrimitiveValue::Bits(self)
+    }
+
+    fn as_prim_ref(&self) -> PrimRef<'_> {
+        PrimRef::Bits {
+            count: self.len(),
+            packed: self.packed(),
+        }
     }
 
     fn borrowed(octets: &[u8]) -> PrimRef<'_> {
@@ -385,6 +439,10 @@ impl Variant for Enumerated {
         PrimitiveValue::Enumerated(self)
     }
 
+    fn as_prim_ref(&self) -> PrimRef<'_> {
+        PrimRef::Enumerated(*self)
+    }
+
     fn borrowed(octets: &[u8]) -> PrimRef<'_> {
         PrimRef::Enumerated(Enumerated(number_of(octets) as u32))
     }
@@ -416,6 +474,10 @@ impl Variant for Date {
         PrimitiveValue::Date(self)
     }
 
+    fn as_prim_ref(&self) -> PrimRef<'_> {
+        PrimRef::Date(*self)
+    }
+
     fn borrowed(octets: &[u8]) -> PrimRef<'_> {
         PrimRef::Date(Date([octets[0], octets[1], octets[2], octets[3]]))
     }
@@ -430,6 +492,10 @@ impl Variant for Time {
 
     fn wrap(self) -> PrimitiveValue {
         PrimitiveValue::Time(self)
+    }
+
+    fn as_prim_ref(&self) -> PrimRef<'_> {
+        PrimRef::Time(*self)
     }
 
     fn borrowed(octets: &[u8]) -> PrimRef<'_> {
@@ -447,6 +513,10 @@ impl Variant for ObjectId {
 
     fn wrap(self) -> PrimitiveValue {
         PrimitiveValue::ObjectId(self)
+    }
+
+    fn as_prim_ref(&self) -> PrimRef<'_> {
+        PrimRef::ObjectId(*self)
     }
 
     fn borrowed(octets: &[u8]) -> PrimRef<'_> {

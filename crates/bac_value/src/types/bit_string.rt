@@ -17,9 +17,9 @@ use bac_tag::{OutOfMemory, Refusal, Why};
 use std::alloc::{AllocError, Global};
 use std::marker::Model;
 
-/// A list of up to 8,388,600 bits. Its contents are one octet with the number of unused bits, 0 to 7, then
-/// the bits, eight to an octet, from its highest bit downwards. The unused bits stand last and may be any:
-/// zeros are written. No bits at all are the one octet 0.
+/// A list of up to 8,388,600 bits. Its contents are one octet with the number of unused bits, 0 to 7, then the bits,
+/// eight to an octet, from its highest bit downwards. The unused bits stand last and may have any value: zeros are
+/// written. The contents of no bits are the one octet 0.
 #[derive(Debug)]
 pub struct Bits {
     /// What is written, in one piece: the count of unused bits, then the bits, the unused ones zero.
@@ -42,7 +42,7 @@ impl Model for Bits {
     ghost invariant = { λ bits. IsLeastBits bits.contents.items };
 }
 
-/// Returns 1 where the bit at that place is set, and 0 where it is not or the place is past the end.
+/// Returns 1 if the bit at that place is set, and 0 if it is not or the place is past the end.
 fn worth_at(bits: &[bool], place: usize) -> u8
     ensures { result ≡ worth (slice_index_or bits.now place false) }
 {
@@ -53,7 +53,7 @@ fn worth_at(bits: &[bool], place: usize) -> u8
     }
 }
 
-/// The octet of the eight bits from a place on.
+/// Returns the octet of the eight bits from a place on.
 fn octet_at(bits: &[bool], place: usize) -> u8
     requires { place ≤ 8388600 }
     ensures { result ≡ octet_from bits.now place }
@@ -68,10 +68,10 @@ fn octet_at(bits: &[bool], place: usize) -> u8
         + worth_at(bits, place + 7)
 }
 
-/// The contents that are written of bits.
+/// Returns the contents that are written of bits.
 ///
 /// # Errors
-/// `AllocError` where memory is refused.
+/// `AllocError` if memory is refused.
 fn packed(alloc: Global, bits: &[bool]) -> Result<Vec<u8>, AllocError>
     requires { IsBits bits.now }
     ensures { IfOk result (λ contents. contents.items ≡ least_bits bits.now) }
@@ -86,10 +86,10 @@ fn packed(alloc: Global, bits: &[bool]) -> Result<Vec<u8>, AllocError>
 }
 
 impl Bits {
-    /// The value of these bits, copied.
+    /// Creates a bit string with a copy of these bits.
     ///
     /// # Errors
-    /// `TooLong` where there are more than 8,388,600 bits, else `OutOfMemory` where memory is refused.
+    /// `TooLong` if there are more than 8,388,600 bits, else `OutOfMemory` if memory is refused.
     pub fn new(alloc: Global, bits: &[bool]) -> Result<Bits, ValueFault>
         ensures value { IfOk result (λ value. value ≡ bits.now) }
         ensures too_long { IsErrOf result ValueFault.TooLong ↔ (8388600 < length bits.now) }
@@ -103,14 +103,14 @@ impl Bits {
         }
     }
 
-    /// How many bits.
+    /// Returns the number of bits.
     pub fn len(&self) -> usize
         ensures { result ≡ length self.now }
     {
         bit_count(&self.contents)
     }
 
-    /// Whether there is no bit.
+    /// Returns true if there is no bit.
     pub fn is_empty(&self) -> bool
         ensures { IsTrue result ↔ (length self.now ≡ 0) }
     {
@@ -124,15 +124,15 @@ impl Bits {
         bit_of(&self.contents, place)
     }
 
-    /// The bits in their order. It takes no memory.
+    /// Returns an iterator over the bits in their order. It takes no memory.
     pub fn iter(&self) -> BitsIter<'_>
         ensures { result ≡ self.now }
     {
         BitsIter::over(&self.contents)
     }
 
-    /// The octets that hold the bits, eight to an octet, from its highest bit downwards. The unused bits of
-    /// the last are zero.
+    /// Returns the octets that hold the bits, eight to an octet, from its highest bit downwards. The unused bits of the
+    /// last octet are zero.
     pub fn packed(&self) -> &[u8]
         ensures value { IsBits self.now }
         ensures packed { result.now ≡ packed_bits self.now }
@@ -156,7 +156,7 @@ impl<'a> IntoIterator for &'a Bits {
     }
 }
 
-/// The octets behind the count of unused bits.
+/// Returns the octets behind the count of unused bits.
 fn behind_count(contents: &[u8]) -> &[u8]
     requires some { 1 ≤ length contents.now }
     requires least { IsLeastBits contents.now }
@@ -165,7 +165,7 @@ fn behind_count(contents: &[u8]) -> &[u8]
     &contents[1..]
 }
 
-/// How many bits written contents hold.
+/// Returns how many bits written contents hold.
 pub(crate) fn bit_count(contents: &[u8]) -> usize
     requires { IsLeastBits contents.now }
     ensures { result ≡ length (bits_of contents.now) }
@@ -173,7 +173,7 @@ pub(crate) fn bit_count(contents: &[u8]) -> usize
     8 * (contents.len() - 1) - usize::from(contents[0])
 }
 
-/// Returns the bit at that place of those that written contents hold, counted from 0, or None past the end.
+/// Returns the bit at that place in written contents, counted from 0, or None past the end.
 pub(crate) fn bit_of(contents: &[u8], place: usize) -> Option<bool>
     requires { IsLeastBits contents.now }
     ensures { result ≡ slice_get (bits_of contents.now) place }
@@ -185,7 +185,7 @@ pub(crate) fn bit_of(contents: &[u8], place: usize) -> Option<bool>
     Some((octet >> (7 - place % 8)) & 1 == 1)
 }
 
-/// Whether contents of that size can begin with a count.
+/// Returns true if contents of that size can begin with this count of unused bits.
 fn counts_unused(unused: u8, size: usize) -> bool
     requires { (1 ≤ size) × (size ≤ 1048576) }
     ensures { IsTrue result ↔ CountsUnused unused size }
@@ -209,7 +209,7 @@ fn clear_unused(contents: &mut Vec<u8>)
     }
 }
 
-/// The octet with so many of its lowest bits set to zero.
+/// Returns the octet with its `unused` lowest bits set to zero.
 fn cleared(octet: u8, unused: u8) -> u8
     requires { unused < 8 }
     ensures { result ≡ octet / 2 ^ unused * 2 ^ unused }
@@ -220,7 +220,7 @@ fn cleared(octet: u8, unused: u8) -> u8
 /// Appends contents with their unused bits set to zero.
 ///
 /// # Errors
-/// `OutOfMemory` where memory is refused. `out` then stays as it was.
+/// `OutOfMemory` if memory is refused. `out` then stays as it was.
 pub(crate) fn append_cleared(octets: &[u8], out: &mut Vec<u8>) -> Result<(), OutOfMemory>
     requires { (bits : List Bool) × BitsContents bits octets.now }
     ensures ok { OnOk result ((bits : List Bool) → BitsContents bits octets.now → out.new.items ≡ out.old.items ++ least_bits bits) }
@@ -234,8 +234,7 @@ pub(crate) fn append_cleared(octets: &[u8], out: &mut Vec<u8>) -> Result<(), Out
     Ok(())
 }
 
-/// Returns the place of the last octet, counted from 0, where an unused bit of it is not zero, or None where each is
-/// zero.
+/// Returns the place of the last octet, counted from 0, if an unused bit of it is not zero, or None if each is zero.
 pub(crate) fn mark_unused(octets: &[u8]) -> Option<usize>
     requires { (bits : List Bool) × BitsContents bits octets.now }
     ensures none { IfNone result ((bits : List Bool) → BitsContents bits octets.now → octets.now ≡ least_bits bits) }

@@ -25,7 +25,7 @@ impl<'a> Model for BitsIter<'a> {
 }
 
 impl<'a> BitsIter<'a> {
-    /// All bits of written contents.
+    /// Returns an iterator over all bits of written contents.
     pub(crate) fn over(contents: &'a [u8]) -> BitsIter<'a>
         requires { IsLeastBits contents.now }
         ensures { result ≡ bits_of contents.now }

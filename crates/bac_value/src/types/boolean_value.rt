@@ -16,7 +16,7 @@ use std::alloc::Global;
 #[derive(Clone, Copy, Debug, PartialEq, Eq, PartialOrd, Ord, Hash)]
 pub struct Boolean(pub bool);
 
-/// The value that is true where `bit` is.
+/// Creates the value that is true if `bit` is true.
 impl From<bool> for Boolean {
     ghost from_gives = { λ bit value. value ≡ record { 0 = bit } };
 

@@ -18,9 +18,9 @@ use bac_tag::{OutOfMemory, Refusal, Why};
 use std::alloc::{AllocError, Global};
 use std::marker::Model;
 
-/// A text: the number of its character set and its octets, up to 1,048,575 of them. Its contents are one
-/// octet with the set, then the octets in their order. Any set is kept, and any octets: 0 is UTF-8, 3 is
-/// UCS-4, 4 is UCS-2, 5 is ISO 8859-1.
+/// A text: the number of its character set and its octets, up to 1,048,575 of them. Its contents are one octet with the
+/// set, then the octets in their order. Any set is kept, and any octets. Set 0 is UTF-8, 3 is UCS-4, 4 is UCS-2, 5 is
+/// ISO 8859-1.
 #[derive(Debug)]
 pub struct Text {
     /// The octet with the set, then the octets of the text: what is written, in one piece.
@@ -44,10 +44,10 @@ impl Model for Text {
 }
 
 impl Text {
-    /// The text of that set and these octets, copied.
+    /// Creates a text with this set and a copy of these octets.
     ///
     /// # Errors
-    /// `TooLong` where there are more than 1,048,575 octets, else `OutOfMemory` where memory is refused.
+    /// `TooLong` if there are more than 1,048,575 octets, else `OutOfMemory` if memory is refused.
     pub fn new(alloc: Global, set: u8, octets: &[u8]) -> Result<Text, ValueFault>
         ensures value { IfOk result (λ text. text ≡ record { set = set; octets = octets.now }) }
         ensures too_long { IsErrOf result ValueFault.TooLong ↔ (1048575 < length octets.now) }
@@ -61,21 +61,21 @@ impl Text {
         }
     }
 
-    /// The number of the character set.
+    /// Returns the number of the character set.
     pub fn set(&self) -> u8
         ensures { result ≡ self.now.set }
     {
         self.contents[0]
     }
 
-    /// The octets of the text, in their order.
+    /// Returns the octets of the text, in their order.
     pub fn octets(&self) -> &[u8]
         ensures { result.now ≡ self.now.octets }
     {
         &self.contents[1..]
     }
 
-    /// The text, where its set is 0 and its octets are UTF-8.
+    /// Returns the text if its set is 0 and its octets are UTF-8, or else None.
     pub fn as_utf8(&self) -> Option<&str>
         ensures some { IsSome result ↔ ((self.now.set ≡ 0) × IsUtf8 self.now.octets) }
         ensures text { IfSome result (λ text. text.now ≡ self.now.octets) }
@@ -87,10 +87,10 @@ impl Text {
     }
 }
 
-/// An octet, and the octets behind it.
+/// Returns the octet `first`, and the octets of `rest` behind it.
 ///
 /// # Errors
-/// `AllocError` where memory is refused.
+/// `AllocError` if memory is refused.
 fn joined(alloc: Global, first: u8, rest: &[u8]) -> Result<Vec<u8>, AllocError>
     requires { length rest.now < 1048576 }
     ensures { IfOk result (λ all. all.items ≡ first ∷ rest.now) }

@@ -20,7 +20,7 @@ use std::alloc::Global;
 pub struct Date(pub [u8; 4]);
 
 impl Date {
-    /// The four octets, in their order.
+    /// Returns the four octets, in their order.
     fn octets(&self) -> [u8; 4]
         ensures value { IsDate self.now }
         ensures octets { result ≡ date_octets self.now }

@@ -22,7 +22,7 @@ const MOST: u64 = 0xFFFF_FFFF;
 #[derive(Clone, Copy, Debug, PartialEq, Eq, PartialOrd, Ord, Hash)]
 pub struct Enumerated(pub u32);
 
-/// The value with that number.
+/// Creates the value with this number.
 impl From<u32> for Enumerated {
     ghost from_gives = { λ number value. value ≡ record { 0 = number } };
 
@@ -62,7 +62,8 @@ impl Primitive for Enumerated {
         Some(Enumerated(find_number(octets, size, 0, MOST)? as u32))
     }
 
-    /// Octets in front of the last four have to be zeros; those four are not looked at.
+    /// Returns the place of the first octet that is not 0 in front of the last four, where only zeros can stand. The
+    /// last four are not looked at.
     fn hopeless(front: &[u8], size: usize) -> Option<usize> {
         let wide = front.len().min(size.saturating_sub(4));
         first_other_than_zero(&front[..wide])

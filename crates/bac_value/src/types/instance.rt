@@ -10,8 +10,8 @@ use std::marker::Model;
 /// The number of the last instance: 22 bits.
 const LAST: u32 = 0x3F_FFFF;
 
-/// The instance of an object of some kind: 0 to 4,194,303. Its contents are those of an Unsigned (clause
-/// 20.2.4), of which the fewest octets are written.
+/// The instance of an object of some kind: 0 to 4,194,303. Its contents are those of an Unsigned (clause 20.2.4). The
+/// fewest octets are written.
 #[derive(Clone, Copy, Debug, PartialEq, Eq, PartialOrd, Ord, Hash)]
 pub struct Instance {
     number: u32,
@@ -55,7 +55,7 @@ impl TryFrom<u32> for Instance {
 
     ghost try_from_gives = { λ number result. (IsOk result ↔ (number ≤ 4194303)) × IfOk result (λ instance. instance ≡ number) };
 
-    /// The instance with that number.
+    /// Returns the instance with this number.
     ///
     /// # Errors
     /// `RangeFault::Instance` above 4,194,303.

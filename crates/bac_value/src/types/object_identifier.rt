@@ -27,15 +27,15 @@ const MOST_KIND: u16 = 0x3FF;
 /// The largest instance: 22 bits.
 const MOST_INSTANCE: u32 = 0x3F_FFFF;
 
-/// A kind of object and an instance of it. Four octets, the most significant octet first: 10 bits of kind,
-/// then 22 bits of instance.
+/// A kind of object and an instance of it. Its contents are four octets, the most significant octet first: 10 bits of
+/// kind, then 22 bits of instance.
 #[derive(Clone, Copy)]
 pub struct ObjectId {
-    /// The number that the four octets are.
+    /// The number that the four octets spell.
     number: u32,
 }
 
-/// The kind and the instance, as `ObjectId { kind: 0, instance: 5 }`.
+/// Writes the kind and the instance, as in `ObjectId { kind: 0, instance: 5 }`.
 impl Debug for ObjectId {
     fn fmt<W: fmt::Write>(&self, formatter: &mut fmt::Formatter<W>) -> fmt::Result {
         formatter
@@ -58,7 +58,7 @@ impl Model for ObjectId {
     ghost inverse_ok = { λ id small. ap (λ (n : ℕ). record { number = n }) (put_together id.number) };
 }
 
-/// Two are equal where their kinds are and their instances are.
+/// Two identifiers are equal if their kinds are equal and their instances are equal.
 impl PartialEq for ObjectId {
     ghost eq = { eq_of_both (on (λ id. id.kind) nat_eq) (on (λ id. id.instance) nat_eq) };
 
@@ -73,7 +73,7 @@ impl Eq for ObjectId {
     ghost laws = { Prim.search (comparing, rules) };
 }
 
-/// By their kinds, and where these are equal by their instances.
+/// Identifiers are ordered by their kinds, and if these are equal, by their instances.
 impl Ord for ObjectId {
     ghost cmp = { then_cmp (on (λ id. id.kind) nat_cmp) (on (λ id. id.instance) nat_cmp) };
 
@@ -110,7 +110,7 @@ impl Hash for ObjectId {
 }
 
 impl ObjectId {
-    /// Returns the identifier with this kind and this instance, or None where the kind is above 1,023 or the instance
+    /// Returns the identifier with this kind and this instance, or None if the kind is above 1,023 or the instance
     /// above 4,194,303.
     pub fn new(kind: u16, instance: u32) -> Option<ObjectId>
         ensures some { IsSome result ↔ ((kind ≤ 1023) × (instance ≤ 4194303)) }
@@ -124,21 +124,21 @@ impl ObjectId {
         })
     }
 
-    /// The kind of object, at most 1,023.
+    /// Returns the kind of object, at most 1,023.
     pub fn kind(&self) -> u16
         ensures { result ≡ self.now.kind }
     {
         (self.number >> 22) as u16
     }
 
-    /// The instance, at most 4,194,303.
+    /// Returns the instance, at most 4,194,303.
     pub fn instance(&self) -> u32
         ensures { result ≡ self.now.instance }
     {
         self.number & MOST_INSTANCE
     }
 
-    /// The identifier of four octets, 10 bits of kind in front of 22 of instance.
+    /// Returns the identifier that four octets spell: 10 bits of kind, then 22 bits of instance.
     #[tactic(auto, unfolding(crate::specs::Identifier::identifier_octets))]
     pub(crate) fn of_octets(octets: [u8; 4]) -> ObjectId
         ensures { octets ≡ identifier_octets result }
@@ -148,7 +148,7 @@ impl ObjectId {
         }
     }
 
-    /// The four octets, 10 bits of kind in front of 22 of instance.
+    /// Returns the four octets: 10 bits of kind, then 22 bits of instance.
     #[tactic(auto, unfolding(crate::specs::Identifier::identifier_octets))]
     fn octets(&self) -> [u8; 4]
         ensures value { IsIdentifier self.now }

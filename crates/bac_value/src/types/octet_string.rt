@@ -40,10 +40,10 @@ impl Model for Octets {
 }
 
 impl Octets {
-    /// The value of these octets, copied.
+    /// Creates an octet string with a copy of these octets.
     ///
     /// # Errors
-    /// `TooLong` where there are more than 1,048,576 octets, else `OutOfMemory` where memory is refused.
+    /// `TooLong` if there are more than 1,048,576 octets, else `OutOfMemory` if memory is refused.
     pub fn new(alloc: Global, octets: &[u8]) -> Result<Octets, ValueFault>
         ensures value { IfOk result (λ value. value ≡ octets.now) }
         ensures too_long { IsErrOf result ValueFault.TooLong ↔ (1048576 < length octets.now) }
@@ -57,7 +57,7 @@ impl Octets {
         Ok(Octets { octets })
     }
 
-    /// The octets, in their order.
+    /// Returns the octets, in their order.
     pub fn octets(&self) -> &[u8]
         ensures { result.now ≡ self.now }
     {

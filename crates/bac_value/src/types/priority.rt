@@ -13,8 +13,8 @@ const FIRST: u8 = 1;
 /// The number of the last priority.
 const LAST: u8 = 16;
 
-/// The priority of a command: 1, which comes first, to 16. Its contents are those of an Unsigned (clause
-/// 20.2.4), of which the fewest octets are written.
+/// The priority of a command: 1, which comes first, to 16. Its contents are those of an Unsigned (clause 20.2.4). The
+/// fewest octets are written.
 #[derive(Clone, Copy, Debug, PartialEq, Eq, PartialOrd, Ord, Hash)]
 pub struct Priority {
     number: u8,
@@ -31,7 +31,7 @@ impl Model for Priority {
 }
 
 impl Priority {
-    /// Returns the priority with this number, or None where it is not 1 to 16.
+    /// Returns the priority with this number, or None if it is not 1 to 16.
     pub fn new(number: u8) -> Option<Priority>
         ensures some { IsSome result ↔ ((1 ≤ number) × (number ≤ 16)) }
         ensures value { IfSome result (λ priority. priority ≡ number) }
@@ -58,10 +58,10 @@ impl TryFrom<u8> for Priority {
 
     ghost try_from_gives = { λ number result. (IsOk result ↔ ((1 ≤ number) × (number ≤ 16))) × IfOk result (λ priority. priority ≡ number) };
 
-    /// The priority with that number.
+    /// Returns the priority with this number.
     ///
     /// # Errors
-    /// `RangeFault::Priority` where it is not 1 to 16.
+    /// `RangeFault::Priority` if it is not 1 to 16.
     fn try_from(number: u8) -> Result<Priority, RangeFault> {
         match Priority::new(number) {
             Some(priority) => Ok(priority),

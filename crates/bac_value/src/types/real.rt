@@ -13,12 +13,12 @@ use crate::primitives::Primitive;
 use bac_tag::{OutOfMemory, Refusal};
 use std::alloc::Global;
 
-/// The bits of a real number of single precision, kept as they are: each pattern is a value, those that are
-/// no number too. Four octets, the one with the sign first.
+/// The bits of a real number of single precision, kept as they are: each pattern is a value, also those that are no
+/// number. Its contents are four octets, the one with the sign first.
 #[derive(Clone, Copy, Debug, PartialEq, Eq, Hash)]
 pub struct RealBits(pub u32);
 
-/// The real number with these bits, the sign in the highest of them.
+/// Creates the real number with these bits. The highest bit is the sign.
 impl From<u32> for RealBits {
     ghost from_gives = { λ bits value. value ≡ record { 0 = bits } };
 
@@ -28,7 +28,7 @@ impl From<u32> for RealBits {
 }
 
 impl RealBits {
-    /// The four octets, the one with the sign first.
+    /// Returns the four octets, the one with the sign first.
     #[tactic(auto, unfolding(crate::specs::RealContents::real_octets))]
     fn octets(&self) -> [u8; 4]
         ensures value { IsReal self.now }

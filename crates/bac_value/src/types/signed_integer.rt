@@ -18,7 +18,7 @@ use std::alloc::Global;
 #[derive(Clone, Copy, Debug, PartialEq, Eq, PartialOrd, Ord, Hash)]
 pub struct Signed(pub i64);
 
-/// The value with that number.
+/// Creates the value with this number.
 impl From<i64> for Signed {
     ghost from_gives = { λ number value. value ≡ record { 0 = number } };
 
@@ -27,7 +27,7 @@ impl From<i64> for Signed {
     }
 }
 
-/// The octets with the sign's octets in front, eight in all.
+/// Returns eight octets: first those of the sign, each 0 or 255, and then the octets of the number.
 fn widened(octets: &[u8]) -> [u8; 8]
     requires { HasNumberLength (length octets.now) }
     ensures low { slice_index octets.now 0 < 128 → result ≡ replicate (8 - length octets.now) 0 ++ octets.now }
@@ -39,7 +39,7 @@ fn widened(octets: &[u8]) -> [u8; 8]
     wide
 }
 
-/// The two's complement number that at most eight octets spell.
+/// Returns the two's complement number that 1 to 8 octets spell.
 pub(crate) fn signed_of(octets: &[u8]) -> i64
     requires { HasNumberLength (length octets.now) }
     ensures { result ≡ signed_number octets.now }
@@ -47,14 +47,14 @@ pub(crate) fn signed_of(octets: &[u8]) -> i64
     i64::from_be_bytes(widened(octets))
 }
 
-/// Whether an octet only repeats the sign that the next one has.
+/// Returns true if an octet only repeats the sign that the next one has.
 fn repeats_sign(octet: u8, next: u8) -> bool
     ensures { IsTrue result ↔ RepeatsSign octet next }
 {
     (octet == 0 && next < 128) || (octet == 255 && next >= 128)
 }
 
-/// How many octets in front only repeat the sign.
+/// Returns how many octets in front only repeat the sign.
 fn signs_in_front(octets: &[u8]) -> usize
     requires { 0 < length octets.now }
     ensures within { result < length octets.now }
@@ -69,7 +69,7 @@ fn signs_in_front(octets: &[u8]) -> usize
     octets.len() - 1
 }
 
-/// The octets without those in front that only repeat the sign.
+/// Returns the octets without those in front that only repeat the sign.
 pub(crate) fn significant_signed(octets: &[u8]) -> &[u8]
     requires { HasNumberLength (length octets.now) }
     ensures { result.now ≡ least_signed (signed_number octets.now) }
@@ -77,7 +77,7 @@ pub(crate) fn significant_signed(octets: &[u8]) -> &[u8]
     &octets[signs_in_front(octets)..]
 }
 
-/// The eight octets of a signed number.
+/// Returns the eight octets of a signed number.
 fn eight_octets(value: i64) -> [u8; 8]
     ensures { signed_number result ≡ value }
 {

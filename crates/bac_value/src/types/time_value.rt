@@ -19,7 +19,7 @@ use std::alloc::Global;
 pub struct Time(pub [u8; 4]);
 
 impl Time {
-    /// The four octets, in their order.
+    /// Returns the four octets, in their order.
     fn octets(&self) -> [u8; 4]
         ensures value { IsTime self.now }
         ensures octets { result ≡ time_octets self.now }

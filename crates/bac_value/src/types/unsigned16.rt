@@ -10,7 +10,7 @@ use crate::bounded::Bounded;
 #[derive(Clone, Copy, Debug, PartialEq, Eq, PartialOrd, Ord, Hash)]
 pub struct Unsigned16(pub u16);
 
-/// The value with that number.
+/// Creates the value with this number.
 impl From<u16> for Unsigned16 {
     ghost from_gives = { λ number value. value ≡ record { 0 = number } };
 

@@ -17,7 +17,7 @@ use std::alloc::Global;
 #[derive(Clone, Copy, Debug, PartialEq, Eq, PartialOrd, Ord, Hash)]
 pub struct Unsigned(pub u64);
 
-/// The value with that number.
+/// Creates the value with this number.
 impl From<u64> for Unsigned {
     ghost from_gives = { λ number value. value ≡ record { 0 = number } };
 
