@@ -1,7 +1,7 @@
 pub mod JudgingLemmas
 pub mod RecordLemmas
 pub mod KeptLemmas
-mod CountingLemmas
+mod ReportingLemmas
 mod NormalisingLemmas
 pub mod IntakeLemmas
 mod ItemLemmas

@@ -2,6 +2,7 @@
 use Rattle.std.specs.Prelude.{◌≡◌, ℕ, ◌++◌, ◌↔◌, List, Option, Some, None, Result, Ok, Err, IsTrue, true, false, codes}
 use Rattle.std.specs.Fmt.{decimal}
 use Rattle.bac_tag.specs.Octets.{IsMark}
+use Rattle.bac_tag.specs.Spelling.{HasMark}
 use Rattle.bac_tag.specs.declared.refusals.Refusal.{Refusal}
 use Rattle.bac_tag.specs.Refusals.{name_of}
 use Rattle.std.specs.List.{AllByRecursion}
@@ -48,14 +49,6 @@ said_of (Some place) = tolerated place
 abbrev pub numbered : ℕ → List ℕ → List ℕ
 numbered number text = decimal number ++ codes " " ++ text ++ codes "\n"
 
--- How a record counts that was judged so, and what is appended: nothing, or for a refused one its line.
-abbrev pub IsCounted : Result (Option ℕ) DealFault → ℕ → List ℕ → List ℕ → Result Dealt DealFault → Type 0
-IsCounted (Ok mark) number old new (Ok dealt) = (IsTrue dealt.is_canonical ↔ (mark ≡ None)) × (dealt.is_refused ≡ false) × (new ≡ old)
-IsCounted (Err (Stop refusal)) number old new (Ok dealt) =
-    (dealt ≡ record { is_canonical = false; is_refused = true }) × (new ≡ old ++ numbered number (said_text (refused refusal)))
-IsCounted (Err _) number old new (Err Memory) = new ≡ old
-IsCounted _ number old new _ = ⊥
-
 -- what show says of octets: the frame as which they are accepted, or a refusal
 abbrev pub IsShown : Mode → List ℕ → Said → Type 0
 IsShown mode octets (shown frame) = Accepts mode frame octets
@@ -70,13 +63,23 @@ IsChecked mode octets (tolerated place) = (mode ≡ Tolerant) × (frame : FrameV
 IsChecked mode octets (refused refusal) = Refuses mode octets refusal
 IsChecked mode octets (shown frame) = ⊥
 
+-- the output of a run that says this of octets
+abbrev pub ReportsAs : (Mode → List ℕ → Said → Type 0) → Mode → ℕ → List ℕ → List ℕ → Type 0
+ReportsAs says mode number octets output = (said : Said) × says mode octets said × (output ≡ numbered number (said_text said))
+
 -- the output of show
 abbrev pub ShowsAs : Mode → ℕ → List ℕ → List ℕ → Type 0
-ShowsAs mode number octets output = (said : Said) × IsShown mode octets said × (output ≡ numbered number (said_text said))
+ShowsAs = ReportsAs IsShown
 
 -- the output of check
 abbrev pub ChecksAs : Mode → ℕ → List ℕ → List ℕ → Type 0
-ChecksAs mode number octets output = (said : Said) × IsChecked mode octets said × (output ≡ numbered number (said_text said))
+ChecksAs = ReportsAs IsChecked
+
+-- Behind the old octets stands a line with what is said of any octets that are accepted as the frame, with this mark.
+pub record IsReported (says : Mode → List ℕ → Said → Type 0) (number : ℕ) (frame : FrameValue) (mark : Option ℕ) (old new : List ℕ) : Type 0 where
+  pub said : Said
+  pub is_said : (mode : Mode) (octets : List ℕ) → Accepts mode frame octets → HasMark (SpellsFrame frame) octets mark → says mode octets said
+  pub appended : new ≡ old ++ numbered number (said_text said)
 
 -- the output of normalise: the canonical octets of the frame, as a record
 abbrev pub NormalisesTo : Mode → ℕ → List ℕ → List ℕ → Type 0

@@ -7,58 +7,36 @@ ghost use Rattle.bac_record.specs.Records.{Records};
 ghost use Rattle.bac_record.specs.Runs.{RanThrough, RunCounts, Stopped};
 ghost use Rattle.bac_record.specs.Files.{RunsOver};
 
-use crate::judging::{Appending, judge};
-use crate::lines::{Line, counted};
+use crate::lines::Line;
+use crate::reporting::{Report, Reporting};
 use crate::{Input, Mode, Output, RunFault, Summary};
 use bac_npdu::{Body, FrameHead};
-use bac_record::{DealFault, Dealt, Job, run};
+use bac_record::run;
 use bac_tag::OutOfMemory;
 use std::alloc::Global;
 
-/// Tells of each record whether it is canonical.
+/// Says of each record whether it is canonical.
 #[derive(Clone, Copy)]
-struct Check {
-    alloc: Global,
-    mode: Mode,
-}
+struct Check;
 
-/// Appends nothing.
-#[derive(Drop)]
-struct Nothing;
+impl Reporting for Check {
+    ghost use Rattle.bac_stream.specs.Lines.{IsChecked};
 
-impl Appending for Nothing {
-    ghost use Rattle.std.specs.Prelude.{◌≡◌};
-
-    ghost appends = { λ _ _ _ old new. new ≡ old };
+    ghost says = { IsChecked };
 
     #[inline(always)]
-    fn append(
+    fn append_line(
         self,
+        number: u32,
         _head: &FrameHead<'_>,
         _body: Body,
-        _mark: Option<usize>,
-        _out: &mut Vec<u8>,
+        mark: Option<usize>,
+        out: &mut Vec<u8>,
     ) -> Result<(), OutOfMemory> {
-        Ok(())
+        Line::of_mark(mark).push(number, out)
     }
-}
 
-impl Job for Check {
-    ghost line = { λ check. ChecksAs check.mode };
-
-    ghost stops = { λ _ _ _. ⊥ };
-
-    ghost is_canonical = { λ _. IsCanonical };
-
-    ghost is_refused = { λ check. IsRefused check.mode };
-
-    fn deal(&self, number: u32, octets: &[u8], out: &mut Vec<u8>) -> Result<Dealt, DealFault> {
-        let judged = judge(self.alloc, self.mode, octets, Nothing, out);
-        if let Ok(mark) = judged {
-            Line::of_mark(mark).push(number, out)?;
-        }
-        counted(judged, number, out)
-    }
+    ghost says_refusals = { λ mode octets refusal refuses. refuses };
 }
 
 /// Writes a line for each record: its number, and whether the record is canonical, tolerated or refused. Returns what
@@ -91,7 +69,7 @@ pub fn run_check<R: Input, W: Output>(
     ensures stopped { IfErr result (Stopped (ChecksAs mode) (λ _ _. ⊥)
         (R.left reader.old) (R.left reader.new) (W.taken writer.old) (W.taken writer.new)) }
 
-    // Where the octets of the reader are known, they are records and a rest in one way.
+    // If the octets of the reader are known, they are records and a rest in only one way.
     ensures files { (list : List (List ℕ)) (rest file : List ℕ) → R.left reader.old ≡ Some file → Records list rest file
         → RunsOver (ChecksAs mode) (λ _ _. ⊥) IsCanonical (IsRefused mode) list rest
         (W.taken writer.old) (W.taken writer.new) result }
@@ -99,5 +77,15 @@ pub fn run_check<R: Input, W: Output>(
         (λ _. (R.failures reader.new ≡ R.failures reader.old) × (W.failures writer.new ≡ W.failures writer.old))
         (RunCounts (R.failures reader.old) (R.failures reader.new) (W.failures writer.old) (W.failures writer.new)) }
 {
-    run(alloc, &Check { alloc, mode }, reader, writer)
+    let reporting = Check;
+    run(
+        alloc,
+        &Report {
+            alloc,
+            mode,
+            reporting,
+        },
+        reader,
+        writer,
+    )
 }

@@ -6,10 +6,10 @@ use thiserror::Error;
 /// Why an intake goes no further.
 #[derive(Clone, Copy, Debug, PartialEq, Eq, Error)]
 pub enum FeedFault {
-    /// The stream ended inside a record. Only [`crate::Intake::finish`] tells it.
+    /// The stream ended inside a record. Only [`crate::Intake::finish`] returns it.
     #[error("truncated")]
     Truncated,
-    /// A record has more than 65,535 octets. Its two length octets cannot say so, and no call tells it.
+    /// A record has more than 65,535 octets. Its two length octets cannot say so, and no call returns it.
     #[error("too long")]
     RecordTooLong,
     /// More octets came after 1,000,000 records.

@@ -41,8 +41,8 @@ impl Model for Intake {
         × (intake.records ≡ MOST → intake.rest.items ≡ []) };
 }
 
-/// Moves octets from the front of the piece behind those held, until these are so many or the piece ends. Gives what is
-/// left of the piece.
+/// Moves octets from the front of the piece behind those held, until `size` octets are held or the piece ends. Returns
+/// what is left of the piece.
 fn fill<'a>(held: &mut Vec<u8>, size: usize, piece: &'a [u8]) -> &'a [u8]
     requires { size ≤ vec_capacity held.old }
     ensures octets { held.old.items ++ piece.now ≡ held.new.items ++ result.now }
@@ -57,8 +57,8 @@ fn fill<'a>(held: &mut Vec<u8>, size: usize, piece: &'a [u8]) -> &'a [u8]
     behind
 }
 
-/// Completes the record that is held in part, with as many octets of the piece as it wants. Gives what is left of the
-/// piece, or `None` where it ends before the record does.
+/// Completes the record that is held in part, with as many octets of the piece as it needs. Returns what is left of the
+/// piece, or `None` if the piece ends before the record does.
 fn complete<'a>(held: &mut Vec<u8>, piece: &'a [u8]) -> Option<&'a [u8]>
     requires room { LONGEST + 2 ≤ vec_capacity held.old }
     requires partial { IsPartial held.old.items }
@@ -80,13 +80,13 @@ fn complete<'a>(held: &mut Vec<u8>, piece: &'a [u8]) -> Option<&'a [u8]>
     Some(behind)
 }
 
-/// Appends an item for each record that lies whole in the octets held and the piece behind them, where so many records
-/// stand before. A record that is held in part is completed there, and every other one is read from the piece. Gives
-/// the number of records with these, and the octets behind them: `None` where all the piece is held, since it ends
-/// within the record that was held in part.
+/// Appends an item for each whole record in the octets held and the piece behind them, before which `before` records
+/// stand. A record that is held in part is completed where it is held, and every other one is read from the piece.
+/// Returns the number of records including these, and the octets behind them. Returns `None` if all of the piece is
+/// held, since it ends within the record that was held in part.
 ///
 /// # Errors
-/// `TooManyFrames` and `OutOfMemory`. Octets of the piece may then be held, and some items be there.
+/// `TooManyFrames` and `OutOfMemory`. Some octets of the piece may then be held, and `out` may hold some of the items.
 fn push_joined<'a>(
     alloc: Global,
     mode: Mode,
@@ -122,10 +122,10 @@ fn push_joined<'a>(
 }
 
 impl Intake {
-    /// Makes an intake that was given no octets, with room for the rest of any record.
+    /// Creates an intake that was given no octets, with room for the rest of any record.
     ///
     /// # Errors
-    /// `OutOfMemory`.
+    /// `OutOfMemory` if memory is refused.
     pub fn new(alloc: Global, mode: Mode) -> Result<Intake, OutOfMemory>
         ensures { IfOk result (λ intake. intake ≡ fresh mode) }
     {
@@ -138,14 +138,15 @@ impl Intake {
         })
     }
 
-    /// Takes in a piece of the stream, and appends an item for each record that the stream so far completes, in order:
-    /// its frame, or why it is refused. The octets behind them are kept. What holds no whole record takes no memory.
+    /// Takes in a piece of the stream, and appends an item for each record that the piece completes, in order: its
+    /// frame, or why it is refused. The octets behind these records are kept. A piece that completes no record takes no
+    /// memory.
     ///
     /// # Errors
-    /// - `TooManyFrames` where octets come after 1,000,000 records.
-    /// - `OutOfMemory` where memory is refused. It comes only where a record is completed.
+    /// - `TooManyFrames` if octets come after 1,000,000 records.
+    /// - `OutOfMemory` if memory is refused. It is returned only if a record is completed.
     ///
-    /// The intake and `out` then stay as they were, also where records stood whole before the fault.
+    /// The intake and `out` then stay as they were, even if there were whole records before the fault.
     ///
     /// # Examples
     /// ```rust
@@ -194,10 +195,10 @@ impl Intake {
         }
     }
 
-    /// Ends the stream. Gives the number of its records.
+    /// Ends the stream. Returns the number of its records.
     ///
     /// # Errors
-    /// `Truncated` where the stream ended inside a record.
+    /// `Truncated` if the stream ended inside a record.
     pub fn finish(&self) -> Result<u32, FeedFault>
         ensures ok { IfOk result (λ count. (count ≡ self.now.records) × (self.now.rest ≡ [])) }
         ensures fault { IfErr result (λ fault. (fault ≡ FeedFault.Truncated) × (self.now.rest ≢ [])) }

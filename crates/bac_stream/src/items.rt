@@ -14,7 +14,7 @@ use bac_record::layers::front_record;
 use bac_tag::{OutOfMemory, Refusal, Why};
 use std::alloc::Global;
 
-/// Appends the item of a frame where it was decoded: a frame that is handed on is copied at each step.
+/// Appends the item of a frame where it was decoded: a frame that is handed on would be copied at each step.
 #[derive(Drop)]
 struct PushItem {
     alloc: Global,
@@ -51,7 +51,7 @@ impl FrameVisitor for PushItem {
 /// Appends the item of a record.
 ///
 /// # Errors
-/// `OutOfMemory`. `out` then stays as it was.
+/// `OutOfMemory` if memory is refused. `out` then stays as it was.
 pub(crate) fn push_item(
     alloc: Global,
     mode: Mode,
@@ -62,7 +62,7 @@ pub(crate) fn push_item(
     ensures memory { IfErr result (λ fault. fault ≡ FeedFault.OutOfMemory) }
     ensures err { OnErr result (out.new.items ≡ out.old.items) }
 {
-    // By this law octets that differ from the canonical ones of their frame are canonical for no other.
+    // By this law octets that differ from the canonical ones of their frame are not canonical for any other frame.
     frames_have_one_value();
     match visit_frame(alloc, octets, PushItem { alloc, mode }, out) {
         Ok(Ok(())) => Ok(()),
@@ -75,8 +75,8 @@ pub(crate) fn push_item(
     }
 }
 
-/// Appends the item of the record at the front, where so many records stand before it, and gives the octets behind it:
-/// `None` where no record lies there whole.
+/// Appends the item of the record at the front, before which `before` records stand. Returns the octets behind it, or
+/// `None` if no whole record is at the front.
 ///
 /// # Errors
 /// `TooManyFrames` and `OutOfMemory`. `out` then stays as it was.
@@ -109,11 +109,11 @@ fn next_item<'a>(
     Ok(Some(&octets[2 + first.len()..]))
 }
 
-/// Appends an item for each record that lies whole at the front of the octets, where so many records stand before them.
-/// Gives the number of records with these, and the octets behind them.
+/// Appends an item for each whole record at the front of the octets, before which `before` records stand. Returns the
+/// number of records including these, and the octets behind them.
 ///
 /// # Errors
-/// `TooManyFrames` and `OutOfMemory`. Some items may then be there.
+/// `TooManyFrames` and `OutOfMemory`. `out` may then hold some of the items.
 pub(crate) fn push_items<'a>(
     alloc: Global,
     mode: Mode,

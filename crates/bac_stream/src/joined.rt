@@ -1,4 +1,4 @@
-//! What joining a frame to the others answers.
+//! What joining a frame to the others returns.
 
 use bac_segment::TakeFault;
 use bac_service::Service;
@@ -25,7 +25,7 @@ pub enum JoinFault {
     #[error("{0}")]
     Take(TakeFault),
     /// The segment is kept and the message whole, but its octets spell no service of its kind and choice, or memory was
-    /// refused while they were read. The key stays open, and the desk has the octets until it is closed.
+    /// refused while they were read. The key stays open, and the desk has the octets until the key is closed.
     #[error("refused {0}")]
     Content(Refusal),
 }

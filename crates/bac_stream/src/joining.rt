@@ -12,7 +12,7 @@ use bac_segment::{Desk, Key, Taken};
 use bac_service::{Kind, decode_service};
 use std::alloc::Global;
 
-/// The segment that a frame holds.
+/// Returns the segment that a frame holds, or None.
 fn segment_of(frame: &Frame) -> Option<&Segment>
     ensures { MatchOption result (delivered (value_of frame.now) ≡ None) (λ segment. delivered (value_of frame.now) ≡ Some (delivery segment.now)) }
 {
@@ -22,7 +22,7 @@ fn segment_of(frame: &Frame) -> Option<&Segment>
     }
 }
 
-/// The kind of the services of which there are segments like this.
+/// Returns the kind of the service that a segment with this head is a part of.
 fn kind_of_segment(head: SegHead) -> Kind
     ensures { result ≡ kind_of head }
 {
@@ -32,7 +32,7 @@ fn kind_of_segment(head: SegHead) -> Kind
     }
 }
 
-/// The service of a message that is whole.
+/// Returns the service of a message that is whole.
 fn message_of(alloc: Global, segment: &Segment, octets: &[u8]) -> Result<Joined, JoinFault>
     ensures { IsFromMessage (delivery segment.now) octets.now result }
 {
@@ -42,14 +42,15 @@ fn message_of(alloc: Global, segment: &Segment, octets: &[u8]) -> Result<Joined,
     }
 }
 
-/// Joins the segment that a frame holds to those of its message that the desk has, where this sender sent it. With the
-/// last missing one it gives the service that they are cut from.
+/// Joins the segment that a frame from this sender holds to those of its message that the desk has. With the last
+/// missing segment it returns the service that they are cut from.
 ///
-/// It closes no key: [`Desk::octets`] gives the octets of a message, and [`Desk::close`] lets them go. Until then the same
-/// segments are answered `Repeat`.
+/// It closes no key: [`Desk::octets`] returns the octets of a message, and [`Desk::close`] drops them. Until the key is
+/// closed, the same segments are answered `Repeat`.
 ///
 /// # Errors
-/// `Take` as [`Desk::take`]. `Content` as [`decode_service`] refuses the octets of a message that is whole.
+/// `Take` with the fault of [`Desk::take`]. `Content` with the refusal of [`decode_service`] for the octets of a
+/// message that is whole.
 ///
 /// # Examples
 /// ```rust

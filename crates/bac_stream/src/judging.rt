@@ -19,7 +19,7 @@ pub(crate) trait Appending: Drop {
     /// What is appended for a frame with this mark.
     ghost appends: { Self → FrameValue → Option ℕ → List ℕ → List ℕ → Type 0 };
 
-    /// Appends it. Where memory is refused `out` stays as it was.
+    /// Appends it. If memory is refused, `out` stays as it was.
     fn append(
         self,
         head: &FrameHead<'_>,
@@ -31,12 +31,12 @@ pub(crate) trait Appending: Drop {
         ensures err { OnErr result (out.new.items ≡ out.old.items) };
 }
 
-/// Frees a body. By itself and out of line, behind what was appended for it: so the decoder that calls it stays small, and
-/// no body is moved as soon as its parts were written, which would have to be waited for.
+/// Frees a body, by a call of its own and out of line, after what was appended for it. So the decoder that calls it
+/// stays small. Also, no body is moved right after its parts were written: that move would have to wait for the writes.
 #[inline(never)]
 pub(crate) fn discard(_body: Body) {}
 
-/// Appends for a frame where the mode accepts it.
+/// Appends for a frame if the mode accepts it.
 #[derive(Drop)]
 struct Judging<A> {
     mode: Mode,
@@ -73,12 +73,12 @@ impl<A: Appending> FrameVisitor for Judging<A> {
     }
 }
 
-/// Appends what the run writes for an accepted frame. Returns the first place where the octets differ from the canonical
-/// ones of the frame.
+/// Appends what the run writes for an accepted frame. Returns the first place at which the octets differ from the
+/// canonical ones of the frame.
 ///
 /// # Errors
-/// `Stop` with what [`visit_frame`] refuses; in mode Strict also with `NotCanonical` at that first place. `Memory` where
-/// memory is refused. `out` then stays as it was.
+/// `Stop` with the refusal of [`visit_frame`]. In mode Strict also `Stop` with `NotCanonical` at that first place.
+/// `Memory` if memory is refused. After each fault `out` is as it was.
 #[inline(always)]
 pub(crate) fn judge<A: Appending>(
     alloc: Global,
@@ -93,7 +93,7 @@ pub(crate) fn judge<A: Appending>(
     ensures refused { IfErr result (DealFails (λ _. IsRefused mode octets.now)) }
     ensures unchanged { OnErr result (out.new.items ≡ out.old.items) }
 {
-    // By this law octets that differ from the canonical ones of their frame are canonical for no other.
+    // By this law octets that differ from the canonical ones of their frame are not canonical for any other frame.
     frames_have_one_value();
     match visit_frame(alloc, octets, Judging { mode, appending }, out) {
         Ok(judged) => judged,

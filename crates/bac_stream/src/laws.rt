@@ -28,37 +28,37 @@ ghost use Rattle.bac_stream.specs.declared.joined.Joined.{Joined};
 use bac_npdu::laws::frames_have_one_value;
 use bac_service::laws::services_have_one_value;
 
-/// What `normalise` writes of records in full is a file of records again, and of these it writes the same, in either
-/// mode.
+/// What `normalise` writes for all records of a list is a file of records again. For this file it writes the file
+/// itself, in either mode.
 pub fn normalised_files_are_kept()
     ensures { (mode : Mode) (list : List (List ℕ)) (output : List ℕ) → AllByRecursion IsRecord list → Outputs (NormalisesTo mode) 1 list output → IsKept output }
 {
     frames_have_one_value();
 }
 
-/// In whatever pieces a stream comes: the items given in all are one for each record of the pieces that were answered
-/// Ok, joined, in order, and the intake holds the number of these records and their rest.
+/// However a stream is cut into pieces, the pieces that were answered Ok, joined, are records and a rest. All items
+/// given are one for each of these records, in order. The intake holds the number of the records, and the rest.
 pub fn feeds_give_records()
     ensures { (mode : Mode) (feeds : List Feed) (intake : IntakeValue) → Feeds (fresh mode) feeds intake
         → (list : List (List ℕ)) × Records list intake.rest (taken_in feeds) × AllZip (IsItem mode) list (items_of feeds)
         × (intake.mode ≡ mode) × (intake.records ≡ length list) × (end_of intake.records intake.rest ≢ TooMany) }
 {}
 
-/// A piece is answered with `TooManyFrames` exactly where the pieces that were answered Ok and this one, joined, have
-/// too many records, want of memory aside.
+/// Unless memory is refused, a piece is answered with `TooManyFrames` exactly where the pieces that were answered Ok
+/// and this one, joined, have too many records.
 pub fn feeds_end_as_files()
     ensures { (mode : Mode) (feeds : List Feed) (old new : IntakeValue) (feed : Feed) → Feeds (fresh mode) feeds old → Fed old feed new
         → (list : List (List ℕ)) (rest : List ℕ) → Records list rest (taken_in feeds ++ feed.piece) → IsAnswer feed.answer (end_of (length list) rest) }
 {}
 
-/// No item is want of memory.
+/// No item is a refusal for want of memory.
 pub fn items_want_no_memory()
     ensures { (mode : Mode) (octets : List ℕ) (refusal : Refusal) → IsItem mode octets (Err refusal) → refusal.why ≢ OutOfMemory }
 {}
 
-/// Where all segments of a message since its key was closed come from one cut of a service's octets, with its kind and
-/// its choice, each one of them that is joined is kept, there already, or completes this service; unless memory is refused
-/// or eight other keys are open.
+/// If all segments of a message since its key was closed come from one cut of a service's octets, with its kind and its
+/// choice, each segment of this cut that is joined is kept, is held already, or completes this service. The exceptions:
+/// memory is refused, or eight other keys are open.
 pub fn joined_segments_give_the_service()
     ensures { (plan : CutPlan) (octets : List ℕ) (segments : List Delivery) (service : ServiceValue) (before : List DeskCall) (desk : List Reassembled)
         (peer : ℕ) (s : Delivery) (a : Answer) (result : Result Joined JoinFault)

@@ -2,10 +2,10 @@
 //!
 //! [`run_show`] writes what each frame says, [`run_check`] whether it is canonical, and [`run_normalise`] its canonical
 //! octets. Each reads from any [`Input`] and writes to any [`Output`], and returns a [`Summary`], or the [`RunFault`]
-//! that stopped it. [`read_record`] and [`write_record`] take and give one record.
+//! that stopped it. [`read_record`] and [`write_record`] read and write one record.
 //!
-//! An [`Intake`] takes the same records as a stream that comes in pieces, cut anywhere, and gives the frame of each, or
-//! why it is refused.
+//! An [`Intake`] takes the same records as a stream that comes in pieces, cut anywhere. It gives the frame of each
+//! record, or why the record is refused.
 //!
 //! In the examples `rt` is the program's `HostRuntime`.
 #![tactic(auto)]
@@ -21,6 +21,7 @@ pub mod laws;
 mod lines;
 mod modes;
 mod normalising;
+mod reporting;
 mod showing;
 
 pub use bac_record::{

@@ -1,4 +1,4 @@
-//! The lines of `show` and `check`, and how records with a line count.
+//! The lines of `show` and `check`.
 
 ghost use Rattle.std.specs.Prelude.{◌≡◌, ◌≤◌, ◌+◌, ◌++◌, codes, IfOk, OnOk, OnErr, length, take};
 ghost use Rattle.std.specs.Fmt.{decimal};
@@ -6,11 +6,10 @@ ghost use Rattle.bac_tag.specs.Octets.{Extends};
 ghost use Rattle.bac_npdu.specs.FrameHeads.{frame_with};
 ghost use Rattle.bac_npdu.specs.Frames.{body_value};
 ghost use Rattle.bac_text.specs.FrameText.{text};
-ghost use Rattle.bac_stream.specs.Lines.{ok, tolerated, refused, said_by, said_of, said_text, numbered, IsCounted};
+ghost use Rattle.bac_stream.specs.Lines.{ok, tolerated, refused, said_by, said_of, said_text, numbered};
 
 use bac_npdu::{Body, FrameHead};
 use bac_record::layers::{add_room, make_room, put_decimal, put_octets, put_word};
-use bac_record::{DealFault, Dealt};
 use bac_tag::{OutOfMemory, Refusal};
 use bac_text::layers::write_text_of;
 
@@ -38,7 +37,7 @@ fn put_number(room: &mut [u8], at: usize, number: u32) -> usize
     put_word(room, end, b" ")
 }
 
-/// Writes the line of a canonical record behind what there is: `ok` behind its number. Returns where it ends.
+/// Writes the line of a canonical record behind what stands in `out`: `ok` behind its number. Returns where it ends.
 #[inline(always)]
 fn write_ok(number: u32, out: &mut Vec<u8>) -> Result<usize, OutOfMemory>
     ensures text { IfOk result (λ end. take end out.new.items ≡ out.old.items ++ numbered number (said_text ok)) }
@@ -102,7 +101,7 @@ fn write_shown(
 }
 
 impl Line<'_> {
-    /// What `check` says of a record that is accepted, by its mark.
+    /// Returns what `check` says of a record that is accepted, by its mark.
     #[inline(always)]
     pub(crate) fn of_mark(mark: Option<usize>) -> Line<'static>
         ensures { said_by result ≡ said_of mark }
@@ -113,8 +112,8 @@ impl Line<'_> {
         }
     }
 
-    /// Writes the line of the record with this number behind what there is. Returns where it ends. Where memory is
-    /// refused some of it may be there.
+    /// Writes the line of the record with this number behind what stands in `out`. Returns where it ends. If memory is
+    /// refused, `out` may hold some of it.
     #[inline(always)]
     fn write(&self, number: u32, out: &mut Vec<u8>) -> Result<usize, OutOfMemory>
         ensures text { IfOk result (λ end. take end out.new.items ≡ out.old.items ++ numbered number (said_text (said_by self.now))) }
@@ -128,7 +127,7 @@ impl Line<'_> {
         }
     }
 
-    /// Appends the line of the record with this number. Where memory is refused `out` stays as it was.
+    /// Appends the line of the record with this number. If memory is refused, `out` stays as it was.
     // Out of line, so that the decoder that calls it where it decoded a body stays small.
     #[inline(never)]
     pub(crate) fn push(&self, number: u32, out: &mut Vec<u8>) -> Result<(), OutOfMemory>
@@ -146,27 +145,5 @@ impl Line<'_> {
                 Err(fault)
             }
         }
-    }
-}
-
-/// How a record counts that was judged so. Of one that is refused the line is appended.
-///
-/// # Errors
-/// `Memory` where memory is refused. `out` then stays as it was.
-#[inline(always)]
-pub(crate) fn counted(
-    judged: Result<Option<usize>, DealFault>,
-    number: u32,
-    out: &mut Vec<u8>,
-) -> Result<Dealt, DealFault>
-    ensures { IsCounted judged number out.old.items out.new.items result }
-{
-    match judged {
-        Ok(mark) => Ok(Dealt::accepted(mark)),
-        Err(DealFault::Stop(refusal)) => {
-            Line::Refused(refusal).push(number, out)?;
-            Ok(Dealt::refused())
-        }
-        Err(DealFault::Memory) => Err(DealFault::Memory),
     }
 }

@@ -24,7 +24,7 @@ struct Normalise {
     mode: Mode,
 }
 
-/// A number of octets as the length of a record, which has no more than [`LONGEST`].
+/// Returns a number of octets as the length of a record. A record has at most [`LONGEST`] octets.
 #[inline(always)]
 fn length_of(count: usize) -> u16
     ensures { count ≤ LONGEST → result ≡ count }
@@ -36,7 +36,7 @@ fn length_of(count: usize) -> u16
     }
 }
 
-/// Appends the octets as a record. Where memory is refused some of it may be there.
+/// Appends the octets as a record. If memory is refused, `out` may hold some of it.
 fn append_octets(octets: &[u8], out: &mut Vec<u8>) -> Result<(), OutOfMemory>
     requires { IsRecord octets.now }
     ensures ok { OnOk result (out.new.items ≡ out.old.items ++ record_of octets.now) }
@@ -48,7 +48,7 @@ fn append_octets(octets: &[u8], out: &mut Vec<u8>) -> Result<(), OutOfMemory>
     Ok(())
 }
 
-/// Appends the octets as a record. Where memory is refused `out` stays as it was.
+/// Appends the octets as a record. If memory is refused, `out` stays as it was.
 #[inline(always)]
 fn push_octets(octets: &[u8], out: &mut Vec<u8>) -> Result<(), OutOfMemory>
     requires { IsRecord octets.now }
@@ -63,10 +63,10 @@ fn push_octets(octets: &[u8], out: &mut Vec<u8>) -> Result<(), OutOfMemory>
     appended
 }
 
-/// Appends the canonical octets of a frame as a record. Where memory is refused some of it may be there.
+/// Appends the canonical octets of a frame as a record. If memory is refused, `out` may hold some of it.
 ///
-/// They are written where they are to stand, and their length in front of them when it is known. They are no longer than
-/// the octets of the record that was read, so their length fits.
+/// They are written where they are to stand, and their length in front of them when it is known. They are no longer
+/// than the octets of the record that was read, so their length fits.
 fn append_record(head: &FrameHead<'_>, body: &Body, out: &mut Vec<u8>) -> Result<(), OutOfMemory>
     ensures ok { OnOk result (((canonical : List ℕ) → IsCanonicalFor (frame_with head.now (body_value body.now)) canonical → IsRecord canonical) → AppendsRecord (frame_with head.now (body_value body.now)) out.old.items out.new.items) }
     ensures err { OnErr result (Extends out.old.items out.new.items) }
@@ -80,7 +80,7 @@ fn append_record(head: &FrameHead<'_>, body: &Body, out: &mut Vec<u8>) -> Result
     Ok(())
 }
 
-/// Appends the canonical octets of a frame as a record. Where memory is refused `out` stays as it was.
+/// Appends the canonical octets of a frame as a record. If memory is refused, `out` stays as it was.
 // Out of line, so that the decoder that calls it where it decoded a body stays small.
 #[inline(never)]
 fn push_record(head: &FrameHead<'_>, body: &Body, out: &mut Vec<u8>) -> Result<(), OutOfMemory>
@@ -95,7 +95,7 @@ fn push_record(head: &FrameHead<'_>, body: &Body, out: &mut Vec<u8>) -> Result<(
     appended
 }
 
-/// Appends the canonical octets of a frame as a record, where the octets that were read are others.
+/// Appends the canonical octets of a frame as a record, if the octets that were read differ from them.
 #[derive(Drop)]
 struct Rewritten;
 
@@ -145,7 +145,7 @@ impl Job for Normalise {
 /// counted.
 ///
 /// # Errors
-/// As [`RunFault`] says. `Frame` tells the first refused record.
+/// As [`RunFault`] says. `Frame` is returned for the first refused record.
 ///
 /// # Examples
 /// ```rust
@@ -171,7 +171,7 @@ pub fn run_normalise<R: Input, W: Output>(
     ensures stopped { IfErr result (Stopped (NormalisesTo mode) (Refuses mode)
         (R.left reader.old) (R.left reader.new) (W.taken writer.old) (W.taken writer.new)) }
 
-    // Where the octets of the reader are known, they are records and a rest in one way.
+    // If the octets of the reader are known, they are records and a rest in only one way.
     ensures files { (list : List (List ℕ)) (rest file : List ℕ) → R.left reader.old ≡ Some file → Records list rest file
         → RunsOver (NormalisesTo mode) (Refuses mode) IsCanonical (IsRefused mode) list rest
         (W.taken writer.old) (W.taken writer.new) result }

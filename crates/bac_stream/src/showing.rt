@@ -7,61 +7,39 @@ ghost use Rattle.bac_record.specs.Records.{Records};
 ghost use Rattle.bac_record.specs.Runs.{RanThrough, RunCounts, Stopped};
 ghost use Rattle.bac_record.specs.Files.{RunsOver};
 
-use crate::judging::{Appending, discard, judge};
-use crate::lines::{Line, counted};
+use crate::judging::discard;
+use crate::lines::Line;
+use crate::reporting::{Report, Reporting};
 use crate::{Input, Mode, Output, RunFault, Summary};
 use bac_npdu::{Body, FrameHead};
-use bac_record::{DealFault, Dealt, Job, run};
+use bac_record::run;
 use bac_tag::OutOfMemory;
 use std::alloc::Global;
 
-/// Shows each record as a line.
+/// Shows the frame of each record.
 #[derive(Clone, Copy)]
-struct Show {
-    alloc: Global,
-    mode: Mode,
-}
+struct Show;
 
-/// Appends the line of a frame with this number.
-#[derive(Drop)]
-struct Shown {
-    number: u32,
-}
+impl Reporting for Show {
+    ghost use Rattle.bac_stream.specs.Lines.{IsShown};
 
-impl Appending for Shown {
-    ghost use Rattle.std.specs.Prelude.{◌≡◌, ◌++◌};
-    ghost use Rattle.bac_text.specs.FrameText.{text};
-    ghost use Rattle.bac_stream.specs.Lines.{numbered};
-
-    ghost appends = { λ shown frame _ old new. new ≡ old ++ numbered shown.number (text frame) };
+    ghost says = { IsShown };
 
     #[inline(always)]
-    fn append(
+    fn append_line(
         self,
+        number: u32,
         head: &FrameHead<'_>,
         body: Body,
         _mark: Option<usize>,
         out: &mut Vec<u8>,
     ) -> Result<(), OutOfMemory> {
-        let appended = Line::Shown(head, &body).push(self.number, out);
+        let appended = Line::Shown(head, &body).push(number, out);
         discard(body);
         appended
     }
-}
 
-impl Job for Show {
-    ghost line = { λ show. ShowsAs show.mode };
-
-    ghost stops = { λ _ _ _. ⊥ };
-
-    ghost is_canonical = { λ _. IsCanonical };
-
-    ghost is_refused = { λ show. IsRefused show.mode };
-
-    fn deal(&self, number: u32, octets: &[u8], out: &mut Vec<u8>) -> Result<Dealt, DealFault> {
-        let judged = judge(self.alloc, self.mode, octets, Shown { number }, out);
-        counted(judged, number, out)
-    }
+    ghost says_refusals = { λ mode octets refusal refuses. refuses };
 }
 
 /// Writes a line for each record: its number and what the frame says, or why the record is refused. Returns what it
@@ -94,7 +72,7 @@ pub fn run_show<R: Input, W: Output>(
     ensures stopped { IfErr result (Stopped (ShowsAs mode) (λ _ _. ⊥)
         (R.left reader.old) (R.left reader.new) (W.taken writer.old) (W.taken writer.new)) }
 
-    // Where the octets of the reader are known, they are records and a rest in one way.
+    // If the octets of the reader are known, they are records and a rest in only one way.
     ensures files { (list : List (List ℕ)) (rest file : List ℕ) → R.left reader.old ≡ Some file → Records list rest file
         → RunsOver (ShowsAs mode) (λ _ _. ⊥) IsCanonical (IsRefused mode) list rest
         (W.taken writer.old) (W.taken writer.new) result }
@@ -102,5 +80,15 @@ pub fn run_show<R: Input, W: Output>(
         (λ _. (R.failures reader.new ≡ R.failures reader.old) × (W.failures writer.new ≡ W.failures writer.old))
         (RunCounts (R.failures reader.old) (R.failures reader.new) (W.failures writer.old) (W.failures writer.new)) }
 {
-    run(alloc, &Show { alloc, mode }, reader, writer)
+    let reporting = Show;
+    run(
+        alloc,
+        &Report {
+            alloc,
+            mode,
+            reporting,
+        },
+        reader,
+        writer,
+    )
 }
