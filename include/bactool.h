@@ -2,7 +2,7 @@
  * bactool.h: the messages of BACnet (ANSI/ASHRAE 135) for C, by the library libbactool.
  *
  * A frame is one NPDU (clause 6 of the standard), with an APDU or a network message in it. Of all the octets that spell
- * one frame, the least are its canonical ones, and the library writes those alone. Octets that spell a frame otherwise
+ * one frame, the least are its canonical ones, and the library writes only those. Octets that spell a frame otherwise
  * are tolerated; octets that spell none are refused, with the reason and the place.
  *
  *     const uint8_t octets[] = {0x01, 0x04, 0x00, 0x05, 0x01, 0x0C, 0x0C, 0x00, 0x00, 0x00, 0x05, 0x19, 0x55};
@@ -15,18 +15,20 @@
  *
  * What holds of every call:
  *
- *   - It returns on every input. It keeps no pointer, has no state, and frees what memory it takes, so any call may run
- *     in any thread, and many at once. It takes memory by malloc, and so must not be called from a signal handler, nor
- *     in the forked child of a process with threads. It wants less than 16 KB of stack, as measured on x86-64.
- *   - A pointer and a length are so many octets, which the call reads and nobody changes meanwhile; a pointer and a room
- *     are so many octets, which it may write. NULL with length or room 0 is taken as none. No other pointer may be NULL.
- *   - What a call writes, `out` and `outcome`, must not overlap anything else that it is handed. What it reads may
+ *   - It returns on every input. It keeps no pointer, has no state, and frees the memory that it takes, so any calls
+ *     may run in any threads at the same time. It takes memory by malloc, so it must not be called from a signal
+ *     handler, or in the forked child of a process with threads. It needs less than 16 KB of stack, as measured on
+ *     x86-64.
+ *   - A pointer and a length are that many octets. The call reads them, and nobody may change them meanwhile. A pointer
+ *     and a room are that many octets, which the call may write. NULL with length or room 0 is taken as no octets. No
+ *     other pointer may be NULL.
+ *   - What a call writes, `out` and `outcome`, must not overlap anything else that is handed to it. What it reads may
  *     overlap, and is never written.
- *   - bactool_reason and bactool_version apart, it returns one of the codes below and fills in the whole of `outcome`.
- *     Where the code is not BACTOOL_OK, `out` is as it was; where it is, the octets behind those written are as they
- *     were. No text ends in a NUL.
+ *   - Each call except bactool_reason and bactool_version returns one of the codes below and fills in the whole of
+ *     `outcome`. If the code is not BACTOOL_OK, `out` is as it was. If it is, the octets behind those written are as
+ *     they were. No text ends in a NUL.
  *
- * Link with -lbactool; `pkg-config --cflags --libs bactool` tells the flags.
+ * Link with -lbactool; `pkg-config --cflags --libs bactool` prints the flags.
  */
 #ifndef BACTOOL_H
 #define BACTOOL_H
@@ -39,7 +41,8 @@
 extern "C" {
 #endif
 
-/* The version of this header: 10,000 times the major, 100 times the minor and the patch number. Here it is 0.1.0. */
+/* The version of this header: 10,000 times the major number, plus 100 times the minor number, plus the patch number.
+   Here it is 0.1.0. */
 #define BACTOOL_VERSION 100
 
 /* What comes of a call. */
@@ -50,7 +53,7 @@ enum bactool_code {
     BACTOOL_REFUSED = 3,       /* the octets are not accepted: `why` and `place` */
     BACTOOL_LEFT_REFUSED = 4,  /* the left one of two inputs spells no frame: `why` and `place` */
     BACTOOL_RIGHT_REFUSED = 5, /* the right one spells none, and the left one does: `why` and `place` */
-    BACTOOL_NO_ROOM = 6,       /* the room is too small; `count` are wanted */
+    BACTOOL_NO_ROOM = 6,       /* the room is too small: `count` octets are needed */
     BACTOOL_NO_MEMORY = 7      /* memory was refused: `why` is BACTOOL_OUT_OF_MEMORY */
 };
 
@@ -66,26 +69,26 @@ enum bactool_why {
     BACTOOL_LENGTH = 8,         /* a length that cannot stand here */
     BACTOOL_CONTENT = 9,        /* contents that no value has */
     BACTOOL_DEPTH = 10,         /* a group inside too many others: at most 32 nest */
-    BACTOOL_NOT_CANONICAL = 11, /* a tolerated spelling, where canonical octets were asked for */
+    BACTOOL_NOT_CANONICAL = 11, /* a tolerated spelling, and canonical octets were asked for */
     BACTOOL_OUT_OF_MEMORY = 12  /* memory was refused */
 };
 
-/* What a call tells beside its code. What the code does not speak of is 0. */
+/* What a call reports beside its code. A field of which the code says nothing is 0. */
 struct bactool_outcome {
     uint32_t why;  /* an enum bactool_why: the reason of a refusal */
     size_t place;  /* the offset, counted from 0, of the first octet with which no frame goes on, or of the first one
-                      that differs from the canonical octets; the length where the octets are only too short */
-    size_t count;  /* the number of octets written, or of those wanted where the room is too small */
+                      that differs from the canonical octets; the length if the octets are only too short */
+    size_t count;  /* the number of octets that are written, or that would be written if the room were not too small */
 };
 
 /*
- * Tells whether octets are canonical.
+ * Checks whether octets are the canonical ones of a frame.
  *
- *   BACTOOL_OK          they are the canonical octets of a frame
- *   BACTOOL_TOLERATED   they spell a frame otherwise; `place` is the first that differs from its canonical octets.
- *                       Never where `strict` is true
- *   BACTOOL_REFUSED     they spell no frame: `why` and `place`. Where `strict` is true also octets that are tolerated
- *                       else: `why` is BACTOOL_NOT_CANONICAL, `place` the first that differs
+ *   BACTOOL_OK          they are the canonical ones
+ *   BACTOOL_TOLERATED   they spell a frame otherwise: `place` is the first place where they differ from the canonical
+ *                       ones. It is never returned if `strict` is true
+ *   BACTOOL_REFUSED     they are refused: `why` and `place`. If `strict` is true, octets that spell a frame otherwise
+ *                       are refused too: `why` is BACTOOL_NOT_CANONICAL, and `place` is that first place
  *   BACTOOL_NO_MEMORY   memory was refused
  *
  *     struct bactool_outcome told;
@@ -95,12 +98,12 @@ struct bactool_outcome {
 uint32_t bactool_check(const uint8_t *octets, size_t length, bool strict, struct bactool_outcome *outcome);
 
 /*
- * Writes the canonical octets of the frame that the octets spell. They are never more than the octets handed in: a room
- * of `length` always suffices.
+ * Writes, at the front of `out`, the canonical octets of the frame that the octets spell. There are at most as many of
+ * them as octets handed in, so a room of `length` is always enough.
  *
- *   BACTOOL_OK          they stand in front of `out`; `count` is their number
- *   BACTOOL_NO_ROOM     they are more than `room`; `count` is their number
- *   BACTOOL_REFUSED     the octets spell no frame: `why` and `place`
+ *   BACTOOL_OK          they are written: `count` is their number
+ *   BACTOOL_NO_ROOM     `room` is too small for them: nothing is written, and `count` is their number
+ *   BACTOOL_REFUSED     the octets handed in are refused: `why` and `place`
  *   BACTOOL_NO_MEMORY   memory was refused
  *
  *     uint8_t canonical[1497];
@@ -111,12 +114,12 @@ uint32_t bactool_normalise(const uint8_t *octets, size_t length, uint8_t *out, s
                            struct bactool_outcome *outcome);
 
 /*
- * Writes the text of the frame that the octets spell, as `bactool show` prints it: one line, without a line feed and
- * without a NUL. To learn its length first, call with room 0.
+ * Writes, at the front of `out`, the text of the frame that the octets spell, as `bactool show` prints it: one line,
+ * without a line feed and without a NUL. To learn its length first, call with room 0.
  *
- *   BACTOOL_OK          it stands in front of `out`; `count` is its number of octets
- *   BACTOOL_NO_ROOM     it has more octets than `room`; `count` is their number
- *   BACTOOL_REFUSED     the octets spell no frame: `why` and `place`
+ *   BACTOOL_OK          the text is written: `count` is the number of its octets
+ *   BACTOOL_NO_ROOM     `room` is too small for the text: nothing is written, and `count` is the number of its octets
+ *   BACTOOL_REFUSED     the octets are refused: `why` and `place`
  *   BACTOOL_NO_MEMORY   memory was refused
  *
  *     if (bactool_show(octets, length, NULL, 0, &told) == BACTOOL_NO_ROOM) {
@@ -129,12 +132,12 @@ uint32_t bactool_normalise(const uint8_t *octets, size_t length, uint8_t *out, s
 uint32_t bactool_show(const uint8_t *octets, size_t length, char *out, size_t room, struct bactool_outcome *outcome);
 
 /*
- * Tells whether two inputs spell one frame, each in any spelling. They may be the same memory.
+ * Compares the frames that two inputs spell, each in any spelling. The inputs may be the same memory.
  *
- *   BACTOOL_OK             they do
- *   BACTOOL_DIFFERENT      each spells a frame, and these differ
- *   BACTOOL_LEFT_REFUSED   the left one spells none: `why` and `place`
- *   BACTOOL_RIGHT_REFUSED  the left one spells a frame, the right one none: `why` and `place`
+ *   BACTOOL_OK             both inputs spell the same frame
+ *   BACTOOL_DIFFERENT      they spell different frames
+ *   BACTOOL_LEFT_REFUSED   the left input spells none: `why` and `place`
+ *   BACTOOL_RIGHT_REFUSED  the left input spells a frame and the right one spells none: `why` and `place`
  *   BACTOOL_NO_MEMORY      memory was refused
  *
  *     bool same = bactool_same_meaning(sent, sent_length, seen, seen_length, &told) == BACTOOL_OK;
@@ -143,20 +146,21 @@ uint32_t bactool_same_meaning(const uint8_t *left, size_t left_length, const uin
                               struct bactool_outcome *outcome);
 
 /*
- * Writes the name of a reason, such as "Short", where `room` is at least its length; 16 is room for each. Returns the
- * length of the name, also where nothing is written, and 0 where `why` is no reason.
+ * Writes the name of the reason with the number `why`, such as "Short", at the front of `out`, if `room` is at least
+ * the length of the name. A room of 16 is enough for each name. Returns the length of the name, even if nothing is
+ * written, or 0 if no reason has the number.
  *
  *     char name[16];
  *     printf("%.*s at %zu\n", (int)bactool_reason(told.why, name, sizeof name), name, told.place);
  */
 size_t bactool_reason(uint32_t why, char *out, size_t room);
 
-/* Returns the version of the library, by the same rule as BACTOOL_VERSION. */
+/* Returns the version of the library as a number, by the same rule as BACTOOL_VERSION. */
 uint32_t bactool_version(void);
 
 /*
- * The library itself wants an address also where there are no octets. These give it one for NULL, and the macros call
- * them; a caller in another language hands in any address in place of NULL.
+ * The library itself needs an address even if there are no octets. These functions give it one for NULL, and the macros
+ * call them. A caller in another language hands in any address in place of NULL.
  */
 static inline const uint8_t *bactool_octets(const uint8_t *octets)
 {
