@@ -60,9 +60,10 @@ fn mark_of(alloc: Global, octets: &[u8], strict: bool) -> Result<Option<usize>, 
 /// - `BACTOOL_TOLERATED` if they spell a frame otherwise: `outcome` has the first place where they differ from the
 ///   canonical ones;
 /// - `BACTOOL_REFUSED` if they are refused: `outcome` has why and where;
-/// - `BACTOOL_NO_MEMORY` if memory is refused. It is never returned for a small frame.
+/// - `BACTOOL_NO_MEMORY` if memory is refused. It is never returned for a frame whose addresses have at most seven
+///   octets each and whose APDU or network message needs no memory.
 ///
-/// If `strict` is true, octets that are not canonical are refused as `NotCanonical` at that first place.
+/// If `strict` is true, octets that spell a frame otherwise are refused as `NotCanonical` at that first place.
 #[unsafe(no_mangle)]
 pub extern "C" fn bactool_check(
     alloc: Global,
