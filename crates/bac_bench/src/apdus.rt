@@ -20,7 +20,7 @@ pub struct Pdu<'a> {
     pub head: usize,
 }
 
-/// Prints the head of the table, where there is one.
+/// Prints the head of the table, if the mode prints one.
 pub fn begin(rt: &impl Print, mode: Mode) -> io::Result<()> {
     if mode == Mode::Once {
         return Ok(());

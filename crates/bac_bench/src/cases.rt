@@ -1,4 +1,4 @@
-//! What can be measured. A new case is an `impl` of `Case`, where no other fits, and a line in `run`.
+//! What can be measured. A new case is an `impl` of `Case`, if no other fits, and a line in `run`.
 
 use crate::faults::BenchFault;
 use bac_data::{Any, read_any, read_any_marked, write_any};
@@ -10,7 +10,7 @@ use std::alloc::Global;
 pub trait Case: Sized + Drop {
     fn read(alloc: Global, octets: &[u8]) -> Result<Self, BenchFault>;
 
-    /// Reads a value and tells the first octet that is not canonical.
+    /// Reads a value. Returns it with the place of the first octet that is not canonical, or None.
     fn mark(alloc: Global, octets: &[u8]) -> Result<Option<usize>, BenchFault>;
 
     fn write(&self, out: &mut Vec<u8>) -> Result<(), BenchFault>;

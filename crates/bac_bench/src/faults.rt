@@ -15,7 +15,7 @@ pub enum BenchFault {
     /// The octets of a case are refused, so it measures nothing.
     #[error("refused {why} at {place}", why = .0.why.name(), place = .0.place)]
     Refused(Refusal),
-    /// What was written is not what was read, so the case measures something else than it says.
+    /// What was written is not what was read, so the case measures something other than it says.
     #[error("the octets written differ from the octets read")]
     Differs,
     #[error("out of memory")]

@@ -17,7 +17,7 @@ const RECORD: [u8; 15] = [
 /// How many of them the stream has.
 const RECORDS: u32 = 4_096;
 
-/// The stream.
+/// Returns the stream.
 fn stream(alloc: Global) -> Result<Vec<u8>, AllocError> {
     let mut octets = Vec::new(alloc);
     for _ in 0..RECORDS {
@@ -26,7 +26,7 @@ fn stream(alloc: Global) -> Result<Vec<u8>, AllocError> {
     Ok(octets)
 }
 
-/// Feeds the stream in pieces of so many octets, and lets the items of each piece go. Returns the number of records.
+/// Feeds the stream in pieces of `size` octets, and drops the items of each piece. Returns the number of records.
 fn feed(alloc: Global, octets: &[u8], size: usize) -> Result<u32, BenchFault> {
     let mut intake = Intake::new(alloc, Accepting::Tolerant)?;
     let mut items = Vec::new(alloc);
@@ -37,7 +37,7 @@ fn feed(alloc: Global, octets: &[u8], size: usize) -> Result<u32, BenchFault> {
     Ok(intake.finish()?)
 }
 
-/// The time for pieces of so many octets.
+/// Returns the time for pieces of `size` octets.
 fn time_of(
     rt: &(impl AllocGlobal + Clock),
     mode: Mode,
@@ -79,7 +79,7 @@ fn print(
     add(rt, "of one octet", single, whole)
 }
 
-/// The line of a size of pieces.
+/// Prints the line of a size of pieces.
 fn add(rt: &impl Print, name: &str, took: Duration, whole: Duration) -> io::Result<()> {
     let microseconds = took.as_secs_f64() * 1e6;
     println!(rt;

@@ -22,19 +22,19 @@ const APDU: usize = 2;
 /// The place of the first octet of the service.
 const SERVICE: usize = 6;
 
-/// The frame of a WriteProperty with this value.
+/// Returns the frame of a WriteProperty with this value.
 fn frame_of(alloc: Global, value: &[u8]) -> Result<Vec<u8>, AllocError> {
     let mut octets = Vec::from_slice(alloc, &FRONT)?;
     octets.extend_from_slice(value)?;
     Ok(octets)
 }
 
-/// The octets from a place on.
+/// Returns the octets from a place on.
 fn behind(octets: &[u8], place: usize) -> Result<&[u8], BenchFault> {
     octets.get(place..).ok_or(BenchFault::Differs)
 }
 
-/// The time of `normalise_frame`.
+/// Returns the time of `normalise_frame`.
 fn normalising(
     rt: &(impl AllocGlobal + Clock),
     mode: Mode,
@@ -92,7 +92,7 @@ fn begin(rt: &impl Print, mode: Mode, size: usize) -> io::Result<()> {
     println!(rt; "layer             decode x   mark x append x")
 }
 
-/// The line of a layer.
+/// Prints the line of a layer.
 fn add(rt: &impl Print, mode: Mode, name: &str, times: Times, copy: Duration) -> io::Result<()> {
     if mode == Mode::Once {
         return Ok(());
@@ -105,7 +105,7 @@ fn add(rt: &impl Print, mode: Mode, name: &str, times: Times, copy: Duration) ->
     )
 }
 
-/// The line of `normalise_frame`.
+/// Prints the line of `normalise_frame`.
 fn end(rt: &impl Print, mode: Mode, took: Duration, copy: Duration) -> io::Result<()> {
     if mode == Mode::Once {
         return Ok(());

@@ -89,7 +89,7 @@ impl Layer for Services {
     }
 }
 
-/// How long a batch takes.
+/// The times of a batch.
 #[derive(Clone, Copy)]
 pub struct Times {
     pub decode: Duration,
@@ -97,12 +97,12 @@ pub struct Times {
     pub append: Duration,
 }
 
-/// The first message of a batch, and the others. Each has so many octets.
+/// Splits a batch into its first message, of `size` octets, and the others.
 fn first_of(batch: &[u8], size: usize) -> Result<(&[u8], &[u8]), BenchFault> {
     batch.split_at_checked(size).ok_or(BenchFault::Differs)
 }
 
-/// Decodes each message of a batch, and gives the last.
+/// Decodes each message of a batch, and returns the last.
 fn decoded<L: Layer>(
     alloc: Global,
     layer: &L,
@@ -117,7 +117,7 @@ fn decoded<L: Layer>(
     Ok(last)
 }
 
-/// The same, and the first octet that is not canonical in a message with such an octet.
+/// Does the same, and finds the first octet that is not canonical in a message that has one.
 fn marked<L: Layer>(
     alloc: Global,
     layer: &L,
@@ -134,7 +134,7 @@ fn marked<L: Layer>(
     Ok((last, found))
 }
 
-/// Appends a value to an empty vector, so often to the same one.
+/// Appends a value to an empty vector, again and again to the same one.
 fn appended<L: Layer>(
     alloc: Global,
     layer: &L,
@@ -149,7 +149,7 @@ fn appended<L: Layer>(
     Ok(out)
 }
 
-/// Does the work of a layer on a batch of so many messages with these octets.
+/// Does the work of a layer on a batch of messages with these octets.
 pub fn work<L: Layer>(
     rt: &(impl AllocGlobal + Clock),
     mode: Mode,
@@ -194,7 +194,7 @@ pub fn print(
     )
 }
 
-/// Nanoseconds of a message.
+/// Returns the nanoseconds of a message.
 fn nanoseconds(took: Duration) -> f64 {
     took.as_secs_f64() * 1e9 / nearest_usize_to_f64(BATCH)
 }

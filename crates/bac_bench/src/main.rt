@@ -51,14 +51,14 @@ fn main(rt: HostRuntime) -> ExitCode {
     }
 }
 
-/// Every case, in the way that the words of the command line name.
+/// Runs every case, in the mode that the words of the command line name.
 fn run(rt: &(impl Print + AllocGlobal + Env + Clock)) -> Result<(), BenchFault> {
     let words: Vec<String> = std::env::args(rt)?.collect(rt.alloc())?;
     let mode = Mode::named(&words).ok_or(BenchFault::Usage)?;
     run_all(rt, mode)
 }
 
-/// Every case.
+/// Runs every case.
 fn run_all(rt: &(impl Print + AllocGlobal + Clock), mode: Mode) -> Result<(), BenchFault> {
     tables::begin(rt, mode)?;
     run_strings(rt, mode, &contents(rt.alloc(), LARGEST)?)?;
@@ -72,7 +72,7 @@ fn run_all(rt: &(impl Print + AllocGlobal + Clock), mode: Mode) -> Result<(), Be
     intakes::run(rt, mode)
 }
 
-/// A string of each type with these contents, and an open value of one.
+/// Measures a string of each type with these contents, and an open value of one string.
 fn run_strings(
     rt: &(impl Print + AllocGlobal + Clock),
     mode: Mode,
@@ -85,7 +85,7 @@ fn run_strings(
     tables::add::<Any>(rt, mode, "open, one string", &one)
 }
 
-/// An open value of short primitives.
+/// Measures an open value of short primitives.
 fn run_short_values(
     rt: &(impl Print + AllocGlobal + Clock),
     mode: Mode,
@@ -96,7 +96,7 @@ fn run_short_values(
 }
 
 /// ReadProperty and ReadProperty-ACK, WriteProperty with a group in its value, and three services that hold numbers
-/// and identifiers alone.
+/// and identifiers only.
 const MESSAGES: [Message<'static>; 6] = [
     Message {
         name: "ReadProperty",
@@ -142,7 +142,7 @@ const MESSAGES: [Message<'static>; 6] = [
     },
 ];
 
-/// Those, and two services with lists.
+/// Measures those, and two services with lists.
 fn run_services(rt: &(impl Print + AllocGlobal + Clock), mode: Mode) -> Result<(), BenchFault> {
     services::begin(rt, mode)?;
     for message in &MESSAGES {

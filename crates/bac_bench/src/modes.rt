@@ -5,12 +5,12 @@
 pub enum Mode {
     /// Each piece of work once; what is printed is the same in every run.
     Once,
-    /// Each piece of work so often that its time can be told.
+    /// Each piece of work often enough to measure its time.
     Time,
 }
 
 impl Mode {
-    /// The mode that the words of the process name, its own name in front.
+    /// Returns the mode that the words of the process name. Its own name stands in front.
     pub fn named(words: &[String]) -> Option<Mode> {
         match words {
             [] | [_] => Some(Mode::Once),
@@ -19,7 +19,7 @@ impl Mode {
         }
     }
 
-    /// Of so many rounds the best is told.
+    /// Returns the number of rounds. The best one is reported.
     pub fn rounds(self) -> u32 {
         match self {
             Mode::Once => 1,
@@ -27,7 +27,7 @@ impl Mode {
         }
     }
 
-    /// How often a round does each piece of work.
+    /// Returns how often a round does each piece of work.
     pub fn repetitions(self) -> u32 {
         match self {
             Mode::Once => 1,

@@ -23,7 +23,7 @@ pub struct Times {
 }
 
 impl Times {
-    /// The shorter of the times of two rounds.
+    /// Returns the shorter times of two rounds.
     fn least(self, other: Times) -> Times {
         Times {
             copy: self.copy.min(other.copy),
@@ -34,7 +34,7 @@ impl Times {
     }
 }
 
-/// The best of the mode's rounds.
+/// Returns the best of the mode's rounds.
 pub fn best<C: Case>(
     rt: &(impl AllocGlobal + Clock),
     mode: Mode,
@@ -47,7 +47,7 @@ pub fn best<C: Case>(
     Ok(least)
 }
 
-/// One round.
+/// Does one round.
 fn round<C: Case>(
     rt: &(impl AllocGlobal + Clock),
     repetitions: u32,
@@ -69,8 +69,8 @@ fn round<C: Case>(
     })
 }
 
-/// Looks at what was made, so that no compiler leaves the work out, and lets its memory go, so that the next
-/// work finds what this one found.
+/// Looks at what was made, so that no compiler leaves the work out, and frees it, so that the next work finds the same
+/// memory as this one.
 pub fn expect_same(made: Vec<u8>, octets: &[u8]) -> Result<(), BenchFault>
     ensures { IsOk result ↔ (made.items ≡ octets.now) }
 {
@@ -81,7 +81,7 @@ pub fn expect_same(made: Vec<u8>, octets: &[u8]) -> Result<(), BenchFault>
     }
 }
 
-/// The octets of a case are canonical, so none differs.
+/// Checks that no octet differs: those of a case are canonical.
 pub fn expect_canonical(mark: Option<usize>) -> Result<(), BenchFault>
     ensures { IsOk result ↔ (mark ≡ None) }
 {
@@ -91,15 +91,15 @@ pub fn expect_canonical(mark: Option<usize>) -> Result<(), BenchFault>
     }
 }
 
-/// The octets of a value.
+/// Returns the octets of a value.
 fn written<C: Case>(alloc: Global, value: &C) -> Result<Vec<u8>, BenchFault> {
     let mut out = Vec::new(alloc);
     value.write(&mut out)?;
     Ok(out)
 }
 
-/// Does the work so often, and at least once: what it made the last time, and the shortest time that it took.
-/// A mean would count the pages that the system hands over at first, which are not the work's.
+/// Does the work as often as asked, and at least once. Returns what it made the last time, and the shortest time that
+/// it took. A mean would count the pages that the system hands over at first, which do not belong to the work.
 pub fn timed<T: Drop, W: Fn() -> Result<T, BenchFault>>(
     clock: &impl Clock,
     repetitions: u32,
@@ -116,7 +116,7 @@ pub fn timed<T: Drop, W: Fn() -> Result<T, BenchFault>>(
     Ok((made, shortest))
 }
 
-/// Does the work: what it made, and how long it took.
+/// Does the work. Returns what it made, and how long it took.
 fn timed_once<T: Drop, W: Fn() -> Result<T, BenchFault>>(
     clock: &impl Clock,
     work: &W,

@@ -12,7 +12,7 @@ use std::num::nearest_usize_to_f64;
 use std::rt::Clock;
 use std::time::Duration;
 
-/// Of 65,535 octets it makes 256 segments.
+/// This plan makes 256 segments of 65,535 octets.
 const PLAN: CutPlan = CutPlan {
     head: SegHead::Ack { invoke: 1 },
     choice: 14,
@@ -28,7 +28,7 @@ const KEY: Key = Key {
     choice: 14,
 };
 
-/// The segments joined as they stand.
+/// Joins the segments as they stand.
 fn in_order(alloc: Global, segments: &[Segment]) -> Result<Reassembly, BenchFault> {
     let mut reassembly = Reassembly::new(alloc, KEY)?;
     for segment in segments {
@@ -37,7 +37,7 @@ fn in_order(alloc: Global, segments: &[Segment]) -> Result<Reassembly, BenchFaul
     Ok(reassembly)
 }
 
-/// The segments joined from the last to the first.
+/// Joins the segments from the last to the first.
 fn backwards(alloc: Global, segments: &[Segment]) -> Result<Reassembly, BenchFault> {
     let mut reassembly = Reassembly::new(alloc, KEY)?;
     for segment in segments.iter().rev() {
@@ -46,7 +46,7 @@ fn backwards(alloc: Global, segments: &[Segment]) -> Result<Reassembly, BenchFau
     Ok(reassembly)
 }
 
-/// The message is whole, and has these octets.
+/// Checks that the message is whole and has these octets.
 fn expect_joined(reassembly: &Reassembly, octets: &[u8]) -> Result<(), BenchFault> {
     match reassembly.octets() {
         Some(found) if found == octets => Ok(()),
@@ -104,7 +104,7 @@ fn print(rt: &impl Print, mode: Mode, size: usize, count: usize, times: Times) -
     add(rt, "backwards", size, times.backwards, times.copy)
 }
 
-/// The line of a piece of work on so many octets.
+/// Prints the line of a piece of work on a number of octets.
 fn add(rt: &impl Print, name: &str, size: usize, took: Duration, copy: Duration) -> io::Result<()> {
     let microseconds = took.as_secs_f64() * 1e6;
     println!(rt;

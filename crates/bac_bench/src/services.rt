@@ -10,7 +10,7 @@ use std::num::nearest_usize_to_f64;
 use std::rt::Clock;
 use std::time::Duration;
 
-/// A piece of work does so many messages, since one takes too short a time to be told.
+/// How many messages a piece of work does: one takes too short a time to be measured.
 pub const BATCH: usize = 1_000;
 
 /// A service as it arrives.
@@ -23,7 +23,7 @@ pub struct Message<'a> {
     pub octets: &'a [u8],
 }
 
-/// Decodes each message of a batch, and gives the last.
+/// Decodes each message of a batch, and returns the last.
 fn decoded(alloc: Global, message: &Message<'_>, batch: &[u8]) -> Result<Service, BenchFault> {
     let mut last = decode_service(alloc, message.kind, message.choice, message.octets)?;
     for octets in batch.chunks_exact(message.octets.len().max(1)) {
@@ -32,7 +32,7 @@ fn decoded(alloc: Global, message: &Message<'_>, batch: &[u8]) -> Result<Service
     Ok(last)
 }
 
-/// The same, and the first octet that is not canonical in a message with such an octet.
+/// Does the same, and finds the first octet that is not canonical in a message that has one.
 fn marked(
     alloc: Global,
     message: &Message<'_>,
@@ -52,7 +52,7 @@ fn marked(
     Ok((last, found))
 }
 
-/// Encodes a service so often, and gives the octets.
+/// Encodes a service again and again, and returns the octets.
 fn encoded(alloc: Global, service: &Service) -> Result<Vec<u8>, BenchFault> {
     let mut out = encode_service(alloc, service)?;
     for _ in 1..BATCH {
@@ -61,7 +61,7 @@ fn encoded(alloc: Global, service: &Service) -> Result<Vec<u8>, BenchFault> {
     Ok(out)
 }
 
-/// The octets of a batch of so many messages.
+/// Returns the octets of a batch of messages.
 pub fn batch_of(alloc: Global, octets: &[u8], count: usize) -> Result<Vec<u8>, BenchFault> {
     let mut batch = Vec::new(alloc);
     for _ in 0..count {
@@ -70,7 +70,7 @@ pub fn batch_of(alloc: Global, octets: &[u8], count: usize) -> Result<Vec<u8>, B
     Ok(batch)
 }
 
-/// Prints the head of the table, where there is one.
+/// Prints the head of the table, if the mode prints one.
 pub fn begin(rt: &impl Print, mode: Mode) -> io::Result<()> {
     if mode == Mode::Once {
         return Ok(());
@@ -80,7 +80,7 @@ pub fn begin(rt: &impl Print, mode: Mode) -> io::Result<()> {
     println!(rt; "service                      octets     decode/s       mark/s     encode/s")
 }
 
-/// How long a batch takes.
+/// The times of a batch.
 #[derive(Clone, Copy)]
 struct Times {
     decode: Duration,
@@ -127,7 +127,7 @@ fn print(rt: &impl Print, mode: Mode, name: &str, size: usize, times: Times) -> 
     println!(rt; "{name:<26} {size:>8} {decode:>12.0} {mark:>12.0} {encode:>12.0}")
 }
 
-/// Messages a second.
+/// Returns the messages a second.
 pub fn speed(took: Duration) -> f64 {
     nearest_usize_to_f64(BATCH) / took.as_secs_f64()
 }

@@ -9,7 +9,7 @@ use std::num::nearest_usize_to_f64;
 use std::rt::Clock;
 use std::time::Duration;
 
-/// Prints the head of the table, where there is one.
+/// Prints the head of the table, if the mode prints one.
 pub fn begin(rt: &impl Print, mode: Mode) -> io::Result<()> {
     if mode == Mode::Once {
         return Ok(());
@@ -38,7 +38,7 @@ pub fn add<C: Case>(
     Ok(())
 }
 
-/// The line of a case that was measured.
+/// Prints the line of a case that was measured.
 fn add_times(rt: &impl Print, name: &str, size: usize, times: Times) -> io::Result<()> {
     let copy = speed(size, times.copy);
     let read = speed(size, times.read);
@@ -52,7 +52,7 @@ fn add_times(rt: &impl Print, name: &str, size: usize, times: Times) -> io::Resu
     )
 }
 
-/// Megabytes a second.
+/// Returns the megabytes a second.
 fn speed(size: usize, took: Duration) -> f64 {
     nearest_usize_to_f64(size) / took.as_secs_f64() / 1e6
 }
