@@ -17,7 +17,7 @@
 .PHONY: build test check bench memory wrong-bodies lib try-library install uninstall clean need-rt
 
 build: need-rt
-	@echo "bactool: proving and building it into bin/bactool (minutes the first time, seconds after that)"
+	@echo "bactool: proving and building it into bin/bactool (half an hour or more the first time, seconds after that)"
 	@cd crates/bac_tool && rt run -- --help > /dev/null
 	@mkdir -p bin
 	@cp crates/bac_tool/out/bac_tool bin/bactool
@@ -32,7 +32,7 @@ check: need-rt
 	@rt all check
 
 bench: build
-	@echo "bactool: proving and building the measurement into bin/bac_bench (minutes the first time, seconds after that)"
+	@echo "bactool: proving and building the measurement into bin/bac_bench (half an hour or more the first time, seconds after that)"
 	@cd crates/bac_bench && rt run > /dev/null
 	@cp crates/bac_bench/out/bac_bench bin/bac_bench
 	@$(MAKE) --no-print-directory lib || echo "bactool: there is no library for C, so its column is left out"
@@ -51,7 +51,7 @@ INSTALLED = bin/bactool include/bactool.h lib/libbactool.a lib/libbactool.so lib
 	lib/pkgconfig/bactool.pc share/man/man1/bactool.1
 
 lib: need-rt
-	@echo "bactool: proving and building the library into lib/ (minutes the first time, seconds after that)"
+	@echo "bactool: proving and building the library into lib/ (half an hour or more the first time, seconds after that)"
 	@mkdir -p crates/bac_c/out
 	@cd crates/bac_c && rt lib > out/lib.log || { cat out/lib.log >&2; exit 1; }
 	@scripts/link-library
