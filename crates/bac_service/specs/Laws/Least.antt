@@ -1,9 +1,9 @@
 -- The least spellings of parts joined, and marks against them.
-use Rattle.std.specs.Prelude.{◌≡◌, ◌↔◌, ℕ, ◌+◌, ◌<◌, ◌≤◌, List, [], ◌∷◌, ◌++◌, length, take, drop, Option, Some, None, IfSome, IfNone, nat_lt, refl}
+use Rattle.std.specs.Prelude.{◌≡◌, ◌↔◌, ℕ, ◌+◌, ◌<◌, ◌≤◌, List, [], ◌∷◌, ◌++◌, length, take, drop, Option, Some, None, IfSome, IfNone, Result, Ok, Err, OnOk, OnErr, nat_lt, refl}
 use Rattle.std.proofs.Common.{sym, ◌∙◌, ap, subst, append_assoc, inl, inr, arith}
 use Rattle.std.proofs.lemmas.List.{append-nil, length-take-le}
 use Rattle.std.proofs.lemmas.Bool.{cases_lt, lt-ltb, le-ltb, cond-true, cond-false}
-use Rattle.bac_tag.specs.Octets.{NoGreater, joined_mark}
+use Rattle.bac_tag.specs.Octets.{NoGreater, joined_mark, Extends}
 use Rattle.bac_tag.specs.Laws.Octets.{NoGreater-append, NoGreater-same, mark_first, mark-append}
 use Rattle.bac_tag.specs.Spelling.{IsLeast, Joins, HasMark, AppendsLeast}
 use Rattle.bac_service.specs.Productions.{Items, mark_within}
@@ -59,6 +59,15 @@ least_item S vs v L M = least_alike (items_alike S vs v) (least_joined L M)
 
 pub appends_joined : {P Q : List ℕ → Type 0} {a b c : List ℕ} → AppendsLeast P a b → AppendsLeast Q b c → AppendsLeast (Joins P Q) a c
 appends_joined {P} {Q} {a} L M = record { more = L.more ++ M.more; is_least = least_joined L.is_least M.is_least; new_is = M.new_is ∙ ap (λ (l : List ℕ). l ++ M.more) L.new_is ∙ append_assoc a L.more M.more }
+
+-- what goes on from what goes on
+pub extends_more : (a b c : List ℕ) → Extends a b → Extends b c → Extends a c
+extends_more a b c (more, e) (last, f) = (more ++ last, f ∙ ap (λ (l : List ℕ). l ++ last) e ∙ append_assoc a more last)
+
+-- and then a list is appended, or nothing
+pub extends_written : {X E : Type 0} (result : Result X E) (a b c w : List ℕ) → Extends a b → OnOk result (c ≡ b ++ w) → OnErr result (c ≡ b) → Extends a c
+extends_written (Ok x) a b c w long ok err = extends_more a b c long (w, ok)
+extends_written (Err e) a b c w (more, is) ok err = (more, err ∙ is)
 
 pub appends_nothing : (a : List ℕ) → AppendsLeast (λ (l : List ℕ). l ≡ []) a a
 appends_nothing a = record { more = []; is_least = least_nothing; new_is = sym (append-nil a) }

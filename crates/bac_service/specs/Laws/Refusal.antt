@@ -5,13 +5,16 @@ use Rattle.std.proofs.lemmas.List.{append-nil, take-append-drop, length-append, 
 use Rattle.std.proofs.lemmas.Bool.{cases_lt, ltb-true, ltb-false, eqb-true, and_parts}
 use Rattle.bac_tag.specs.declared.refusals.Refusal.{Refusal}
 use Rattle.bac_tag.specs.declared.refusals.Why.{Why}
-use Rattle.bac_tag.specs.declared.refusals.Why.TheVariants.{Short}
+use Rattle.bac_tag.specs.declared.refusals.Why.TheVariants.{Short, Trailing}
 use Rattle.bac_tag.specs.Refusals.{weight_of, farther_of, behind}
 use Rattle.bac_tag.specs.Spelling.{EndsItself, IsViable, IsFurthest, IsRefusal, Takes, OneOf, Joined}
 use Rattle.bac_tag.specs.Laws.Spelling.{viable_front, viable-OneOf}
 use Rattle.bac_service.specs.Leads.{Lead, disjoint, BeginsIn}
 use Rattle.bac_service.specs.Laws.Lead.{begins_apart, begins_more}
 use Rattle.bac_service.specs.Productions.{Optional, Items, Lawful, IsInhabited, IsLongest, IsReach}
+use Rattle.bac_service.specs.Reasons.{IsPartReason}
+use Rattle.bac_service.specs.ReadFaults.{EndsOrGoesOn}
+use Rattle.bac_service.specs.Laws.Faults.{part_trails}
 use Rattle.bac_service.specs.Laws.Production.{begun, sound_parts, not_empty}
 use Rattle.bac_service.specs.Laws.Longest.{IsSoFar, none_first, pair_none}
 use Rattle.bac_service.specs.Laws.Reach.{pair_reach, pair_first, pair_inhabited, furthest_absent, furthest_present, IsReachSoFar, reach_end, reach_more}
@@ -32,6 +35,39 @@ pub reach_of : {V : Type 0} (S : V → List ℕ → Type 0) (input : List ℕ) (
 reach_of S input r s F p q = elim (farther_is r s) [
   | inl h ↦ rw h.0 (let le = h.1 in record { furthest = subst (IsFurthest S input) (omega arith) F; short = p })
   | inr h ↦ rw h.0 (let le = h.1 in record { furthest = subst (IsFurthest S input) (omega arith) F; short = q })
+]
+
+-- the reasons of two parts: Trailing is told only where the second ends
+pub ends_both : (n k : ℕ) (r s : Refusal) → EndsOrGoesOn n r → EndsOrGoesOn k s → k ≤ s.place → EndsOrGoesOn (n + k) (farther_of (behind n s) r)
+ends_both n k r s R S le = elim (farther_is (behind n s) r) [
+  | inl h ↦ subst (EndsOrGoesOn (n + k)) (sym h.0) (λ w. ap (λ (place : ℕ). n + place) (S.0 w), S.1)
+  | inr h ↦ subst (EndsOrGoesOn (n + k)) (sym h.0) (λ w. (let ends = R.0 w in let far = h.1 in omega arith), R.1)
+]
+
+-- Trailing is told behind the first part only if the second is not farther, and then it is not the more telling one.
+pub reasons_both : (n : ℕ) (r s : Refusal) → EndsOrGoesOn n r → IsPartReason s.why → IsPartReason (farther_of (behind n s) r).why
+reasons_both n r s R p = by_test (nat_lt (n + s.place) r.place) (nat_eq (n + s.place) r.place) (nat_lt (weight_of s.why) (weight_of r.why)) refl refl
+  where
+    goes_on : (r.why ≡ Trailing → IsPartReason r.why) → IsPartReason r.why
+    goes_on f = elim R.1 [ inl trails ↦ f trails | inr q ↦ q ]
+
+    by_test : (lt eq w : Bool) → nat_lt (n + s.place) r.place ≡ lt → nat_lt (weight_of s.why) (weight_of r.why) ≡ w → IsPartReason (cond (lt || (eq && w)) r (behind n s)).why
+    by_test true eq w l h = goes_on (λ trails. (let ends = R.0 trails in let far = ltb-true (n + s.place) r.place l in absurd (omega arith)))
+    by_test false true true l h = goes_on (λ trails. (let less = ltb-true (weight_of s.why) (weight_of r.why) h in let none = ap weight_of trails in absurd (omega arith)))
+    by_test false true false l h = p
+    by_test false false w l h = p
+
+-- the reasons of two cases
+pub reasons_either : (r s : Refusal) → IsPartReason r.why → IsPartReason s.why → IsPartReason (farther_of r s).why
+reasons_either r s p q = elim (farther_is r s) [
+  | inl h ↦ subst (λ (far : Refusal). IsPartReason far.why) (sym h.0) p
+  | inr h ↦ subst (λ (far : Refusal). IsPartReason far.why) (sym h.0) q
+]
+
+pub ends_either : (n : ℕ) (r s : Refusal) → EndsOrGoesOn n r → IsPartReason s.why → EndsOrGoesOn n (farther_of r s)
+ends_either n r s R q = elim (farther_is r s) [
+  | inl h ↦ subst (EndsOrGoesOn n) (sym h.0) R
+  | inr h ↦ subst (EndsOrGoesOn n) (sym h.0) (λ w. absurd (part_trails s.why q w), inr q)
 ]
 
 short_behind : (input : List ℕ) (n : ℕ) (r : Refusal) → n ≤ length input → ((r.why ≡ Short) ↔ (r.place ≡ length (drop n input))) → ((r.why ≡ Short) ↔ (n + r.place ≡ length input))

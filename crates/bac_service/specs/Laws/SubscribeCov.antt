@@ -1,8 +1,8 @@
 -- SubscribeCOV is its fields: a Boolean is the bit in it.
 use Rattle.std.specs.Prelude.{◌≡◌, ◌↔◌, ℕ, Bool, Option, Some, None, List, refl}
 use Rattle.std.specs.Option.{option_map}
-use Rattle.std.proofs.Common.{ap}
-use Rattle.bac_tag.specs.Spelling.{Joins, Joined}
+use Rattle.std.proofs.Common.{ap, subst}
+use Rattle.bac_tag.specs.Spelling.{Joins, Joined, AppendsLeast}
 use Rattle.bac_value.specs.Identifier.{Identifier}
 use Rattle.bac_value.specs.declared.types.boolean_value.Boolean.{Boolean}
 use Rattle.bac_value.specs.declared.types.unsigned32.Unsigned32.{Unsigned32}
@@ -10,6 +10,7 @@ use Rattle.bac_service.specs.declared.services.subscribe_cov.SubscribeCov.{Subsc
 use Rattle.bac_service.specs.Contents.{UnsignedField, ObjectField, BooleanField}
 use Rattle.bac_service.specs.Productions.{Optional, IsRecordOf}
 use Rattle.bac_service.specs.SubscribeCov.{SpellsSubscribeCov}
+use Rattle.bac_service.specs.Laws.Least.{appends_alike}
 
 -- a field of a Boolean and the bit in it
 abbrev pub BitField : Boolean → List ℕ → Type 0
@@ -25,7 +26,7 @@ bits_back : (confirmed : Option Bool) → option_map bit_of (option_map boolean_
 bits_back None = refl
 bits_back (Some bit) = refl
 
-pub bits_alike : (confirmed : Option Boolean) (b : List ℕ) → Optional BitField confirmed b ↔ Optional (BooleanField 2) (option_map bit_of confirmed) b
+bits_alike : (confirmed : Option Boolean) (b : List ℕ) → Optional BitField confirmed b ↔ Optional (BooleanField 2) (option_map bit_of confirmed) b
 bits_alike None b = (λ s. s, λ s. s)
 bits_alike (Some value) b = (λ s. s, λ s. s)
 
@@ -66,3 +67,10 @@ subscribe_cov_parts = record {
   split = λ r b. third b (λ c. (booleans_alike r.confirmed c).1);
   joined = λ p b. (subscribe_cov_alike p b).0;
 }
+
+-- its fields are appended with a Boolean for the bit
+pub appends_subscribe_cov : {a b : List ℕ} (r : SubscribeCov) (confirmed : Option Boolean) → option_map bit_of confirmed ≡ r.confirmed
+    → AppendsLeast (SubscribeCovParts (r.process_identifier, (r.object, (confirmed, r.lifetime)))) a b → AppendsLeast (SpellsSubscribeCov r) a b
+appends_subscribe_cov {a} {b} r confirmed e written =
+    subst (λ (c : Option Bool). AppendsLeast (SpellsSubscribeCov (record { process_identifier = r.process_identifier; object = r.object; confirmed = c; lifetime = r.lifetime })) a b) e
+    (appends_alike (subscribe_cov_alike (r.process_identifier, (r.object, (confirmed, r.lifetime)))) written)

@@ -101,7 +101,7 @@ pub(crate) fn under<T: Primitive, const N: u8>(value: Option<T>) -> Option<Field
 pub(crate) fn bit_of(value: Option<Boolean>) -> Option<bool>
     ensures { result ≡ option_map (λ value. value.0) value }
 {
-    value.map(|value| value.0)
+    Some(value?.0)
 }
 
 /// Returns the Boolean of a bit that may be absent.
@@ -109,5 +109,5 @@ pub(crate) fn bit_of(value: Option<Boolean>) -> Option<bool>
 pub(crate) fn boolean_of(bit: Option<bool>) -> Option<Boolean>
     ensures { option_map (λ value. value.0) result ≡ bit }
 {
-    bit.map(Boolean)
+    Some(Boolean(bit?))
 }

@@ -31,12 +31,15 @@ pub struct CovNotification {
     pub values: Vec<PropertyValue>,
 }
 
-/// Its fields: the three that name the subscription, and the two others.
+/// The fields that name the subscription.
+type Subscription = (
+    Field<Unsigned32, 0>,
+    (Field<ObjectId, 1>, Field<ObjectId, 2>),
+);
+
+/// Its fields: those that name the subscription, and the two others.
 type Parts = (
-    (
-        Field<Unsigned32, 0>,
-        (Field<ObjectId, 1>, Field<ObjectId, 2>),
-    ),
+    Subscription,
     (Field<Unsigned32, 3>, Group<Vec<PropertyValue>, 4>),
 );
 
@@ -66,9 +69,11 @@ impl Record for CovNotification {
     }
 
     fn write_fields(&self, out: &mut Vec<u8>) -> Result<(), OutOfMemory> {
-        Field::<Unsigned32, 0>(self.process_identifier).write(out)?;
-        Field::<ObjectId, 1>(self.device).write(out)?;
-        Field::<ObjectId, 2>(self.object).write(out)?;
+        let subscription: Subscription = (
+            Field(self.process_identifier),
+            (Field(self.device), Field(self.object)),
+        );
+        subscription.write(out)?;
         Field::<Unsigned32, 3>(self.time_remaining).write(out)?;
         write_group::<Vec<PropertyValue>, 4>(&self.values, out)
     }

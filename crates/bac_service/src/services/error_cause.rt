@@ -46,8 +46,8 @@ impl Record for ErrorCause {
     }
 
     fn write_fields(&self, out: &mut Vec<u8>) -> Result<(), OutOfMemory> {
-        ApplicationField(self.class).write(out)?;
-        ApplicationField(self.code).write(out)
+        let parts: Parts = (ApplicationField(self.class), ApplicationField(self.code));
+        parts.write(out)
     }
 
     ghost of_parts = { error_cause_parts };

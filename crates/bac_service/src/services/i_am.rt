@@ -59,10 +59,17 @@ impl Record for IAm {
     }
 
     fn write_fields(&self, out: &mut Vec<u8>) -> Result<(), OutOfMemory> {
-        ApplicationField(self.device).write(out)?;
-        ApplicationField(self.max_apdu_length).write(out)?;
-        ApplicationField(self.segmentation).write(out)?;
-        ApplicationField(self.vendor).write(out)
+        let parts: Parts = (
+            ApplicationField(self.device),
+            (
+                ApplicationField(self.max_apdu_length),
+                (
+                    ApplicationField(self.segmentation),
+                    ApplicationField(self.vendor),
+                ),
+            ),
+        );
+        parts.write(out)
     }
 
     ghost of_parts = { i_am_parts };

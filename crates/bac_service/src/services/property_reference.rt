@@ -46,8 +46,8 @@ impl Record for PropertyReference {
     }
 
     fn write_fields(&self, out: &mut Vec<u8>) -> Result<(), OutOfMemory> {
-        Field::<Enumerated, 0>(self.property).write(out)?;
-        under::<Unsigned32, 1>(self.index).write(out)
+        let parts: Parts = (Field(self.property), under(self.index));
+        parts.write(out)
     }
 
     ghost of_parts = { property_reference_parts };

@@ -40,9 +40,15 @@ impl Record for ReadAccessResult {
 
     fn from_parts(parts: Parts) -> ReadAccessResult {
         let (object, results) = parts;
+        let Some(results) = results else {
+            return ReadAccessResult {
+                object: object.0,
+                results: None,
+            };
+        };
         ReadAccessResult {
             object: object.0,
-            results: results.map(|group| group.0),
+            results: Some(results.0),
         }
     }
 

@@ -60,10 +60,13 @@ impl Record for SubscribeCov {
     }
 
     fn write_fields(&self, out: &mut Vec<u8>) -> Result<(), OutOfMemory> {
-        Field::<Unsigned32, 0>(self.process_identifier).write(out)?;
-        Field::<ObjectId, 1>(self.object).write(out)?;
-        under::<Boolean, 2>(boolean_of(self.confirmed)).write(out)?;
-        under::<Unsigned32, 3>(self.lifetime).write(out)
+        let confirmed = under(boolean_of(self.confirmed));
+        let lifetime = under(self.lifetime);
+        let parts: Parts = (
+            Field(self.process_identifier),
+            (Field(self.object), (confirmed, lifetime)),
+        );
+        parts.write(out)
     }
 
     ghost of_parts = { subscribe_cov_parts };

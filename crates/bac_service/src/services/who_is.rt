@@ -36,17 +36,17 @@ impl Record for WhoIs {
     ghost spells = { SpellsWhoIs };
 
     fn from_parts(parts: Parts) -> WhoIs {
+        let Some((low, high)) = parts else {
+            return WhoIs { limits: None };
+        };
         WhoIs {
-            limits: parts.map(|(low, high)| (low.0, high.0)),
+            limits: Some((low.0, high.0)),
         }
     }
 
     fn write_fields(&self, out: &mut Vec<u8>) -> Result<(), OutOfMemory> {
         match self.limits {
-            Some((low, high)) => {
-                Field::<Instance, 0>(low).write(out)?;
-                Field::<Instance, 1>(high).write(out)
-            }
+            Some((low, high)) => (Field::<Instance, 0>(low), Field::<Instance, 1>(high)).write(out),
             None => Ok(()),
         }
     }

@@ -6,7 +6,7 @@ ghost use Rattle.bac_service.specs.Laws.Parts.{write_error_parts};
 use crate::named::Named;
 use crate::production::Production;
 use crate::production::field::Field;
-use crate::production::group::{Group, write_group};
+use crate::production::group::Group;
 use crate::production::option::{bare, under};
 use crate::production::record::{Fields, Record};
 use crate::service::Service;
@@ -67,8 +67,8 @@ impl Record for WritePropertyMultipleError {
             Field(self.object),
             (Field(self.property), under(self.index)),
         );
-        write_group::<Fields<ErrorCause>, 0>(&Fields(cause), out)?;
-        write_group::<ObjectProperty, 1>(&place, out)
+        let parts: Parts = (Group(Fields(cause)), Group(place));
+        parts.write(out)
     }
 
     ghost of_parts = { write_error_parts };

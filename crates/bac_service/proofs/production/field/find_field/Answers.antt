@@ -54,3 +54,13 @@ returns-clause-same g c =
       | else-wanted v ↦ rw v.mark-is tt
     ]) in
     same_below (start + size) c.if-wanted.mark c.same_octets.result inside c.same_octets.ensures.all c.same_octets.ensures.some
+
+pub returns-in-Some-clause-found : goal.returns-in-Some-clause-found
+returns-in-Some-clause-found g c = let told = c.into_spelling.ensures in rw (told.value, told.taken) c.in_ok-read_short_field.ensures.found
+
+pub returns-in-Some-clause-mark : goal.returns-in-Some-clause-mark
+returns-in-Some-clause-mark g c = λ w.
+    let front = c.in_ok-read_short_field.field-0 in
+    let told = c.into_spelling.ensures in
+    rw (told.value, told.taken)
+    (mark_told c.args.octets.now front.taken front.mark c.into_spelling.result.same c.in_ok-read_short_field.ensures.found.within (c.in_ok-read_short_field.ensures.mark w) told.all told.some)

@@ -40,3 +40,6 @@ returns-in-Err-Refused-clause-refused g c =
     (field_refused_contents g.T.Primitive.contents c.args.context g.T.Primitive.APP _ _ (record { lengths = g.met.T.Primitive.lengths; each_length = g.met.T.Primitive.each_length }) c.match-head.len c.args.octets.now c.in-Ok.found.1
     c.in-Err-Refused.refusal read.within (subst (λ (h : TagHead). ExpectedHeads (expected_heading c.args.context g.T.Primitive.APP g.T.Primitive.SHORTEST g.T.Primitive.LONGEST) h (take c.in-Ok.found.1 c.args.octets.now)) named.0 read.spelled)
     (rw take_rest at told.refused))
+
+pub returns-in-Ok-read_contents-clause-trailing : goal.returns-in-Ok-read_contents-clause-trailing
+returns-in-Ok-read_contents-clause-trailing g c = (λ w. c.complete_at.ensures.place, c.complete_at.ensures.reason)

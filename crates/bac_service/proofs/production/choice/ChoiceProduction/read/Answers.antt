@@ -1,6 +1,6 @@
 use Rattle.bac_tag.specs.Laws.Spelling.{refused_either}
 use Rattle.bac_service.specs.Laws.Longest.{either_first}
-use Rattle.bac_service.specs.Laws.Refusal.{reach_first, reach_either, reach_taken}
+use Rattle.bac_service.specs.Laws.Refusal.{reach_first, reach_either, reach_taken, reasons_either, ends_either}
 use Rattle.bac_service.proofs.production.choice.ChoiceProduction.read.Goals as goal
 
 pub returns-in-Ok-clause-found : goal.returns-in-Ok-clause-found
@@ -21,3 +21,20 @@ returns-in-Err-Refused-read-clause-refused g c =
     let told = rw c.in-Err-Refused.field-0-is at c.in-Err-Refused.ensures in
     let other = rw c.in-Err-Refused-read.field-0-is at c.in-Err-Refused-read.ensures in
     rw c.farther-in-Err-Refused-read.ensures (refused_either _ _ c.args.octets.now c.in-Err-Refused.refusal c.in-Err-Refused-read.refusal told.refused other.refused)
+
+pub returns-in-Ok-read-clause-trailing : goal.returns-in-Ok-read-clause-trailing
+returns-in-Ok-read-clause-trailing g c =
+    let told = rw c.in-Err-Refused.field-0-is at c.in-Err-Refused.ensures in
+    rw c.farther.ensures (ends_either c.in-Ok-read.front.taken c.in-Ok-read.front.reach c.in-Err-Refused.refusal c.in-Ok-read.ensures.trailing told.reasons)
+
+pub returns-in-Err-Refused-read-clause-reasons : goal.returns-in-Err-Refused-read-clause-reasons
+returns-in-Err-Refused-read-clause-reasons g c =
+    let told = rw c.in-Err-Refused.field-0-is at c.in-Err-Refused.ensures in
+    let other = rw c.in-Err-Refused-read.field-0-is at c.in-Err-Refused-read.ensures in
+    rw c.farther-in-Err-Refused-read.ensures (reasons_either c.in-Err-Refused.refusal c.in-Err-Refused-read.refusal told.reasons other.reasons)
+
+pub returns-in-Ok-clause-trailing : goal.returns-in-Ok-clause-trailing
+returns-in-Ok-clause-trailing g c = rw (c.with.ensures, c.split-part.ensures) c.in-Ok.ensures.trailing
+
+pub returns-in-Ok-clause-mark : goal.returns-in-Ok-clause-mark
+returns-in-Ok-clause-mark g c = rw (c.with.ensures, c.split-part.ensures) c.in-Ok.ensures.mark

@@ -1,6 +1,6 @@
 use Rattle.std.proofs.Common.{ap, sym, ◌∙◌, map, ◌∷◌, [], ◌++◌, length, take, arith, ◌<◌, ◌≡◌, ◌+◌}
 use Rattle.std.proofs.lemmas.List.{take_more, take_all, map-append}
-use Rattle.bac_service.specs.Laws.Least.{appends_item}
+use Rattle.bac_service.specs.Laws.Least.{appends_item, extends_more}
 use Rattle.bac_service.proofs.production.list.VecProduction.write.Goals as goal
 
 pub loop-item-preserved : goal.loop-item-preserved
@@ -19,3 +19,9 @@ returns-clause-ok g c =
     let items = c.deref-item-items.result.now in
     let all : take c.loop-item.item-index items ≡ items = take_all c.loop-item.item-index items (omega arith) in
     rw (sym c.deref-item-items.ensures.value) (rw all at c.loop-item.invariant)
+
+pub returns-clause-kept : goal.returns-clause-kept
+returns-clause-kept g c = let written = c.loop-item.invariant in (written.more, written.new_is)
+
+pub returns-in_err-write_fields-clause-kept : goal.returns-in_err-write_fields-clause-kept
+returns-in_err-write_fields-clause-kept g c = let written = c.loop-item.invariant in extends_more _ _ _ (written.more, written.new_is) c.in_err-write_fields.ensures.kept

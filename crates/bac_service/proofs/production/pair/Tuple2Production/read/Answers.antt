@@ -3,7 +3,7 @@ use Rattle.std.proofs.lemmas.List.{take_rest}
 use Rattle.bac_service.specs.Laws.Longest.{pair_found}
 use Rattle.bac_service.specs.Laws.Least.{mark_both}
 use Rattle.bac_service.specs.Laws.Faults.{refused_also}
-use Rattle.bac_service.specs.Laws.Refusal.{reach_both, refused_behind, refused_before}
+use Rattle.bac_service.specs.Laws.Refusal.{reach_both, reach_taken, refused_behind, refused_before, ends_both, reasons_both}
 use Rattle.bac_service.proofs.production.pair.Tuple2Production.read.Goals as goal
 
 pub returns-in_err-first-clause-refused : goal.returns-in_err-first-clause-refused
@@ -31,3 +31,13 @@ returns-in-Err-Refused-clause-refused g c =
     rw (c.farther-in-Err-Refused.ensures, c.behind-in-Err-Refused.ensures)
     (refused_behind g.A.Production.is_sound g.B.Production.is_sound g.met.A.Production.lawful g.met.B.Production.lawful c.requires g.met.B.Production.inhabited c.in_ok-first.ensures.found c.in_ok-first.first.reach c.in-Err-Refused.refusal c.in_ok-first.ensures.reach
     (rw take_rest at told.refused))
+
+pub returns-in-Ok-clause-trailing : goal.returns-in-Ok-clause-trailing
+returns-in-Ok-clause-trailing g c =
+    rw (c.farther.ensures, c.behind.ensures)
+    (ends_both c.in_ok-first.first.taken c.in-Ok.second.taken c.in_ok-first.first.reach c.in-Ok.second.reach c.in_ok-first.ensures.trailing c.in-Ok.ensures.trailing (reach_taken c.in-Ok.ensures.found c.in-Ok.ensures.reach))
+
+pub returns-in-Err-Refused-clause-reasons : goal.returns-in-Err-Refused-clause-reasons
+returns-in-Err-Refused-clause-reasons g c =
+    let told = rw c.in-Err-Refused.field-0-is at c.in-Err-Refused.ensures in
+    rw (c.farther-in-Err-Refused.ensures, c.behind-in-Err-Refused.ensures) (reasons_both c.in_ok-first.first.taken c.in_ok-first.first.reach c.in-Err-Refused.refusal c.in_ok-first.ensures.trailing told.reasons)

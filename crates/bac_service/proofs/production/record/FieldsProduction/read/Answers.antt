@@ -1,7 +1,7 @@
 use Rattle.std.proofs.lemmas.Result.{err_from_is_err_and}
 use Rattle.bac_service.specs.Laws.Faults.{refused_also}
 use Rattle.bac_service.specs.Laws.Least.{mark_alike}
-use Rattle.bac_service.specs.Laws.Record.{record_refused}
+use Rattle.bac_service.specs.Laws.Record.{record_refused, record_longest, record_reach}
 use Rattle.bac_service.proofs.production.record.FieldsProduction.read.Goals as goal
 
 pub returns-in_err-front-clause-refused : goal.returns-in_err-front-clause-refused
@@ -11,3 +11,12 @@ returns-in_err-front-clause-refused g c =
 
 pub returns-clause-mark : goal.returns-clause-mark
 returns-clause-mark g c = rw c.with.ensures (mark_alike c.from_parts.ensures (rw c.split-parts.ensures c.in_ok-front.ensures.mark))
+
+pub returns-clause-found : goal.returns-clause-found
+returns-clause-found g c = rw c.with.ensures (record_longest g.met.R.Record.of_parts c.from_parts.ensures (rw c.split-parts.ensures c.in_ok-front.ensures.found))
+
+pub returns-clause-reach : goal.returns-clause-reach
+returns-clause-reach g c = rw c.with.ensures (record_reach g.met.R.Record.of_parts (rw c.split-parts.ensures c.in_ok-front.ensures.reach))
+
+pub returns-clause-trailing : goal.returns-clause-trailing
+returns-clause-trailing g c = rw (c.with.ensures, c.split-parts.ensures) c.in_ok-front.ensures.trailing

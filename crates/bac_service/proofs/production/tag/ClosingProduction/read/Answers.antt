@@ -22,3 +22,12 @@ returns-then-is_short_closing-clause-mark g c = short_mark (Close g.row.N) c.arg
 
 pub returns-then-is_short_closing-clause-reach : goal.returns-then-is_short_closing-clause-reach
 returns-then-is_short_closing-clause-reach g c = tag_reach (Close g.row.N) c.args.octets.now 1 c.complete_at.result (short_taken (Close g.row.N) c.args.octets.now (c.is_short_closing.ensures.0 c.if-is_short_closing.true)) c.complete_at.ensures.place c.complete_at.ensures.short
+
+pub returns-in-Ok-clause-found : goal.returns-in-Ok-clause-found
+returns-in-Ok-clause-found g c = tag_longest (Close g.row.N) c.args.octets.now c.in-Ok.taken (closing_taken g.row.N c.args.octets.now _ c.in-Ok.taken c.in-Ok.ensures.found)
+
+pub returns-in-Ok-clause-trailing : goal.returns-in-Ok-clause-trailing
+returns-in-Ok-clause-trailing g c = (λ w. c.complete_at-in-Ok.ensures.place, c.complete_at-in-Ok.ensures.reason)
+
+pub returns-then-is_short_closing-clause-trailing : goal.returns-then-is_short_closing-clause-trailing
+returns-then-is_short_closing-clause-trailing g c = (λ w. c.complete_at.ensures.place, c.complete_at.ensures.reason)

@@ -22,3 +22,12 @@ returns-then-is_short_opening-clause-mark g c = short_mark (Open g.row.N) c.args
 
 pub returns-then-is_short_opening-clause-reach : goal.returns-then-is_short_opening-clause-reach
 returns-then-is_short_opening-clause-reach g c = tag_reach (Open g.row.N) c.args.octets.now 1 c.complete_at.result (short_taken (Open g.row.N) c.args.octets.now (c.is_short_opening.ensures.0 c.if-is_short_opening.true)) c.complete_at.ensures.place c.complete_at.ensures.short
+
+pub returns-in-Ok-clause-found : goal.returns-in-Ok-clause-found
+returns-in-Ok-clause-found g c = tag_longest (Open g.row.N) c.args.octets.now c.in-Ok.taken (opening_taken g.row.N c.args.octets.now _ c.in-Ok.taken c.in-Ok.ensures.found)
+
+pub returns-in-Ok-clause-trailing : goal.returns-in-Ok-clause-trailing
+returns-in-Ok-clause-trailing g c = (λ w. c.complete_at-in-Ok.ensures.place, c.complete_at-in-Ok.ensures.reason)
+
+pub returns-then-is_short_opening-clause-trailing : goal.returns-then-is_short_opening-clause-trailing
+returns-then-is_short_opening-clause-trailing g c = (λ w. c.complete_at.ensures.place, c.complete_at.ensures.reason)

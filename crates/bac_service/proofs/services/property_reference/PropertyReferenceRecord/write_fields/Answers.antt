@@ -1,6 +1,4 @@
-use Rattle.std.proofs.lemmas.Result.{on_ok_weaker}
-use Rattle.bac_service.specs.Laws.Least.{appends_joined}
 use Rattle.bac_service.proofs.services.property_reference.PropertyReferenceRecord.write_fields.Goals as goal
 
 pub returns-clause-ok : goal.returns-clause-ok
-returns-clause-ok c = on_ok_weaker c.write-2.result (λ last. appends_joined c.in_ok-write.ensures.ok (rw c.under.ensures at last)) c.write-2.ensures.ok
+returns-clause-ok c = rw c.under.ensures at c.write.ensures.ok
