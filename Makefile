@@ -1,4 +1,5 @@
 # The commands of this repository, one line each:
+#   make look    builds the program without any proof, and runs it on a file of examples (a minute or two)
 #   make         proves and builds the program, and leaves it in bin/bactool
 #   make test    the checks of the documents, then the merge gate: every proof from nothing, every test, the program on
 #                the files of examples, and the examples in C, Python and Rust on the library of what was proved
@@ -14,13 +15,19 @@
 #                away; PREFIX is /usr/local, and DESTDIR stands in front of it
 #   make clean   removes what the others made
 
-.PHONY: build test check bench memory wrong-bodies lib try-library install uninstall clean need-rt
+.PHONY: build look test check bench memory wrong-bodies lib try-library install uninstall clean need-rt
 
 build: need-rt
-	@echo "bactool: proving and building it into bin/bactool (half an hour or more the first time, seconds after that)"
-	@cd crates/bac_tool && rt run -- --help > /dev/null
+	@echo "bactool: proving and building it into bin/bactool (long the first time, seconds after that)"
+	@scripts/build bac_tool --help
 	@mkdir -p bin
 	@cp crates/bac_tool/out/bac_tool bin/bactool
+
+look: need-rt
+	@echo "bactool: building the program without any proof, and running show on examples/every-kind.frames" >&2
+	@mkdir -p crates/bac_tool/out
+	@cd crates/bac_tool && rt try -- show < ../../examples/every-kind.frames 2> out/look.log || { cat out/look.log >&2; exit 1; }
+	@echo "bactool: nothing was proved for this; make proves the program, and builds what it proved" >&2
 
 test: need-rt
 	@.ci/docs
@@ -32,8 +39,8 @@ check: need-rt
 	@rt all check
 
 bench: build
-	@echo "bactool: proving and building the measurement into bin/bac_bench (half an hour or more the first time, seconds after that)"
-	@cd crates/bac_bench && rt run > /dev/null
+	@echo "bactool: proving and building the measurement into bin/bac_bench (some minutes the first time, seconds after that)"
+	@scripts/build bac_bench
 	@cp crates/bac_bench/out/bac_bench bin/bac_bench
 	@$(MAKE) --no-print-directory lib || echo "bactool: there is no library for C, so its column is left out"
 	@scripts/bench
@@ -51,9 +58,8 @@ INSTALLED = bin/bactool include/bactool.h lib/libbactool.a lib/libbactool.so lib
 	lib/pkgconfig/bactool.pc share/man/man1/bactool.1
 
 lib: need-rt
-	@echo "bactool: proving and building the library into lib/ (half an hour or more the first time, seconds after that)"
-	@mkdir -p crates/bac_c/out
-	@cd crates/bac_c && rt lib > out/lib.log || { cat out/lib.log >&2; exit 1; }
+	@echo "bactool: proving and building the library into lib/ (long the first time, seconds after that)"
+	@scripts/build bac_c
 	@scripts/link-library
 
 try-library: lib
