@@ -4,13 +4,9 @@
 mod canonical;
 mod constructors;
 mod examples;
-mod heads;
-mod ignored_bits;
-mod sizes;
 mod windows;
 
-use crate::expectations::{assert_holds, assert_same, assert_same_of};
-use crate::judging::Reading;
+use crate::expectations::assert_same;
 use bac_apdu::{Apdu, append_apdu, decode_apdu_marked, encode_apdu};
 use bac_tag::{OutOfMemory, Refusal, Why};
 use std::alloc::Global;
@@ -45,50 +41,9 @@ fn encoded(rt: &impl Abort, alloc: Global, apdu: &Apdu) -> Vec<u8> {
     }
 }
 
-/// A copy, at the latest when memory is asked for again.
-fn copied(rt: &impl Abort, apdu: &Apdu) -> Apdu {
-    match apdu.clone() {
-        Ok(copy) => copy,
-        Err(_) => apdu.clone().expect(rt, "memory"),
-    }
-}
-
 /// Whether the two are equal.
 fn are_equal(one: &Apdu, other: &Apdu) -> bool {
     one == other
-}
-
-/// The APDU is equal to that of its canonical octets, and to its copy.
-fn is_equal_to_its_like(rt: &impl Abort, alloc: Global, apdu: &Apdu, canonical: &[u8]) {
-    let again = apdu_of(rt, alloc, canonical);
-    assert_holds(rt, are_equal(apdu, &again), canonical);
-    let copy = copied(rt, apdu);
-    assert_holds(rt, are_equal(&copy, apdu), canonical);
-}
-
-/// APDUs.
-pub struct Apdus;
-
-impl Reading for Apdus {
-    /// The octets come to that. What is read is equal to what its canonical octets are, and to its copy.
-    fn comes_to(
-        rt: &impl Abort,
-        alloc: Global,
-        octets: &[u8],
-        wanted: Result<(&[u8], Option<usize>), (&str, usize)>,
-    ) {
-        match decoded(rt, alloc, octets) {
-            Ok((found, mark)) => {
-                let written = encoded(rt, alloc, &found);
-                assert_same_of(rt, Ok((written.as_slice(), mark)), wanted, octets);
-                is_equal_to_its_like(rt, alloc, &found, &written);
-            }
-            Err(refusal) => {
-                let told = (refusal.why.name(), refusal.place);
-                assert_same_of(rt, Err(told), wanted, octets);
-            }
-        }
-    }
 }
 
 /// Behind these octets the canonical ones of an APDU are appended, at the latest when memory is asked for again; where

@@ -12,8 +12,6 @@ mod expectations;
 #[cfg(test)]
 mod frame;
 #[cfg(test)]
-mod judging;
-#[cfg(test)]
 mod segment;
 #[cfg(test)]
 mod text;

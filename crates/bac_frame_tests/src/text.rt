@@ -1,16 +1,11 @@
 //! Of the texts of frames. Where memory is refused a call is made again, so that the tests can be run with each allocation
 //! refused in turn (`rt try --test --fail-alloc N`).
 
-mod apdus;
-mod examples;
-mod messages;
-mod open_values;
-mod services;
 mod sizes;
 
 use crate::expectations::{assert_same, assert_same_of};
 use bac_npdu::{Frame, decode_frame};
-use bac_tables::{octets_of, rows_of};
+use bac_tables::octets_of;
 use bac_tag::Why;
 use bac_text::append_text;
 use std::alloc::Global;
@@ -42,10 +37,14 @@ fn shows(rt: &impl Abort, alloc: Global, octets: &[u8], text: &str) {
     assert_same_of(rt, rest, text.as_bytes(), text);
 }
 
-/// Each row of the table is a frame and its text.
-fn judge(rt: &impl Abort, alloc: Global, table: &str) {
-    for row in rows_of(table).expect(rt, "rows").iter() {
-        let octets = octets_of(row.octets).expect(rt, "octets");
-        shows(rt, alloc, &octets, row.told);
-    }
+// Of examples 4 and 18 of docs/EXAMPLES.md, with each allocation refused in turn.
+#[test]
+fn texts_are_appended_again_where_memory_was_refused(rt: HostRuntime) {
+    let answer = octets_of("01 00 30 01 0C 0C 00 00 00 05 19 55 3E 44 42 90 99 9A 3F");
+    let text = "prio=0 reply=0 ack id=1 ReadProperty object=0:5 property=85 value={r:4290999A}";
+    shows(&rt, rt.alloc(), &answer.expect(&rt, "octets"), text);
+    let request = octets_of("01 04 00 02 F1 0E 0C 00 00 00 21 1E 09 55 1F");
+    let text =
+        "prio=0 reply=1 conf id=241 sa=0 segs=0 resp=2 ReadPropertyMultiple specs=((object=0:33 properties=((property=85))))";
+    shows(&rt, rt.alloc(), &request.expect(&rt, "octets"), text);
 }

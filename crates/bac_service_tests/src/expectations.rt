@@ -37,8 +37,3 @@ pub fn assert_shown<D: Display + Drop>(rt: &impl Abort, alloc: Global, value: D,
     let shown = format!(in alloc; "{value}").expect(rt, "memory");
     assert_same(rt, shown.as_str(), text);
 }
-
-/// Stops the test, which found something else than it wanted.
-pub fn unexpected(rt: &impl Abort, found: &impl Debug) -> ! {
-    panic!(rt; "{found:?}")
-}

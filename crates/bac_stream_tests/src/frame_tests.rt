@@ -1,4 +1,4 @@
-//! What the runs tell of frames: worked examples of docs/EXAMPLES.md.
+//! What the runs write of records of many octets, and where memory is refused.
 
 ghost use Rattle.std.specs.Prelude.{◌<◌, ◌≤◌};
 
@@ -6,7 +6,7 @@ use crate::expectations::{assert_holds, assert_same, assert_same_of};
 use bac_stream::{
     Counted, Mode, RunFault, StreamFault, Summary, run_check, run_normalise, run_show,
 };
-use bac_tables::{enclosed, octets_of, rows_of};
+use bac_tables::{enclosed, octets_of};
 use std::alloc::Global;
 use std::process::Abort;
 
@@ -34,178 +34,6 @@ fn made(alloc: Global, run: Run, mode: Mode, file: &[u8]) -> (Result<Summary, Ru
 fn record_of(rt: &impl Abort, alloc: Global, octets: &[u8]) -> Vec<u8> {
     let length = (octets.len().min(65_535) as u16).to_be_bytes();
     enclosed(alloc, &length, octets, &[], &[]).expect(rt, "memory")
-}
-
-/// The line of the octets, as the one record of a file, tells this behind the number of the record.
-fn tells_of(rt: &impl Abort, alloc: Global, run: Run, mode: Mode, octets: &[u8], told: &str) {
-    let file = record_of(rt, alloc, octets);
-    let (answer, written) = made(alloc, run, mode, &file);
-    let counts = answer.map(|summary| (summary.records, summary.refused));
-    let refused = u32::from(told.starts_with("refused"));
-    assert_same_of(rt, counts, Ok((1, refused)), told);
-    let line = enclosed(alloc, b"1 ", told.as_bytes(), b"\n", &[]).expect(rt, "memory");
-    assert_same_of(rt, written, line, told);
-}
-
-/// Each row of the table is a frame, and what its line tells.
-fn tells(rt: &impl Abort, alloc: Global, run: Run, mode: Mode, table: &str) {
-    for row in rows_of(table).expect(rt, "rows").iter() {
-        let octets = octets_of(row.octets).expect(rt, "octets");
-        tells_of(rt, alloc, run, mode, &octets, row.told);
-    }
-}
-
-// Examples 1, 4 to 6, 17 to 22, 24, 54, 56, 68, 74, 76 and 77.
-#[test]
-fn check_tells_of_canonical_frames(rt: HostRuntime) {
-    let frames = "
-        01 04 00 05 01 0C 0C 00 00 00 05 19 55 -> ok
-        01 00 30 01 0C 0C 00 00 00 05 19 55 3E 44 42 90 99 9A 3F -> ok
-        01 20 FF FF 00 FF 10 08 -> ok
-        01 00 10 08 09 00 1B 3F FF FF -> ok
-        01 00 10 00 C4 02 00 00 01 22 01 E0 91 03 21 63 -> ok
-        01 04 00 05 03 0F 0C 00 40 00 01 19 55 3E 44 42 C8 00 00 3F 49 08 -> ok
-        01 04 00 02 F1 0E 0C 00 00 00 21 1E 09 55 1F -> ok
-        01 00 30 F1 0E 0C 00 00 00 21 1E 29 55 4E 44 42 90 99 9A 4F 29 67 5E 91 02 91 20 5F 1F -> ok
-        01 04 00 02 0F 05 09 12 1C 00 00 00 0A 29 01 39 00 -> ok
-        01 00 10 02 09 12 1C 02 00 00 04 2C 00 00 00 0A 39 00 4E 09 55 2E 44 42 82 00 00 2F 09 6F 2E 82 04 00 2F 4F -> ok
-        01 00 50 01 0C 91 02 91 20 -> ok
-        01 80 01 00 02 00 03 -> ok
-        01 80 80 01 04 AA BB -> ok
-        01 00 3C 01 00 04 0C 0C 00 00 00 05 19 -> ok
-        01 28 00 05 01 0A 00 07 02 01 02 FF 10 08 -> ok
-        01 80 07 -> ok
-        01 80 07 00 -> ok
-        01 80 06 01 00 02 01 00 -> ok
-        01 04 00 05 02 10 0C 00 40 00 01 1E 09 55 2E 44 42 C8 00 00 2F 39 08 1F -> ok
-        01 00 50 02 10 0E 91 02 91 20 0F 1E 0C 00 40 00 01 19 55 1F -> ok
-        01 04 00 05 02 10 -> ok
-        01 04 00 05 01 0D -> ok
-    ";
-    tells(&rt, rt.alloc(), Run::Check, Mode::Tolerant, frames);
-    tells(&rt, rt.alloc(), Run::Check, Mode::Strict, frames);
-}
-
-// Examples 2, 3, 21, 36, 37, 55 and 75.
-#[test]
-fn check_tells_of_tolerated_frames(rt: HostRuntime) {
-    let tolerant = "
-        01 54 01 85 01 0C 0C 00 00 00 05 1A 00 55 -> tolerated at 1
-        01 04 00 05 01 0C FD 00 04 00 00 00 05 19 55 -> tolerated at 6
-        01 04 00 05 01 0C 0C 00 00 00 05 1D 08 00 00 00 00 00 00 00 55 -> tolerated at 11
-        01 04 04 05 01 0C 0C 00 00 00 05 19 55 -> tolerated at 2
-        01 04 00 85 01 0C 0C 00 00 00 05 19 55 -> tolerated at 3
-        01 00 5F 01 0C 92 00 02 91 20 -> tolerated at 2
-        01 D0 12 -> tolerated at 1
-        01 04 00 05 02 10 0C 00 40 00 01 1E 09 55 2E 44 42 C8 00 00 2F 3A 00 08 1F -> tolerated at 21
-    ";
-    let strict = "
-        01 04 00 05 01 0C FD 00 04 00 00 00 05 19 55 -> refused NotCanonical at 6
-        01 D0 12 -> refused NotCanonical at 1
-        01 00 80 -> refused PduType at 2
-    ";
-    tells(&rt, rt.alloc(), Run::Check, Mode::Tolerant, tolerant);
-    tells(&rt, rt.alloc(), Run::Check, Mode::Strict, strict);
-}
-
-// Examples 7, 8, 36, 69, 79 and 81, and the other ends of a ReadProperty request.
-#[test]
-fn check_tells_where_a_request_is_refused(rt: HostRuntime) {
-    let frames = "
-        none -> refused Short at 0
-        02 -> refused Version at 0
-        01 00 80 -> refused PduType at 2
-        01 00 3C 01 00 00 0C -> refused Window at 5
-        01 04 00 05 01 0C -> refused Short at 6
-        01 04 00 05 01 0C 0B 00 00 00 05 19 55 -> refused Length at 6
-        01 04 00 05 01 0C 1C 00 00 00 05 19 55 -> refused Tag at 6
-        01 04 00 05 01 0C 0C 00 00 00 -> refused Short at 10
-        01 04 00 05 01 0C 0D FF FF FF FF FF 19 55 -> refused Length at 8
-        01 04 00 05 01 0C 0C 00 00 00 05 1D 09 00 00 00 00 00 00 00 00 55 -> refused Length at 12
-        01 04 00 05 01 0C 0C 00 00 00 05 1D 05 01 00 00 00 00 -> refused Content at 13
-        01 04 00 05 01 0C 0C 00 00 00 05 1D 05 01 -> refused Content at 13
-        01 04 00 05 01 0C 0C 00 00 00 05 19 55 29 -> refused Short at 14
-        01 04 00 05 01 0C 0C 00 00 00 05 19 55 3E -> refused Trailing at 13
-        01 04 00 05 01 0C 0C 00 00 00 05 19 55 2E -> refused Trailing at 13
-        01 04 00 05 01 0C 0C 00 00 00 05 19 55 F9 05 -> refused Tag at 14
-        01 04 00 05 01 0C 0C 00 00 00 05 19 55 2D 05 01 -> refused Content at 15
-        01 04 00 05 01 0C 0C 00 00 00 05 19 00 29 01 FF -> refused Trailing at 15
-    ";
-    tells(&rt, rt.alloc(), Run::Check, Mode::Tolerant, frames);
-}
-
-// Examples 5, 8, 17, 19, 22, 56, 77 and 79 to 81.
-#[test]
-fn check_tells_where_other_frames_are_refused(rt: HostRuntime) {
-    let frames = "
-        01 08 00 01 00 -> refused Address at 4
-        01 00 10 08 09 00 -> refused Short at 6
-        01 00 10 08 09 00 1B 40 00 00 -> refused Content at 7
-        01 04 00 05 03 0F 0C 00 40 00 01 19 55 3E 44 42 C8 00 00 3F 49 11 -> refused Content at 21
-        01 04 00 02 0F 05 09 12 1C 00 00 00 0A 29 02 39 00 -> refused Content at 14
-        01 80 00 00 -> refused Short at 4
-        01 80 00 00 05 00 -> refused Trailing at 5
-        01 80 06 02 00 02 01 00 -> refused Short at 8
-        01 04 00 05 02 10 AA -> refused Trailing at 6
-        01 04 00 05 02 10 0C -> refused Short at 7
-        01 00 10 08 19 -> refused Trailing at 4
-        01 00 10 02 09 12 1C 02 00 00 04 2E -> refused Tag at 11
-        01 00 10 02 09 12 1C 02 00 00 04 2B -> refused Length at 11
-        01 00 10 02 09 12 1C 02 00 00 04 2D -> refused Short at 12
-        01 00 10 00 C4 02 00 00 01 22 01 E0 91 03 23 01 00 00 -> refused Content at 15
-    ";
-    tells(&rt, rt.alloc(), Run::Check, Mode::Tolerant, frames);
-}
-
-/// The line of an answer whose value has so many groups, each in the one in front of it, tells this.
-fn tells_of_groups(rt: &impl Abort, alloc: Global, depth: usize, told: &str) {
-    let front = octets_of("01 00 30 01 0C 0C 00 00 00 05 19 55 3E").expect(rt, "octets");
-    let begins = vec![in alloc; 0x0E; depth].expect(rt, "memory");
-    let ends = vec![in alloc; 0x0F; depth].expect(rt, "memory");
-    let octets = enclosed(alloc, &front, &begins, &ends, &[0x3F]).expect(rt, "memory");
-    tells_of(rt, alloc, Run::Check, Mode::Tolerant, &octets, told);
-}
-
-// Example 68: so many groups in the value of an answer.
-#[test]
-fn groups_nest_to_a_depth(rt: HostRuntime) {
-    tells_of_groups(&rt, rt.alloc(), 16, "ok");
-    tells_of_groups(&rt, rt.alloc(), 17, "ok");
-    tells_of_groups(&rt, rt.alloc(), 32, "ok");
-    tells_of_groups(&rt, rt.alloc(), 33, "refused Depth at 45");
-}
-
-// Examples 4 to 6, 17, 19, 21, 22, 24, 60, 74 and 76.
-#[test]
-fn show_tells_what_frames_say(rt: HostRuntime) {
-    let frames = "
-        01 00 30 01 0C 0C 00 00 00 05 19 55 3E 44 42 90 99 9A 3F -> prio=0 reply=0 ack id=1 ReadProperty object=0:5 property=85 value={r:4290999A}
-        01 20 FF FF 00 FF 10 08 -> prio=0 reply=0 dest=65535/* hops=255 unconf Who-Is
-        01 00 10 08 09 00 1B 3F FF FF -> prio=0 reply=0 unconf Who-Is low=0 high=4194303
-        01 00 10 00 C4 02 00 00 01 22 01 E0 91 03 21 63 -> prio=0 reply=0 unconf I-Am object=8:1 apdu=480 segmentation=3 vendor=99
-        01 04 00 05 03 0F 0C 00 40 00 01 19 55 3E 44 42 C8 00 00 3F 49 08 -> prio=0 reply=1 conf id=3 sa=0 segs=0 resp=5 WriteProperty object=1:1 property=85 value={r:42C80000} priority=8
-        01 04 00 02 0F 05 09 12 1C 00 00 00 0A 29 01 39 00 -> prio=0 reply=1 conf id=15 sa=0 segs=0 resp=2 SubscribeCOV process=18 object=0:10 confirmed=1 lifetime=0
-        01 00 50 01 0C 91 02 91 20 -> prio=0 reply=0 error id=1 choice=12 class=2 code=32
-        01 00 5F 01 0C 92 00 02 91 20 -> prio=0 reply=0 error id=1 choice=12 class=2 code=32
-        01 80 01 00 02 00 03 -> prio=0 reply=0 net type=01 networks=(2 3)
-        01 80 80 01 04 AA BB -> prio=0 reply=0 net type=80 vendor=260 data=AABB
-        01 00 3C 01 00 04 0C 0C 00 00 00 05 19 -> prio=0 reply=0 ack-seg id=1 seq=0 win=4 more=1 choice=12 octets=0C0000000519
-        01 28 00 05 01 0A 00 07 02 01 02 FF 10 08 -> prio=0 reply=0 dest=5/0A hops=255 src=7/0102 unconf Who-Is
-        01 04 00 05 02 10 0C 00 40 00 01 1E 09 55 2E 44 42 C8 00 00 2F 39 08 1F -> prio=0 reply=1 conf id=2 sa=0 segs=0 resp=5 WritePropertyMultiple specs=((object=1:1 values=((property=85 value={r:42C80000} priority=8))))
-        01 00 50 02 10 0E 91 02 91 20 0F 1E 0C 00 40 00 01 19 55 1F -> prio=0 reply=0 error id=2 choice=16 class=2 code=32 object=1:1 property=85
-    ";
-    tells(&rt, rt.alloc(), Run::Show, Mode::Tolerant, frames);
-}
-
-// Examples 18 and 20.
-#[test]
-fn show_tells_of_lists(rt: HostRuntime) {
-    let frames = "
-        01 04 00 02 F1 0E 0C 00 00 00 21 1E 09 55 1F -> prio=0 reply=1 conf id=241 sa=0 segs=0 resp=2 ReadPropertyMultiple specs=((object=0:33 properties=((property=85))))
-        01 00 30 F1 0E 0C 00 00 00 21 1E 29 55 4E 44 42 90 99 9A 4F 29 67 5E 91 02 91 20 5F 1F -> prio=0 reply=0 ack id=241 ReadPropertyMultiple results=((object=0:33 results=((property=85 value={r:4290999A}) (property=103 error=(class=2 code=32)))))
-        01 00 10 02 09 12 1C 02 00 00 04 2C 00 00 00 0A 39 00 4E 09 55 2E 44 42 82 00 00 2F 09 6F 2E 82 04 00 2F 4F -> prio=0 reply=0 unconf UnconfirmedCOVNotification process=18 device=8:4 object=0:10 remaining=0 values=((property=85 value={r:42820000}) (property=111 value={b:0000}))
-    ";
-    tells(&rt, rt.alloc(), Run::Show, Mode::Tolerant, frames);
 }
 
 /// F1: the canonical octets of the first example.

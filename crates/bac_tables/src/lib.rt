@@ -1,11 +1,11 @@
-//! Octets for the tests of the library: tables of them, written as texts, by which tests are short and quick to prove,
-//! and values of many octets. The crates of tests share this one.
+//! Octets for the tests of the library: as texts, in tables with a row a line, and many of them. The crates of tests and
+//! bac_vectors share this one.
 #![tactic(auto)]
 
 mod sizes;
 mod tables;
 
-pub use sizes::{ITEMS, enclosed, mixed, numbered};
+pub use sizes::{enclosed, mixed, numbered};
 pub use tables::{
-    MOST_OCTETS, Octets, Outcome, Row, TableFault, joined, octets_of, places_of, rows_of,
+    Octets, Row, TableFault, octet_of, octets_of, place_of, places_of, row_of, rows_of,
 };

@@ -2,9 +2,6 @@
 
 use std::alloc::{AllocError, Global};
 
-/// How many items a long list has.
-pub const ITEMS: usize = 10_000;
-
 /// So many octets in no order that repeats, the same ones each time.
 pub fn mixed(alloc: Global, count: usize) -> Result<Vec<u8>, AllocError> {
     let mut octets = Vec::with_capacity(alloc, count)?;

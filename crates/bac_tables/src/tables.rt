@@ -1,10 +1,10 @@
-//! Octets, and tables of what octets come to, as texts. No call takes memory, so that a test which is run with one of
-//! its allocations refused meets the refusal in what it tests.
+//! Octets, and tables of what is told of them, as texts. No call takes memory, so that a test which is run with one of its
+//! allocations refused meets the refusal in what it tests.
 
 use arrayvec::ArrayVec;
 
 /// How many octets a text has at most.
-pub const MOST_OCTETS: usize = 128;
+const MOST_OCTETS: usize = 128;
 
 /// How many rows a table has at most, and how many places stand in a list.
 const MOST_ROWS: usize = 32;
@@ -21,23 +21,10 @@ pub enum TableFault<'a> {
     Place(&'a str),
     /// A line of a table that is neither blank nor a row.
     Line(&'a str),
-    /// What octets come to was wanted.
-    Outcome(&'a str),
     /// A table has no row.
     NoRow,
     /// There are more octets, rows or places than a test may have.
     TooMany,
-}
-
-/// What octets come to.
-#[derive(Clone, Copy)]
-pub enum Outcome<'a> {
-    /// They are written as they are.
-    Itself,
-    /// These octets are written, which differ from that place on.
-    Written(&'a str, usize),
-    /// They are refused for the reason with this name, at that place.
-    Refused(&'a str, usize),
 }
 
 /// A row of a table: octets, and what is told of them.
@@ -47,48 +34,6 @@ pub struct Row<'a> {
     pub octets: &'a str,
     /// What stands behind the arrow.
     pub told: &'a str,
-}
-
-impl<'a> Row<'a> {
-    /// Where octets differ from the canonical ones: nowhere where `itself` stands there, or `differs at PLACE`.
-    ///
-    /// # Errors
-    /// `Outcome` where anything else stands there, and `Place` where the place is no number.
-    pub fn mark(self) -> Result<Option<usize>, TableFault<'a>> {
-        if self.told == "itself" {
-            return Ok(None);
-        }
-        match self.told.split_once("differs at ") {
-            Some(("", place)) => Ok(Some(place_of(place)?)),
-            _ => Err(TableFault::Outcome(self.told)),
-        }
-    }
-
-    /// The name of the reason and the place of a refusal: `REASON at PLACE`.
-    ///
-    /// # Errors
-    /// `Outcome` where anything else stands there, and `Place` where the place is no number.
-    pub fn refusal(self) -> Result<(&'a str, usize), TableFault<'a>> {
-        match self.told.split_once(" at ") {
-            Some((reason, place)) => Ok((reason, place_of(place)?)),
-            None => Err(TableFault::Outcome(self.told)),
-        }
-    }
-
-    /// What the octets come to: `itself`, or `OCTETS, differs at PLACE`, or `REASON at PLACE`.
-    ///
-    /// # Errors
-    /// `Outcome` where anything else stands there, and `Place` where the place is no number.
-    pub fn outcome(self) -> Result<Outcome<'a>, TableFault<'a>> {
-        if self.told == "itself" {
-            return Ok(Outcome::Itself);
-        }
-        if let Some((octets, place)) = self.told.split_once(", differs at ") {
-            return Ok(Outcome::Written(octets, place_of(place)?));
-        }
-        let (reason, place) = self.refusal()?;
-        Ok(Outcome::Refused(reason, place))
-    }
 }
 
 /// The rows of a table, one on each line, as `OCTETS -> WHAT IS TOLD`. Lines may be blank.
@@ -112,7 +57,10 @@ pub fn rows_of(table: &str) -> Result<ArrayVec<Row<'_>, MOST_ROWS>, TableFault<'
 }
 
 /// The row of a line.
-fn row_of(line: &str) -> Result<Row<'_>, TableFault<'_>> {
+///
+/// # Errors
+/// `Line` where it is none.
+pub fn row_of(line: &str) -> Result<Row<'_>, TableFault<'_>> {
     match line.split_once(" -> ") {
         Some((octets, told)) => Ok(Row {
             octets: octets.trim(),
@@ -127,35 +75,23 @@ fn row_of(line: &str) -> Result<Row<'_>, TableFault<'_>> {
 /// # Errors
 /// `Digits` where anything else stands there, also where nothing does, and `TooMany` where there are more than 128.
 pub fn octets_of(text: &str) -> Result<Octets, TableFault<'_>> {
-    joined("none", text)
-}
-
-/// Octets, and others behind them.
-///
-/// # Errors
-/// As `octets_of`, of the octets together.
-pub fn joined<'a>(front: &'a str, behind: &'a str) -> Result<Octets, TableFault<'a>> {
     let mut octets = Octets::new();
-    push_octets(&mut octets, front)?;
-    push_octets(&mut octets, behind)?;
-    Ok(octets)
-}
-
-/// Appends the octets of a text.
-fn push_octets<'a>(octets: &mut Octets, text: &'a str) -> Result<(), TableFault<'a>> {
     if text == "none" {
-        return Ok(());
+        return Ok(octets);
     }
     for pair in text.split(' ') {
         if octets.try_push(octet_of(pair)?).is_err() {
             return Err(TableFault::TooMany);
         }
     }
-    Ok(())
+    Ok(octets)
 }
 
 /// The octet of two hexadecimal digits.
-fn octet_of(pair: &str) -> Result<u8, TableFault<'_>> {
+///
+/// # Errors
+/// `Digits` where anything else stands there.
+pub fn octet_of(pair: &str) -> Result<u8, TableFault<'_>> {
     if pair.len() != 2 || pair.starts_with('+') {
         return Err(TableFault::Digits(pair));
     }
@@ -183,7 +119,10 @@ pub fn places_of(text: &str) -> Result<ArrayVec<usize, MOST_ROWS>, TableFault<'_
 }
 
 /// The place of a decimal number.
-fn place_of(text: &str) -> Result<usize, TableFault<'_>> {
+///
+/// # Errors
+/// `Place` where anything else stands there.
+pub fn place_of(text: &str) -> Result<usize, TableFault<'_>> {
     if text.starts_with('+') {
         return Err(TableFault::Place(text));
     }

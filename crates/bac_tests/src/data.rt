@@ -2,8 +2,6 @@
 
 mod building;
 mod canonical;
-mod copies;
-mod long_tolerated;
 mod marking;
 mod reading;
 mod sizes;

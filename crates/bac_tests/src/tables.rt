@@ -1,7 +1,7 @@
 //! Mistakes in the texts of tables are faults, so that no row is passed over.
 
 use crate::expectations::{assert_holds, assert_same};
-use bac_tables::{Outcome, TableFault, octets_of, places_of, rows_of};
+use bac_tables::{TableFault, octets_of, places_of, rows_of};
 use std::process::Abort;
 
 /// The text tells these octets.
@@ -47,13 +47,6 @@ fn is_no_row(rt: &impl Abort, line: &str) {
     assert_same(rt, rows_of(line).err(), Some(TableFault::Line(line)));
 }
 
-/// The line is a row, and what it tells is no outcome.
-fn has_no_outcome(rt: &impl Abort, line: &str) {
-    for row in rows_of(line).expect(rt, "rows").iter() {
-        assert_holds(rt, row.outcome().is_err(), line);
-    }
-}
-
 #[test]
 fn a_line_that_is_no_row_is_told(rt: HostRuntime) {
     assert_same(&rt, rows_of("\n  \n").err(), Some(TableFault::NoRow));
@@ -61,16 +54,10 @@ fn a_line_that_is_no_row_is_told(rt: HostRuntime) {
     is_no_row(&rt, "00 - itself");
     is_no_row(&rt, "00 ->");
     is_no_row(&rt, "00-> itself");
-    has_no_outcome(&rt, "00 -> itself.");
-    has_no_outcome(&rt, "00 -> Tag");
-    has_no_outcome(&rt, "00 -> Tag at x");
-    has_no_outcome(&rt, "00 -> 01, differs at");
     for row in rows_of("\n    00 01 -> itself\n")
         .expect(&rt, "rows")
         .iter()
     {
         assert_same(&rt, (row.octets, row.told), ("00 01", "itself"));
-        let is_itself = matches!(row.outcome(), Ok(Outcome::Itself));
-        assert_holds(&rt, is_itself, row.told);
     }
 }

@@ -1,6 +1,4 @@
 //! Of tag heads, and of the words by which octets are refused.
 
 mod heads;
-mod quick_heads;
 mod refusals;
-mod short;

@@ -4,52 +4,10 @@ use crate::expectations::assert_same;
 use bac_npdu::layers::{FrameVisitor, visit_frame};
 use bac_npdu::{Body, FrameHead, append_frame};
 use bac_tables::octets_of;
-use bac_tag::{OutOfMemory, Refusal, Why};
+use bac_tag::OutOfMemory;
 use std::alloc::Global;
 use std::process::Abort;
 use std::test::Fail;
-
-/// Appends the canonical octets.
-#[derive(Drop)]
-struct Write;
-
-impl FrameVisitor for Write {
-    type Place = Vec<u8>;
-
-    type Made = Result<Option<usize>, Refusal>;
-
-    ghost makes = { λ _ _ _ _ _ _. Unit {0} };
-
-    fn visit(
-        self,
-        head: &FrameHead<'_>,
-        body: Body,
-        mark: Option<usize>,
-        out: &mut Vec<u8>,
-    ) -> Result<Option<usize>, Refusal> {
-        match head.append_frame(&body, out) {
-            Ok(()) => Ok(mark),
-            Err(_) => Err(Refusal::out_of_memory()),
-        }
-    }
-}
-
-/// Appends the canonical octets of the frame, and gives its mark.
-fn written(alloc: Global, octets: &[u8], out: &mut Vec<u8>) -> Result<Option<usize>, Refusal> {
-    visit_frame(alloc, octets, Write, out)?
-}
-
-/// Appends the canonical octets of the frame, at the latest when memory is asked for again.
-pub(super) fn rewritten(
-    alloc: Global,
-    octets: &[u8],
-    out: &mut Vec<u8>,
-) -> Result<Option<usize>, Refusal> {
-    match written(alloc, octets, out) {
-        Err(refusal) if refusal.why == Why::OutOfMemory => written(alloc, octets, out),
-        found => found,
-    }
-}
 
 /// Appends what the head says, and the octets of the frame that is kept.
 #[derive(Drop)]
@@ -100,7 +58,7 @@ impl FrameVisitor for Tell {
 }
 
 /// What the head says, and the octets of the frame that is kept, at the latest when memory is asked for again.
-pub(super) fn told(rt: &impl Abort, alloc: Global, octets: &[u8]) -> Vec<u8> {
+fn told(rt: &impl Abort, alloc: Global, octets: &[u8]) -> Vec<u8> {
     let mut out = Vec::new(alloc);
     let made = visit_frame(alloc, octets, Tell { alloc }, &mut out).expect(rt, "a frame");
     if made.is_err() {

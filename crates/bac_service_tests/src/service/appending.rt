@@ -1,11 +1,20 @@
 //! Services of many octets and of long lists are appended whole to many octets: no clause says that memory is there.
 
-use super::sizes::{PROPERTY, SIZES};
 use crate::expectations::assert_joined;
 use bac_service::{Kind, append_service, decode_service};
 use bac_tables::{enclosed, mixed, numbered};
 use std::alloc::Global;
 use std::process::Abort;
+
+/// Numbers of octets of contents, and the octets of a head that tell them (clause 20.2.1.3.1).
+const SIZES: [(usize, &[u8]); 3] = [
+    (1_497, &[0xFE, 5, 0xD9]),
+    (65_535, &[0xFE, 0xFF, 0xFF]),
+    (1_048_576, &[0xFF, 0, 0x10, 0, 0]),
+];
+
+/// The object 0:5 and its property 85, up to the length of an octet string.
+const PROPERTY: [u8; 9] = [0x0C, 0, 0, 0, 5, 0x19, 0x55, 0x3E, 0x65];
 
 /// The service of canonical octets is appended as they are, and what stands in front of them stays.
 fn is_appended(rt: &impl Abort, alloc: Global, service: (Kind, u8), octets: &[u8]) {

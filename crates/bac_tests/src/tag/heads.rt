@@ -5,10 +5,10 @@ ghost use Rattle.bac_tag.specs.Expected.{IsSound};
 use crate::expectations::{assert_same, assert_same_of};
 use bac_tables::{Row, octets_of, rows_of};
 use bac_tag::layers::{
-    Expected, append_head, first_difference, first_hopeless, mark_head, mark_read_head, number_of,
-    number_within, read_expected, read_one_of,
+    Expected, append_head, first_difference, first_hopeless, number_of, number_within,
+    read_expected, read_one_of,
 };
-use bac_tag::{OutOfMemory, Refusal, TagHead, Why, head_len, laws, read_head, write_head};
+use bac_tag::{OutOfMemory, Refusal, TagHead, Why, laws};
 use std::alloc::{AllocError, Global};
 use std::process::Abort;
 use std::test::Fail;
@@ -35,33 +35,6 @@ fn is_told(rt: &impl Abort, alloc: Global, row: &Row, found: Found) {
         Err(_) => shown(alloc, found).expect(rt, "memory"),
     };
     assert_same_of(rt, text.as_str(), row.told, row.octets);
-}
-
-#[test]
-fn reads_heads(rt: HostRuntime) {
-    let table = "
-        FD 00 04 00 00 00 -> Ctx { number: 0, len: 4 } of 3
-        0D FF FF FF FF FF -> Ctx { number: 0, len: 4294967295 } of 6
-        F9 0E 55          -> Ctx { number: 14, len: 1 } of 2
-        F1 01             -> AppBool(true) of 2
-        3E                -> Open(3) of 1
-        FF 03             -> Close(3) of 2
-        C4 00             -> App { number: 12, len: 4 } of 1
-        none              -> Short at 0
-        0D                -> Short at 1
-        0D FE 00          -> Short at 3
-        26                -> Length at 0
-        12                -> Length at 0
-        F6                -> Length at 0
-        D1                -> Tag at 0
-        D6                -> Tag at 0
-        FD FF             -> Tag at 1
-        F2 01             -> Tag at 1
-    ";
-    for row in rows_of(table).expect(&rt, "rows").iter() {
-        let octets = octets_of(row.octets).expect(&rt, "octets");
-        is_told(&rt, rt.alloc(), row, read_head(&octets));
-    }
 }
 
 /// Each row of the table is as it says, where this head is expected.
@@ -146,20 +119,6 @@ fn reads_one_of_several(rt: HostRuntime) {
     }
 }
 
-/// Each row of the table tells the head that is read of its octets, which is written so, and counted.
-fn are_canonical(rt: &impl Abort, alloc: Global, table: &str) {
-    for row in rows_of(table).expect(rt, "rows").iter() {
-        let octets = octets_of(row.octets).expect(rt, "octets");
-        let found = read_head(&octets);
-        is_told(rt, alloc, row, found);
-        let (head, taken) = found.expect(rt, "a head");
-        assert_same(rt, taken, octets.len());
-        assert!(rt; head.is_valid());
-        assert_same(rt, write_head(head).as_slice(), octets.as_slice());
-        assert_same_of(rt, head_len(head), taken, head);
-    }
-}
-
 #[test]
 fn appends_heads(rt: HostRuntime) -> Result<(), Fail> {
     let mut out = Vec::new(rt.alloc());
@@ -176,74 +135,13 @@ fn appends_heads(rt: HostRuntime) -> Result<(), Fail> {
 }
 
 #[test]
-fn writes_and_marks_heads(rt: HostRuntime) {
-    let table = "
-        FD 0F FE 01 2C    -> Ctx { number: 15, len: 300 } of 5
-        0C                -> Ctx { number: 0, len: 4 } of 1
-        0D 05             -> Ctx { number: 0, len: 5 } of 2
-        0D FD             -> Ctx { number: 0, len: 253 } of 2
-        0D FE 00 FE       -> Ctx { number: 0, len: 254 } of 4
-        0D FE FF FF       -> Ctx { number: 0, len: 65535 } of 4
-        0D FF 00 01 00 00 -> Ctx { number: 0, len: 65536 } of 6
-        E9                -> Ctx { number: 14, len: 1 } of 1
-        F9 0F             -> Ctx { number: 15, len: 1 } of 2
-        F9 FE             -> Ctx { number: 254, len: 1 } of 2
-        10                -> AppBool(false) of 1
-        2E                -> Open(2) of 1
-    ";
-    are_canonical(&rt, rt.alloc(), table);
+fn numbers_and_lengths_are_bounded(rt: HostRuntime) {
     assert!(rt; !context(255, 0).is_valid());
     assert!(rt; !TagHead::App { number: 1, len: 1 }.is_valid());
 }
 
 #[test]
-fn counts_octets_of_heads(rt: HostRuntime) {
-    let table = "
-        EC                   -> Ctx { number: 14, len: 4 } of 1
-        ED 05                -> Ctx { number: 14, len: 5 } of 2
-        ED FD                -> Ctx { number: 14, len: 253 } of 2
-        ED FE 00 FE          -> Ctx { number: 14, len: 254 } of 4
-        ED FE FF FF          -> Ctx { number: 14, len: 65535 } of 4
-        ED FF 00 01 00 00    -> Ctx { number: 14, len: 65536 } of 6
-        FC 0F                -> Ctx { number: 15, len: 4 } of 2
-        FD 0F 05             -> Ctx { number: 15, len: 5 } of 3
-        FD 0F FD             -> Ctx { number: 15, len: 253 } of 3
-        FD 0F FE 00 FE       -> Ctx { number: 15, len: 254 } of 5
-        FD 0F FE FF FF       -> Ctx { number: 15, len: 65535 } of 5
-        FD 0F FF 00 01 00 00 -> Ctx { number: 15, len: 65536 } of 7
-        C4                   -> App { number: 12, len: 4 } of 1
-        11                   -> AppBool(true) of 1
-        EE                   -> Open(14) of 1
-        FE 0F                -> Open(15) of 2
-        EF                   -> Close(14) of 1
-        FF 0F                -> Close(15) of 2
-    ";
-    are_canonical(&rt, rt.alloc(), table);
-}
-
-/// The octets of a head differ there from those of this head.
-fn marks(rt: &impl Abort, head: TagHead, octets: &str, wanted: Option<usize>) {
-    let octets = octets_of(octets).expect(rt, "octets");
-    let (read, taken) = read_head(&octets).expect(rt, "a head");
-    // What mark_read_head and mark_head require: assert! tells it to the prover.
-    assert!(rt; head.is_valid());
-    assert!(rt; taken == octets.len());
-    assert_same_of(rt, mark_read_head(&octets, read, head), wanted, head);
-    assert_same_of(rt, mark_head(&octets, head), wanted, head);
-}
-
-#[test]
-fn marks_heads_that_were_read(rt: HostRuntime) {
-    marks(&rt, context(0, 4), "0C", None);
-    marks(&rt, context(0, 4), "FC 00", Some(0));
-    marks(&rt, context(1, 1), "1A", Some(0));
-    marks(&rt, context(0, 3), "0C", Some(0));
-    marks(&rt, context(0, 5), "0D 05", None);
-    marks(&rt, context(0, 5), "0D FE 00 05", Some(1));
-}
-
-#[test]
-fn marks_heads(rt: HostRuntime) {
+fn tells_numbers_and_differences(rt: HostRuntime) {
     assert_same(&rt, first_difference(&[1, 2], &[1, 3]), Some(1));
     assert_same(&rt, first_difference(&[1, 2], &[1]), Some(1));
     assert_same(&rt, first_difference(&[1, 2], &[1, 2]), None);

@@ -1,104 +1,64 @@
-//! Values of many octets are made, read and written whole: no clause says that memory is there.
+//! Values of many octets are made and written whole: no clause says that memory is there.
 
 ghost use Rattle.std.specs.Prelude.{◌≤◌, ◌<◌};
 
 use crate::expectations::{assert_holds, assert_joined, assert_same};
 use bac_tables::{enclosed, mixed, octets_of};
 use bac_value::layers::{append_written, are_written, mark_contents, write_number, written_len_of};
-use bac_value::{Bits, Octets, Prim, PrimRef, Primitive, Text};
+use bac_value::{Bits, Octets, Prim, Primitive, Text, ValueFault};
 use std::alloc::Global;
 use std::process::Abort;
 
 /// The octets of the longest record, of one whose length fills two octets, and of the longest contents.
 const SIZES: [usize; 3] = [1_497, 65_535, 1_048_576];
 
-/// By the bound alone: canonical contents are read, and are written behind as many octets.
-fn is_kept<T: Primitive>(rt: &impl Abort, alloc: Global, contents: &[u8]) -> T {
-    let value = T::read(alloc, contents).expect(rt, "a value");
-    assert_same(rt, value.written_len(), contents.len());
-    assert_same(rt, value.mark(contents), None);
-    let mut out = copied(rt, alloc, contents);
-    value.write(&mut out).expect(rt, "memory");
-    assert_joined(rt, &out, contents, contents);
-    value
-}
-
 /// The octets in a vector of their own.
 fn copied(rt: &impl Abort, alloc: Global, octets: &[u8]) -> Vec<u8> {
     Vec::from_slice(alloc, octets).expect(rt, "memory")
 }
 
-/// By their application number canonical contents are read, and are written behind as many octets.
-fn kept_under(rt: &impl Abort, alloc: Global, number: u8, contents: &[u8]) -> Prim
+/// By the bound alone: the value is made, and is the one with these contents, which are written behind as many octets.
+fn is_made<T: Primitive + PartialEq>(
+    rt: &impl Abort,
+    alloc: Global,
+    made: Result<T, ValueFault>,
+    contents: &[u8],
+) {
+    let value = made.expect(rt, "a value");
+    assert_same(rt, value.written_len(), contents.len());
+    let mut out = copied(rt, alloc, contents);
+    value.write(&mut out).expect(rt, "memory");
+    assert_joined(rt, &out, contents, contents);
+    let read = T::read(alloc, contents).expect(rt, "a value");
+    assert_holds(rt, read == value, contents.len());
+}
+
+/// Canonical contents under their application number are those that are written, behind as many octets.
+fn are_kept(rt: &impl Abort, alloc: Global, number: u8, contents: &[u8])
     requires { number ≤ 12 }
 {
+    // What the calls require: that the contents are those of a value.
     let prim = Prim::read(alloc, number, contents).expect(rt, "a value");
-    assert_same(rt, prim.number(), number);
     assert_same(rt, prim.written_len(), contents.len());
-    assert_same(rt, prim.mark(contents), None);
-    let mut out = copied(rt, alloc, contents);
-    prim.write(&mut out).expect(rt, "memory");
-    assert_joined(rt, &out, contents, contents);
     assert_same(rt, written_len_of(number, contents), contents.len());
     assert_same(rt, mark_contents(number, contents), None);
     assert_holds(rt, are_written(number, contents), contents.len());
     let mut out = copied(rt, alloc, contents);
     append_written(number, contents, &mut out).expect(rt, "memory");
     assert_joined(rt, &out, contents, contents);
-    prim
-}
-
-/// The value is an octet string.
-fn is_string(prim: &Prim, octets: &[u8]) -> bool {
-    prim.as_prim_ref() == PrimRef::Octets(octets)
-}
-
-/// The value is a text.
-fn is_text(prim: &Prim, set: u8, octets: &[u8]) -> bool {
-    prim.as_prim_ref() == PrimRef::Text { set, octets }
-}
-
-/// The value has so many bits.
-fn has_bits(prim: &Prim, count: usize, packed: &[u8]) -> bool {
-    prim.as_prim_ref() == PrimRef::Bits { count, packed }
 }
 
 #[test]
-fn octets_of_every_size_are_kept(rt: HostRuntime) {
+fn octets_and_texts_of_every_size_are_made(rt: HostRuntime) {
     let alloc = rt.alloc();
     for size in SIZES {
         let contents = mixed(alloc, size).expect(&rt, "memory");
-        let made = Octets::new(alloc, &contents).expect(&rt, "octets");
-        assert_holds(&rt, made.octets() == contents.as_slice(), size);
-        let read = is_kept::<Octets>(&rt, alloc, &contents);
-        assert_holds(&rt, read == made, size);
-        let prim = kept_under(&rt, alloc, 6, &contents);
-        assert_holds(&rt, is_string(&prim, &contents), size);
-    }
-}
-
-#[test]
-fn texts_of_every_size_are_kept(rt: HostRuntime) {
-    let alloc = rt.alloc();
-    for size in SIZES {
-        let contents = mixed(alloc, size).expect(&rt, "memory");
+        is_made(&rt, alloc, Octets::new(alloc, &contents), &contents);
+        are_kept(&rt, alloc, 6, &contents);
         let (set, octets) = contents.split_first().expect(&rt, "a set");
-        let set = *set;
-        let made = Text::new(alloc, set, octets).expect(&rt, "a text");
-        assert_same(&rt, made.set(), set);
-        assert_holds(&rt, made.octets() == octets, size);
-        let read = is_kept::<Text>(&rt, alloc, &contents);
-        assert_holds(&rt, read == made, size);
-        let prim = kept_under(&rt, alloc, 7, &contents);
-        assert_holds(&rt, is_text(&prim, set, octets), size);
+        is_made(&rt, alloc, Text::new(alloc, *set, octets), &contents);
+        are_kept(&rt, alloc, 7, &contents);
     }
-}
-
-/// Octets, and their bits, eight of each octet, from the highest downwards.
-#[derive(Drop)]
-struct BitsOfOctets {
-    octets: Vec<u8>,
-    bits: Vec<bool>,
 }
 
 /// The bits of octets, eight of each, from the highest downwards.
@@ -112,53 +72,25 @@ fn bits_of(rt: &impl Abort, alloc: Global, octets: &[u8]) -> Vec<bool> {
     bits
 }
 
-/// So many octets.
-fn many_bits(rt: &impl Abort, alloc: Global, count: usize) -> BitsOfOctets {
-    let block = mixed(alloc, 128).expect(rt, "memory");
-    let bits_of_block = bits_of(rt, alloc, &block);
-    let mut octets = Vec::new(alloc);
-    let mut bits = Vec::new(alloc);
-    for _ in 0..count.div_ceil(128) {
-        octets.extend_from_slice(&block).expect(rt, "memory");
-        bits.extend_from_slice(&bits_of_block).expect(rt, "memory");
+/// All bits of so many octets, or all but the last three, are those of the contents.
+fn bits_are_made(rt: &impl Abort, alloc: Global, size: usize) {
+    let mut octets = mixed(alloc, size).expect(rt, "memory");
+    let bits = bits_of(rt, alloc, &octets);
+    let contents = enclosed(alloc, &[0], &octets, &[], &[]).expect(rt, "memory");
+    is_made(rt, alloc, Bits::new(alloc, &bits), &contents);
+    are_kept(rt, alloc, 8, &contents);
+    if let Some(last) = octets.last_mut() {
+        *last &= 0xF8;
     }
-    octets.truncate(count);
-    bits.truncate(octets.len().saturating_mul(8));
-    BitsOfOctets { octets, bits }
-}
-
-/// The contents of all bits but the last, of which so many are left out and are zeros in the last octet.
-fn contents_of(rt: &impl Abort, alloc: Global, all: &[u8], unused: u8) -> Vec<u8>
-    requires { unused < 8 }
-{
-    let mut contents = enclosed(alloc, &[unused], all, &[], &[]).expect(rt, "memory");
-    if let Some(last) = contents.last_mut() {
-        *last = *last >> unused << unused;
-    }
-    contents
-}
-
-/// All bits of so many octets, or all but the last ones that are unused, come to these contents.
-fn bits_are_kept(rt: &impl Abort, alloc: Global, size: usize, unused: u8)
-    requires { unused < 8 }
-{
-    let BitsOfOctets { octets, bits } = many_bits(rt, alloc, size);
-    let contents = contents_of(rt, alloc, &octets, unused);
-    let count = bits.len().saturating_sub(usize::from(unused));
-    let made = Bits::new(alloc, &bits[..count]).expect(rt, "bits");
-    assert_same(rt, made.len(), count);
-    assert_holds(rt, contents.get(1..) == Some(made.packed()), count);
-    let read = is_kept::<Bits>(rt, alloc, &contents);
-    assert_holds(rt, read == made, count);
-    let prim = kept_under(rt, alloc, 8, &contents);
-    assert_holds(rt, has_bits(&prim, count, made.packed()), count);
+    let contents = enclosed(alloc, &[3], &octets, &[], &[]).expect(rt, "memory");
+    let count = bits.len().saturating_sub(3);
+    is_made(rt, alloc, Bits::new(alloc, &bits[..count]), &contents);
 }
 
 #[test]
-fn bits_of_every_size_are_kept(rt: HostRuntime) {
+fn bits_of_every_size_are_made(rt: HostRuntime) {
     for size in SIZES {
-        bits_are_kept(&rt, rt.alloc(), size - 1, 0);
-        bits_are_kept(&rt, rt.alloc(), size - 1, 3);
+        bits_are_made(&rt, rt.alloc(), size - 1);
     }
 }
 

@@ -1,6 +1,5 @@
-//! The contents of strings, of every length from 0 to 9 octets.
+//! Strings that are made of their parts.
 
-use super::judge;
 use crate::expectations::{assert_holds, assert_same, assert_same_of};
 use bac_tables::octets_of;
 use bac_value::{Bits, Octets, Primitive, Text};
@@ -15,45 +14,12 @@ fn writes<T: Primitive>(rt: &impl Abort, alloc: Global, value: T, contents: &[u8
     assert_same(rt, out.as_slice(), contents);
 }
 
-// Of example 32 of docs/EXAMPLES.md.
+// Of examples 16 and 32 of docs/EXAMPLES.md.
 #[test]
-fn octets_are_their_own_contents(rt: HostRuntime) {
-    let rows = "
-        none                       -> itself
-        AB                         -> itself
-        00 00                      -> itself
-        FF 00 FF                   -> itself
-        00 00 00 00                -> itself
-        FF FF FF FF FF             -> itself
-        01 02 03 04 05 06          -> itself
-        00 00 00 00 00 00 00       -> itself
-        08 07 06 05 04 03 02 01    -> itself
-        FF FF FF FF FF FF FF FF FF -> itself
-    ";
-    judge::<Octets>(&rt, rt.alloc(), rows);
+fn octets_and_texts_are_written(rt: HostRuntime) {
     let value = Octets::new(rt.alloc(), &[0xAB]).expect(&rt, "a value");
     assert_same(&rt, value.octets(), [0xAB].as_slice());
     writes(&rt, rt.alloc(), value, &[0xAB]);
-}
-
-// Of examples 16, 32 and 39 of docs/EXAMPLES.md.
-#[test]
-fn a_text_has_its_set_in_front(rt: HostRuntime) {
-    let rows = "
-        none                       -> Length at 0
-        00                         -> itself
-        FF                         -> itself
-        05 E9                      -> itself
-        00 E9                      -> itself
-        04 00 41                   -> itself
-        00 00 00 00                -> itself
-        03 00 00 00 41             -> itself
-        00 48 65 6C 6C 6F          -> itself
-        FF FF FF FF FF FF FF       -> itself
-        01 02 03 04 05 06 07 08    -> itself
-        00 00 00 00 00 00 00 00 00 -> itself
-    ";
-    judge::<Text>(&rt, rt.alloc(), rows);
     let value = Text::new(rt.alloc(), 5, &[0xE9]).expect(&rt, "a value");
     writes(&rt, rt.alloc(), value, &[5, 0xE9]);
 }
@@ -76,56 +42,6 @@ fn only_a_text_of_set_0_is_utf_8(rt: HostRuntime) {
     is_text(&rt, alloc, "00 E9", None);
     is_text(&rt, alloc, "05 E9", None);
     is_text(&rt, alloc, "05 41", None);
-}
-
-// Of examples 13 and 39 of docs/EXAMPLES.md.
-#[test]
-fn unused_bits_are_written_as_zeros(rt: HostRuntime) {
-    let rows = "
-        00                         -> itself
-        00 FF                      -> itself
-        04 FF                      -> 04 F0, differs at 1
-        04 F0                      -> itself
-        01 01                      -> 01 00, differs at 1
-        07 7F                      -> 07 00, differs at 1
-        07 80                      -> itself
-        00 00 00                   -> itself
-        07 FF FF                   -> 07 FF 80, differs at 2
-        02 01 02 03                -> 02 01 02 00, differs at 3
-        05 1F 1F 1F 20             -> itself
-        05 00 00 00 1F             -> 05 00 00 00 00, differs at 4
-        06 01 02 03 04 FF          -> 06 01 02 03 04 C0, differs at 5
-        01 AA AA AA AA AA AA       -> itself
-        01 00 00 00 00 00 AB       -> 01 00 00 00 00 00 AA, differs at 6
-        03 FF FF FF FF FF FF F8    -> itself
-        07 07 07 07 07 07 07 07    -> 07 07 07 07 07 07 07 00, differs at 7
-        00 00 00 00 00 00 00 00 00 -> itself
-        04 08 08 08 08 08 08 08 18 -> 04 08 08 08 08 08 08 08 10, differs at 8
-    ";
-    judge::<Bits>(&rt, rt.alloc(), rows);
-}
-
-// Of examples 13 and 39 of docs/EXAMPLES.md.
-#[test]
-fn only_bits_that_are_there_can_be_unused(rt: HostRuntime) {
-    let rows = "
-        none                       -> Length at 0
-        01                         -> Content at 0
-        03                         -> Content at 0
-        07                         -> Content at 0
-        08                         -> Content at 0
-        FF                         -> Content at 0
-        08 00                      -> Content at 0
-        FF FF                      -> Content at 0
-        08 00 00                   -> Content at 0
-        10 00 00 00                -> Content at 0
-        08 08 08 08 08             -> Content at 0
-        09 09 09 09 09 09          -> Content at 0
-        80 00 00 00 00 00 00       -> Content at 0
-        FF FF FF FF FF FF FF FF    -> Content at 0
-        08 08 08 08 08 08 08 08 08 -> Content at 0
-    ";
-    judge::<Bits>(&rt, rt.alloc(), rows);
 }
 
 /// The bits are packed into these contents, which have as many bits.

@@ -1,0 +1,137 @@
+//! Heads (clause 20.2.1).
+
+use crate::faults::RowFault;
+use bac_tag::layers::{
+    begins_long, is_short_closing, is_short_opening, long_length, mark_head, mark_read_head,
+    quick_head, short_boolean, short_len,
+};
+use bac_tag::{TagHead, head_len, read_head, write_head};
+use std::alloc::{AllocError, Global};
+
+/// Returns what the head at the front of octets is, how many octets it takes, and where they differ from its least ones:
+/// `context NUMBER length LENGTH, takes COUNT`, with `application`, or `boolean true`, `opening NUMBER` or `closing NUMBER`
+/// in front, and with `, differs at PLACE` behind; or `REASON at PLACE`.
+pub fn found(alloc: Global, octets: &[u8]) -> Result<String, RowFault> {
+    match read_head(octets) {
+        Ok((head, taken)) => {
+            if let Some(call) = dissenting(octets, head, taken) {
+                return Ok(format!(in alloc; "{call} tells otherwise")?);
+            }
+            let words = words_of(alloc, head)?;
+            let mark = mark_of(alloc, octets.get(..taken).unwrap_or(octets))?;
+            Ok(format!(in alloc; "{words}, takes {taken}{mark}")?)
+        }
+        Err(refusal) => Ok(format!(in alloc; "{refusal}")?),
+    }
+}
+
+/// Returns what a head is.
+fn words_of(alloc: Global, head: TagHead) -> Result<String, AllocError> {
+    match head {
+        TagHead::App { number, len } => { format!(in alloc; "application {number} length {len}") }
+        TagHead::AppBool(value) => format!(in alloc; "boolean {value}"),
+        TagHead::Ctx { number, len } => format!(in alloc; "context {number} length {len}"),
+        TagHead::Open(number) => format!(in alloc; "opening {number}"),
+        TagHead::Close(number) => format!(in alloc; "closing {number}"),
+    }
+}
+
+/// Returns where all the octets of a head differ from its least ones, or which call tells something else.
+fn mark_of(alloc: Global, spelling: &[u8]) -> Result<String, AllocError> {
+    let Ok((head, taken)) = read_head(spelling) else {
+        return String::from_str(alloc, ", read_head tells otherwise");
+    };
+    if taken != spelling.len() || !head.is_valid() {
+        return String::from_str(alloc, ", is_valid tells otherwise");
+    }
+    let least = write_head(head);
+    if head_len(head) != least.len() {
+        return String::from_str(alloc, ", head_len tells otherwise");
+    }
+    let mark = mark_head(spelling, head);
+    if mark_read_head(spelling, head, head) != mark {
+        return String::from_str(alloc, ", mark_read_head tells otherwise");
+    }
+    if mark.is_none() != (least.as_slice() == spelling) {
+        return String::from_str(alloc, ", write_head tells otherwise");
+    }
+    match mark {
+        Some(place) => format!(in alloc; ", differs at {place}"),
+        None => Ok(String::new(alloc)),
+    }
+}
+
+/// Returns the name of a call of the layers above that tells something else of octets than that they begin with this head.
+fn dissenting(octets: &[u8], head: TagHead, taken: usize) -> Option<&'static str> {
+    let is_short = taken == 1;
+    match head {
+        TagHead::Ctx { number, len } => {
+            dissenting_on_length(octets, context_lengths(octets, number), len, taken)
+        }
+        TagHead::App { number, len } => {
+            dissenting_on_length(octets, application_lengths(octets, number), len, taken)
+        }
+        TagHead::AppBool(value) => {
+            let wanted = is_short.then_some(value);
+            (short_boolean(octets) != wanted).then_some("short_boolean")
+        }
+        TagHead::Open(number) => {
+            let is_told = number < 255 && is_short_opening(octets, number) == is_short;
+            (!is_told).then_some("is_short_opening")
+        }
+        TagHead::Close(number) => {
+            let is_told = number < 255 && is_short_closing(octets, number) == is_short;
+            (!is_told).then_some("is_short_closing")
+        }
+    }
+}
+
+/// The length in a head of one octet, and the length in a longer head and how many octets that takes.
+type Lengths = (Option<usize>, Option<(u32, usize)>);
+
+/// Returns the lengths of the head of context class with this number.
+fn context_lengths(octets: &[u8], number: u8) -> Option<Lengths> {
+    if !(TagHead::Ctx { number, len: 0 }.is_valid()) {
+        return None;
+    }
+    let short = short_len(octets, true, number);
+    if !begins_long(octets, true, number) {
+        return Some((short, None));
+    }
+    Some((short, long_length(octets, true, number)))
+}
+
+/// Returns the lengths of the head of application class with this number.
+fn application_lengths(octets: &[u8], number: u8) -> Option<Lengths> {
+    if !(TagHead::App { number, len: 0 }.is_valid()) {
+        return None;
+    }
+    let short = short_len(octets, false, number);
+    if !begins_long(octets, false, number) {
+        return Some((short, None));
+    }
+    Some((short, long_length(octets, false, number)))
+}
+
+/// The name of a call that tells something else than this length, where the lengths are those that are told.
+fn dissenting_on_length(
+    octets: &[u8],
+    lengths: Option<Lengths>,
+    len: u32,
+    taken: usize,
+) -> Option<&'static str> {
+    let wanted = if taken == 1 {
+        (Some(len as usize), None)
+    } else {
+        (None, Some((len, taken)))
+    };
+    if lengths != Some(wanted) {
+        return Some("short_len or long_length");
+    }
+    // A length in two or four octets is not looked for at once.
+    match quick_head(octets) {
+        Some((_, end)) if end == taken => None,
+        None if taken > 3 => None,
+        _ => Some("quick_head"),
+    }
+}

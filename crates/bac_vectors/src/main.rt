@@ -1,0 +1,62 @@
+//! The program `bac_vectors`: reads files of test vectors, calls the library for each of their rows, and prints each row
+//! that the library tells otherwise, with what it tells, and how many rows there are. docs/EXAMPLES.md says what a file has,
+//! so that another implementation can be held against the same rows.
+//!
+//! The words of the command line are the names of the files. The status is 0 if each row holds.
+#![tactic(auto)]
+
+mod apdus;
+mod faults;
+mod frames;
+mod fronts;
+mod heads;
+mod meanings;
+mod octets;
+mod open_values;
+mod sections;
+mod services;
+mod streams;
+mod texts;
+mod told;
+mod values;
+mod vectors;
+
+use faults::VectorFault;
+use std::fs;
+use std::process::ExitCode;
+use std::rt::{Env, Files};
+use vectors::Count;
+
+fn main(rt: HostRuntime) -> ExitCode {
+    match run(&rt) {
+        Ok(true) => ExitCode::SUCCESS,
+        Ok(false) => ExitCode::FAILURE,
+        Err(fault) => {
+            let _ = eprintln!(rt; "bac_vectors: {fault}");
+            ExitCode::FAILURE
+        }
+    }
+}
+
+/// Runs the files that the words name, and prints how many rows they have. Returns true if each row holds.
+fn run(rt: &(impl Print + Eprint + AllocGlobal + Env + Files)) -> Result<bool, VectorFault> {
+    let mut count = Count::default();
+    for name in std::env::args(rt)?.skip(1) {
+        if let Err(fault) = run_file(rt, name.as_str(), &mut count) {
+            eprintln!(rt; "bac_vectors: {name}: {fault}")?;
+            return Ok(false);
+        }
+    }
+    println!(rt; "{count}")?;
+    Ok(count.differing == 0)
+}
+
+/// Runs the file with this name.
+fn run_file(
+    rt: &(impl Print + AllocGlobal + Files),
+    name: &str,
+    count: &mut Count,
+) -> Result<(), VectorFault> {
+    let text = fs::read_to_string(rt, name)?;
+    vectors::run(rt, name, text.as_str(), count)
+}

@@ -1,0 +1,144 @@
+//! The contents of values of the primitive types (clauses 20.2.2 to 20.2.14).
+
+ghost use Rattle.std.specs.Prelude.{◌≤◌, length};
+
+use crate::faults::RowFault;
+use crate::told::Told;
+use bac_tag::OutOfMemory;
+use bac_value::{
+    Bits, Boolean, Date, DoubleBits, Enumerated, Instance, Null, ObjectId, Octets, Prim, PrimRef,
+    Primitive, Priority, RealBits, Signed, Text, Time, Unsigned, Unsigned16, Unsigned32,
+};
+use std::alloc::Global;
+
+/// Returns what octets come to as contents of the type with this name.
+///
+/// # Errors
+/// `Mistake` if no type has the name, and `OutOfMemory` if memory is refused.
+pub fn told(alloc: Global, name: &str, octets: &[u8]) -> Result<Told, RowFault> {
+    let told = match name {
+        "Null" => told_of_prim::<Null>(alloc, octets)?,
+        "Boolean" => told_of_prim::<Boolean>(alloc, octets)?,
+        "Unsigned" => told_of_prim::<Unsigned>(alloc, octets)?,
+        "Signed" => told_of_prim::<Signed>(alloc, octets)?,
+        "Real" => told_of_prim::<RealBits>(alloc, octets)?,
+        "Double" => told_of_prim::<DoubleBits>(alloc, octets)?,
+        "OctetString" => told_of_prim::<Octets>(alloc, octets)?,
+        "CharacterString" => told_of_prim::<Text>(alloc, octets)?,
+        "BitString" => told_of_prim::<Bits>(alloc, octets)?,
+        "Enumerated" => told_of_prim::<Enumerated>(alloc, octets)?,
+        "Date" => told_of_prim::<Date>(alloc, octets)?,
+        "Time" => told_of_prim::<Time>(alloc, octets)?,
+        "ObjectIdentifier" => told_of_prim::<ObjectId>(alloc, octets)?,
+        "Unsigned16" => told_of::<Unsigned16>(alloc, octets)?,
+        "Unsigned32" => told_of::<Unsigned32>(alloc, octets)?,
+        "Priority" => told_of::<Priority>(alloc, octets)?,
+        "Instance" => told_of::<Instance>(alloc, octets)?,
+        _ => return Err(RowFault::Mistake),
+    };
+    Ok(told)
+}
+
+/// Returns what octets come to as contents of one of the thirteen types, and of a value of any of them by the number of
+/// the type.
+fn told_of_prim<T: Primitive>(alloc: Global, octets: &[u8]) -> Result<Told, OutOfMemory> {
+    let told = told_of::<T>(alloc, octets)?;
+    if T::APP > 12 || !is_prim(alloc, T::APP, octets, &told)? {
+        return Ok(Told::Otherwise("Prim"));
+    }
+    Ok(told)
+}
+
+/// Returns true if a value of any type tells the same of octets, under this number of its type.
+fn is_prim(alloc: Global, number: u8, octets: &[u8], told: &Told) -> Result<bool, OutOfMemory>
+    requires { number ≤ 12 }
+{
+    match Prim::read(alloc, number, octets) {
+        Ok(prim) => {
+            let mut out = Vec::new(alloc);
+            prim.write(&mut out)?;
+            let is_numbered = prim.number() == number && prim.as_prim_ref().number() == number;
+            let is_counted = is_numbered && prim.written_len() == out.len();
+            let Told::Written(written, mark) = told else {
+                return Ok(false);
+            };
+            let is_same = out.as_slice() == written.as_slice() && prim.mark(octets) == *mark;
+            Ok(is_counted && is_same && is_borrowed_again(alloc, &prim)?)
+        }
+        Err(refusal) => Ok(matches!(told, Told::Refused(other) if *other == refusal)),
+    }
+}
+
+/// Returns true if what is written of a value is the value, borrowed.
+fn is_borrowed_again(alloc: Global, prim: &Prim) -> Result<bool, OutOfMemory> {
+    let mut out = Vec::new(alloc);
+    prim.write(&mut out)?;
+    Ok(PrimRef::of_contents(prim.number(), &out) == prim.as_prim_ref())
+}
+
+/// Returns what octets come to as contents of the type.
+fn told_of<T: Primitive>(alloc: Global, octets: &[u8]) -> Result<Told, OutOfMemory> {
+    let told = match T::read(alloc, octets) {
+        Ok(value) => {
+            let mut out = Vec::new(alloc);
+            value.write(&mut out)?;
+            if value.written_len() != out.len() {
+                return Ok(Told::Otherwise("written_len"));
+            }
+            Told::Written(out, value.mark(octets))
+        }
+        Err(refusal) => Told::Refused(refusal),
+    };
+    if !is_foreseen::<T>(octets, &told) {
+        return Ok(Told::Otherwise("hopeless"));
+    }
+    let mut longer = Vec::from_slice(alloc, octets)?;
+    longer.extend_from_slice(&[0xFF; 4])?;
+    if !is_found::<T>(alloc, octets, octets.len(), &told)?
+        || !is_found::<T>(alloc, &longer, octets.len(), &told)?
+    {
+        return Ok(Told::Otherwise("find"));
+    }
+    Ok(told)
+}
+
+/// Returns true if the contents in so many octets at the front are found exactly if they are accepted, and mean the same.
+fn is_found<T: Primitive>(
+    alloc: Global,
+    octets: &[u8],
+    size: usize,
+    told: &Told,
+) -> Result<bool, OutOfMemory>
+    requires { size ≤ length octets.now }
+{
+    match T::find(alloc, octets, size) {
+        Some(value) => {
+            let mut out = Vec::new(alloc);
+            value.write(&mut out)?;
+            Ok(matches!(told, Told::Written(written, _) if written.as_slice() == out.as_slice()))
+        }
+        None => Ok(matches!(told, Told::Refused(_))),
+    }
+}
+
+/// How many octets contents have at most of which each front is tried.
+const MOST_FRONTS: usize = 64;
+
+/// Returns true if each front of contents is hopeless behind the octet that is refused, and only there. If no contents have
+/// so many octets, there is nothing to foresee, and of long contents nothing is tried.
+fn is_foreseen<T: Primitive>(octets: &[u8], told: &Told) -> bool {
+    if octets.len() < T::SHORTEST || octets.len() > T::LONGEST || octets.len() > MOST_FRONTS {
+        return true;
+    }
+    let refused = match told {
+        Told::Refused(refusal) => Some(refusal.place),
+        _ => None,
+    };
+    for taken in 0..=octets.len() {
+        let wanted = refused.filter(|place| *place < taken);
+        if T::hopeless(&octets[..taken], octets.len()) != wanted {
+            return false;
+        }
+    }
+    true
+}
