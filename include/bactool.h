@@ -159,8 +159,9 @@ size_t bactool_reason(uint32_t why, char *out, size_t room);
 uint32_t bactool_version(void);
 
 /*
- * The library itself needs an address even if there are no octets. These functions give it one for NULL, and the macros
- * call them. A caller in another language hands in any address in place of NULL.
+ * The library itself needs an address even if there are no octets. These functions give it one for NULL. The calls above
+ * go through them, by macros that take any expression as an argument, a compound literal too. A caller in another language
+ * hands in any address in place of NULL.
  */
 static inline const uint8_t *bactool_octets(const uint8_t *octets)
 {
@@ -180,14 +181,40 @@ static inline char *bactool_text(char *out)
     return out != NULL ? out : &none;
 }
 
-#define bactool_check(octets, length, strict, outcome) (bactool_check)(bactool_octets(octets), length, strict, outcome)
-#define bactool_normalise(octets, length, out, room, outcome) \
-    (bactool_normalise)(bactool_octets(octets), length, bactool_room(out), room, outcome)
-#define bactool_show(octets, length, out, room, outcome) \
-    (bactool_show)(bactool_octets(octets), length, bactool_text(out), room, outcome)
-#define bactool_same_meaning(left, left_length, right, right_length, outcome) \
-    (bactool_same_meaning)(bactool_octets(left), left_length, bactool_octets(right), right_length, outcome)
-#define bactool_reason(why, out, room) (bactool_reason)(why, bactool_text(out), room)
+static inline uint32_t bactool_check_any(const uint8_t *octets, size_t length, bool strict,
+                                         struct bactool_outcome *outcome)
+{
+    return bactool_check(bactool_octets(octets), length, strict, outcome);
+}
+
+static inline uint32_t bactool_normalise_any(const uint8_t *octets, size_t length, uint8_t *out, size_t room,
+                                             struct bactool_outcome *outcome)
+{
+    return bactool_normalise(bactool_octets(octets), length, bactool_room(out), room, outcome);
+}
+
+static inline uint32_t bactool_show_any(const uint8_t *octets, size_t length, char *out, size_t room,
+                                        struct bactool_outcome *outcome)
+{
+    return bactool_show(bactool_octets(octets), length, bactool_text(out), room, outcome);
+}
+
+static inline uint32_t bactool_same_meaning_any(const uint8_t *left, size_t left_length, const uint8_t *right,
+                                                size_t right_length, struct bactool_outcome *outcome)
+{
+    return bactool_same_meaning(bactool_octets(left), left_length, bactool_octets(right), right_length, outcome);
+}
+
+static inline size_t bactool_reason_any(uint32_t why, char *out, size_t room)
+{
+    return bactool_reason(why, bactool_text(out), room);
+}
+
+#define bactool_check(...) bactool_check_any(__VA_ARGS__)
+#define bactool_normalise(...) bactool_normalise_any(__VA_ARGS__)
+#define bactool_show(...) bactool_show_any(__VA_ARGS__)
+#define bactool_same_meaning(...) bactool_same_meaning_any(__VA_ARGS__)
+#define bactool_reason(...) bactool_reason_any(__VA_ARGS__)
 
 #ifdef __cplusplus
 }

@@ -1,44 +1,78 @@
 /*
- * Tells of each record of a file of frames whether it is canonical, as `bactool check` does:
+ * Reports of each record of a file of frames whether it is canonical, as `bactool check` does:
  *
  *     cc examples/c/check.c $(pkg-config --cflags --libs bactool) -o check
  *     ./check < examples/every-kind.frames
+ *
+ * The status is 0 if each record is accepted, 1 if one is refused, and 2 if the input cannot be read or ends within a
+ * record, if the output cannot be written, or if memory is refused.
  */
 #include <bactool.h>
 #include <stdio.h>
 
-static void print_refusal(unsigned number, const struct bactool_outcome *told)
+enum { ACCEPTED = 0, REFUSED = 1, FAILED = 2 };
+
+/* Reads the next record: two octets of length, and so many octets. Returns 1 if there is one, 0 at the end of the file,
+   and -1 if there is a fault, which it reports. */
+static int read_record(unsigned number, uint8_t *frame, size_t *length)
 {
+    uint8_t head[2];
+    size_t taken = fread(head, 1, sizeof head, stdin);
+    if (taken == sizeof head) {
+        *length = (size_t)head[0] << 8 | head[1];
+        if (fread(frame, 1, *length, stdin) == *length)
+            return 1;
+        taken = 1;
+    }
+    if (ferror(stdin)) {
+        perror("check: standard input");
+        return -1;
+    }
+    if (taken > 0) {
+        fprintf(stderr, "check: the file ends within record %u\n", number);
+        return -1;
+    }
+    return 0;
+}
+
+/* Prints the line of one record. Returns the status for it. */
+static int check(unsigned number, const uint8_t *frame, size_t length)
+{
+    struct bactool_outcome told;
     char name[16];
-    size_t length = bactool_reason(told->why, name, sizeof name);
-    printf("%u refused %.*s at %zu\n", number, (int)length, name, told->place);
+    switch (bactool_check(frame, length, false, &told)) {
+    case BACTOOL_OK:
+        printf("%u ok\n", number);
+        return ACCEPTED;
+    case BACTOOL_TOLERATED:
+        printf("%u tolerated at %zu\n", number, told.place);
+        return ACCEPTED;
+    case BACTOOL_REFUSED: {
+        size_t count = bactool_reason(told.why, name, sizeof name);
+        printf("%u refused %.*s at %zu\n", number, (int)count, name, told.place);
+        return REFUSED;
+    }
+    default:
+        fprintf(stderr, "check: out of memory\n");
+        return FAILED;
+    }
 }
 
 int main(void)
 {
     static uint8_t frame[65535];
-    uint8_t head[2];
-    for (unsigned number = 1; fread(head, 1, sizeof head, stdin) == sizeof head; number++) {
-        size_t length = (size_t)head[0] << 8 | head[1];
-        if (fread(frame, 1, length, stdin) != length) {
-            fprintf(stderr, "check: the file ends within record %u\n", number);
-            return 2;
-        }
-        struct bactool_outcome told;
-        switch (bactool_check(frame, length, false, &told)) {
-        case BACTOOL_OK:
-            printf("%u ok\n", number);
-            break;
-        case BACTOOL_TOLERATED:
-            printf("%u tolerated at %zu\n", number, told.place);
-            break;
-        case BACTOOL_REFUSED:
-            print_refusal(number, &told);
-            break;
-        default:
-            fprintf(stderr, "check: out of memory\n");
-            return 2;
-        }
+    size_t length = 0;
+    int status = ACCEPTED;
+    int more;
+    unsigned number = 1;
+    while ((more = read_record(number, frame, &length)) > 0 && status != FAILED) {
+        int one = check(number++, frame, length);
+        if (one > status)
+            status = one;
     }
-    return 0;
+    if (fflush(stdout) != 0 || ferror(stdout)) {
+        perror("check: standard output");
+        return FAILED;
+    }
+    return more < 0 ? FAILED : status;
 }

@@ -1,5 +1,6 @@
 #!/usr/bin/env python3
-"""BACnet frames by libbactool, and as a program: `bactool.py check|show|normalise < FRAMES`.
+"""BACnet frames by libbactool, and as a program: `bactool.py check|show|normalise [LIBRARY] < FRAMES`. The status is that of
+`bactool`: 0, 1 if a record is refused, and 2 if the words or the input are at fault.
 
 >>> tool = Bactool()
 >>> tool.show(bytes.fromhex("0120FFFF00FF1008"))
@@ -7,6 +8,7 @@
 """
 
 import ctypes
+import os
 import sys
 
 OK, TOLERATED, DIFFERENT, REFUSED, LEFT_REFUSED, RIGHT_REFUSED, NO_ROOM, NO_MEMORY = range(8)
@@ -26,8 +28,12 @@ class Refused(Exception):
         self.why, self.place, self.side = why, place, side
 
 
+class CutRecord(Exception):
+    """A file of frames ends within a record."""
+
+
 class Bactool:
-    """The calls of the library. Octets are `bytes`; any call may run in any thread."""
+    """The calls of the library. Octets are `bytes`, or what `bytes` takes; any call may run in any thread."""
 
     def __init__(self, path="libbactool.so.0"):
         self.library = ctypes.CDLL(path)
@@ -44,7 +50,7 @@ class Bactool:
 
     def check(self, octets, strict=False):
         """Returns None where the octets are canonical, else the first place where they differ from canonical ones."""
-        told = Outcome()
+        told, octets = Outcome(), bytes(octets)
         code = self.library.bactool_check(octets, len(octets), strict, told)
         return told.place if self._accepted(code, told) == TOLERATED else None
 
@@ -58,7 +64,7 @@ class Bactool:
 
     def same_meaning(self, left, right):
         """Returns whether both inputs spell one frame."""
-        told = Outcome()
+        told, left, right = Outcome(), bytes(left), bytes(right)
         code = self.library.bactool_same_meaning(left, len(left), right, len(right), told)
         return self._accepted(code, told) == OK
 
@@ -70,7 +76,7 @@ class Bactool:
 
     def _written(self, call, octets, room):
         """Calls with that room, and once more with the room that is wanted."""
-        told = Outcome()
+        told, octets = Outcome(), bytes(octets)
         for _ in range(2):
             # One octet more than the room, since no buffer is empty.
             out = ctypes.create_string_buffer(room + 1)
@@ -93,24 +99,53 @@ class Bactool:
 def records(file):
     """Yields the records of a file of frames: two octets of length, and so many octets."""
     while head := file.read(2):
-        yield file.read(int.from_bytes(head, "big"))
+        octets = file.read(int.from_bytes(head, "big"))
+        if len(head) < 2 or len(octets) < int.from_bytes(head, "big"):
+            raise CutRecord
+        yield octets
+
+
+def run(job, tool, file):
+    """Does a job for each record of a file of frames. Returns the status."""
+    status = 0
+    number = 0
+    try:
+        for number, octets in enumerate(records(file), 1):
+            try:
+                if job == "check":
+                    place = tool.check(octets)
+                    print(number, "ok" if place is None else f"tolerated at {place}")
+                elif job == "show":
+                    print(number, tool.show(octets))
+                else:
+                    canonical = tool.normalise(octets)
+                    sys.stdout.buffer.write(len(canonical).to_bytes(2, "big") + canonical)
+            except Refused as refusal:
+                status = 1
+                if job == "normalise":
+                    print(f"bactool.py: record {number}: refused {refusal}", file=sys.stderr)
+                    break
+                print(number, "refused", refusal)
+    except CutRecord:
+        print(f"bactool.py: the file ends within record {number + 1}", file=sys.stderr)
+        status = 2
+    sys.stdout.flush()
+    return status
 
 
 def main():
-    job, tool = sys.argv[1], Bactool(*sys.argv[2:])
-    for number, octets in enumerate(records(sys.stdin.buffer), 1):
-        try:
-            if job == "check":
-                place = tool.check(octets)
-                print(number, "ok" if place is None else f"tolerated at {place}")
-            elif job == "show":
-                print(number, tool.show(octets))
-            else:
-                canonical = tool.normalise(octets)
-                sys.stdout.buffer.write(len(canonical).to_bytes(2, "big") + canonical)
-        except Refused as refusal:
-            print(number, "refused", refusal)
+    words = sys.argv[1:]
+    if not 1 <= len(words) <= 2 or words[0] not in ("check", "show", "normalise"):
+        print("usage: bactool.py check|show|normalise [LIBRARY] < FRAMES", file=sys.stderr)
+        return 2
+    try:
+        return run(words[0], Bactool(*words[1:]), sys.stdin.buffer)
+    except (OSError, MemoryError) as fault:
+        print(f"bactool.py: {fault or 'out of memory'}", file=sys.stderr)
+        # Nothing more is written, also where the output is what failed.
+        os.dup2(os.open(os.devnull, os.O_WRONLY), sys.stdout.fileno())
+        return 2
 
 
 if __name__ == "__main__":
-    main()
+    sys.exit(main())

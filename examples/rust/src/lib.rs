@@ -1,4 +1,6 @@
-//! Safe Rust over libbactool. `include/bactool.h` says what each call does.
+//! Safe Rust over libbactool: a function for each of its six calls. `include/bactool.h` says what each call does.
+
+use std::fmt;
 
 /// `struct bactool_outcome`
 #[repr(C)]
@@ -12,38 +14,112 @@ struct Outcome {
 #[rustfmt::skip]
 extern "C" {
     fn bactool_check(octets: *const u8, length: usize, strict: bool, told: &mut Outcome) -> u32;
+    fn bactool_normalise(octets: *const u8, length: usize, out: *mut u8, room: usize, told: &mut Outcome) -> u32;
     fn bactool_show(octets: *const u8, length: usize, out: *mut u8, room: usize, told: &mut Outcome) -> u32;
+    fn bactool_same_meaning(left: *const u8, left_length: usize, right: *const u8, right_length: usize, told: &mut Outcome) -> u32;
+    fn bactool_reason(why: u32, out: *mut u8, room: usize) -> usize;
+    fn bactool_version() -> u32;
 }
 
-/// Why octets are not accepted: a reason by its number in the header, and the offset.
-#[derive(Debug, PartialEq, Eq)]
+// The codes of the header that the functions tell apart. Each other code is a refusal, or memory that was refused.
+const OK: u32 = 0;
+const TOLERATED: u32 = 1;
+const DIFFERENT: u32 = 2;
+const RIGHT_REFUSED: u32 = 5;
+const NO_ROOM: u32 = 6;
+
+/// Why octets are not accepted, or that memory was refused: a reason by its number in the header, and the offset.
+#[derive(Clone, Copy, Debug, PartialEq, Eq)]
 pub struct Refusal {
     pub why: u32,
     pub place: usize,
 }
 
-/// Returns `None` where the octets are canonical, else the first place where they differ from the canonical ones.
-pub fn check(octets: &[u8]) -> Result<Option<usize>, Refusal> {
+impl fmt::Display for Refusal {
+    fn fmt(&self, formatter: &mut fmt::Formatter<'_>) -> fmt::Result {
+        write!(formatter, "{} at {}", reason(self.why), self.place)
+    }
+}
+
+impl std::error::Error for Refusal {}
+
+/// One of two inputs.
+#[derive(Clone, Copy, Debug, PartialEq, Eq)]
+pub enum Side {
+    Left,
+    Right,
+}
+
+/// Returns `None` if the octets are canonical, else the first place where they differ from the canonical ones. If `strict`
+/// is true, only canonical octets are accepted.
+pub fn check(octets: &[u8], strict: bool) -> Result<Option<usize>, Refusal> {
     let mut told = Outcome::default();
     // SAFETY: the pointer and the length are those of a slice, and `told` is memory of its own.
-    match unsafe { bactool_check(octets.as_ptr(), octets.len(), false, &mut told) } {
-        0 => Ok(None),
-        1 => Ok(Some(told.place)),
+    match unsafe { bactool_check(octets.as_ptr(), octets.len(), strict, &mut told) } {
+        OK => Ok(None),
+        TOLERATED => Ok(Some(told.place)),
         _ => Err(refusal(told)),
     }
 }
 
+/// Returns the canonical octets of the frame.
+pub fn normalise(octets: &[u8]) -> Result<Vec<u8>, Refusal> {
+    written(octets.len(), |out, told| {
+        // SAFETY: as above, and `out` is memory of its own for so many octets.
+        unsafe { bactool_normalise(octets.as_ptr(), octets.len(), out.as_mut_ptr(), out.len(), told) }
+    })
+}
+
 /// Returns the text of the frame.
 pub fn show(octets: &[u8]) -> Result<String, Refusal> {
-    let (mut line, mut told) = (vec![0; 256], Outcome::default());
+    let line = written(256, |out, told| {
+        // SAFETY: as above.
+        unsafe { bactool_show(octets.as_ptr(), octets.len(), out.as_mut_ptr(), out.len(), told) }
+    })?;
+    Ok(String::from_utf8_lossy(&line).into_owned())
+}
+
+/// Returns whether both inputs spell one frame, or which of them spells none, and why.
+pub fn same_meaning(left: &[u8], right: &[u8]) -> Result<bool, (Side, Refusal)> {
+    let mut told = Outcome::default();
+    // SAFETY: as above, of two slices.
+    let code = unsafe {
+        bactool_same_meaning(left.as_ptr(), left.len(), right.as_ptr(), right.len(), &mut told)
+    };
+    match code {
+        OK => Ok(true),
+        DIFFERENT => Ok(false),
+        RIGHT_REFUSED => Err((Side::Right, refusal(told))),
+        _ => Err((Side::Left, refusal(told))),
+    }
+}
+
+/// Returns the name of a reason, or no text if no reason has the number.
+pub fn reason(why: u32) -> String {
+    let mut name = vec![0; 16];
+    // SAFETY: `name` is memory of its own for so many octets.
+    let length = unsafe { bactool_reason(why, name.as_mut_ptr(), name.len()) };
+    name.truncate(length);
+    String::from_utf8_lossy(&name).into_owned()
+}
+
+/// Returns the version of the library: 10,000 times the major number, plus 100 times the minor one, plus the patch number.
+pub fn version() -> u32 {
+    // SAFETY: the call reads and writes nothing.
+    unsafe { bactool_version() }
+}
+
+/// Returns what a call writes that is given this room at first, and then the room that it wants.
+fn written(room: usize, call: impl Fn(&mut [u8], &mut Outcome) -> u32) -> Result<Vec<u8>, Refusal> {
+    let (mut out, mut told) = (vec![0; room], Outcome::default());
     loop {
-        let (out, room) = (line.as_mut_ptr(), line.len());
-        // SAFETY: as above, and `line` is memory of its own for so many octets.
-        let code = unsafe { bactool_show(octets.as_ptr(), octets.len(), out, room, &mut told) };
-        line.resize(told.count, 0);
+        let code = call(&mut out, &mut told);
         match code {
-            0 => return Ok(String::from_utf8_lossy(&line).into_owned()),
-            6 => continue,
+            OK => {
+                out.truncate(told.count);
+                return Ok(out);
+            }
+            NO_ROOM => out.resize(told.count, 0),
             _ => return Err(refusal(told)),
         }
     }

@@ -1,21 +1,95 @@
-//! Writes what `bactool show` writes of a file of frames on standard input.
-use std::io::{self, Read};
+//! `bactool check|show|normalise < FRAMES`: writes what the program `bactool` writes of a file of frames on standard input.
+//! The status is that of `bactool`: 0, 1 if a record is refused, and 2 if the words, the input or the output are at fault.
+use bactool::Refusal;
+use std::io::{self, BufWriter, Read, Write};
+use std::process::ExitCode;
 
-fn main() -> io::Result<()> {
+/// What is done with each record.
+#[derive(Clone, Copy, PartialEq, Eq)]
+enum Job {
+    Check,
+    Show,
+    Normalise,
+}
+
+fn main() -> ExitCode {
+    let words: Vec<String> = std::env::args().skip(1).collect();
+    let job = match words.iter().map(String::as_str).collect::<Vec<_>>()[..] {
+        ["check"] => Job::Check,
+        ["show"] => Job::Show,
+        ["normalise"] => Job::Normalise,
+        _ => {
+            eprintln!("usage: bactool check|show|normalise < FRAMES");
+            return ExitCode::from(2);
+        }
+    };
+    match run(job) {
+        Ok(false) => ExitCode::SUCCESS,
+        Ok(true) => ExitCode::FAILURE,
+        Err(fault) => {
+            eprintln!("bactool: {fault}");
+            ExitCode::from(2)
+        }
+    }
+}
+
+/// Does the job for each record. Returns whether one was refused. `normalise` stops there.
+fn run(job: Job) -> io::Result<bool> {
     let mut file = Vec::new();
     io::stdin().read_to_end(&mut file)?;
-    let (mut rest, mut number) = (file.as_slice(), 0);
-    while let [high, low, behind @ ..] = rest {
-        let (octets, next) = behind.split_at(usize::from(*high) << 8 | usize::from(*low));
+    let mut output = BufWriter::new(io::stdout().lock());
+    let (mut rest, mut number, mut is_refused) = (file.as_slice(), 0, false);
+    while !rest.is_empty() {
         number += 1;
-        match bactool::show(octets) {
-            Ok(line) => println!("{number} {line}"),
-            Err(refusal) => println!(
-                "{number} refused for reason {} at {}",
-                refusal.why, refusal.place
-            ),
+        let Some((octets, next)) = record(rest) else {
+            output.flush()?;
+            return Err(io::Error::other(format!("the file ends within record {number}")));
+        };
+        if let Err(refusal) = written(job, number, octets, &mut output)? {
+            is_refused = true;
+            if job == Job::Normalise {
+                eprintln!("bactool: record {number}: refused {refusal}");
+                break;
+            }
+            writeln!(output, "{number} refused {refusal}")?;
         }
         rest = next;
     }
-    Ok(())
+    output.flush()?;
+    Ok(is_refused)
+}
+
+/// Writes what the job says of the octets of a record, if they are accepted.
+fn written(
+    job: Job,
+    number: u32,
+    octets: &[u8],
+    output: &mut impl Write,
+) -> io::Result<Result<(), Refusal>> {
+    match job {
+        Job::Check => match bactool::check(octets, false) {
+            Ok(None) => writeln!(output, "{number} ok")?,
+            Ok(Some(place)) => writeln!(output, "{number} tolerated at {place}")?,
+            Err(refusal) => return Ok(Err(refusal)),
+        },
+        Job::Show => match bactool::show(octets) {
+            Ok(line) => writeln!(output, "{number} {line}")?,
+            Err(refusal) => return Ok(Err(refusal)),
+        },
+        Job::Normalise => match bactool::normalise(octets) {
+            Ok(canonical) => {
+                // There are at most as many as in the record that was read.
+                output.write_all(&(canonical.len() as u16).to_be_bytes())?;
+                output.write_all(&canonical)?;
+            }
+            Err(refusal) => return Ok(Err(refusal)),
+        },
+    }
+    Ok(Ok(()))
+}
+
+/// Returns the octets of the first record, and what follows it: two octets of length, and so many octets.
+fn record(file: &[u8]) -> Option<(&[u8], &[u8])> {
+    let (head, rest) = file.split_at_checked(2)?;
+    rest.split_at_checked(usize::from(head[0]) << 8 | usize::from(head[1]))
 }
