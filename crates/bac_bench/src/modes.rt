@@ -1,7 +1,7 @@
 //! How the program was asked to run.
 
 /// How the program was asked to run.
-#[derive(Clone, Copy, Debug, PartialEq, Eq)]
+#[derive(Clone, Copy, Drop)]
 pub enum Mode {
     /// Each piece of work once; what is printed is the same in every run.
     Once,
@@ -19,19 +19,16 @@ impl Mode {
         }
     }
 
-    /// Returns the number of rounds. The best one is reported.
-    pub fn rounds(self) -> u32 {
+    /// Returns how often something is done that is done so often to measure its time.
+    pub fn often(self, times: u32) -> u32 {
         match self {
             Mode::Once => 1,
-            Mode::Time => 5,
+            Mode::Time => times,
         }
     }
 
     /// Returns how often a round does each piece of work.
     pub fn repetitions(self) -> u32 {
-        match self {
-            Mode::Once => 1,
-            Mode::Time => 200,
-        }
+        self.often(200)
     }
 }

@@ -1,32 +1,35 @@
-//! The measurement: rounds of repetitions, the plain copy beside the work in each.
+//! The measurement: work is repeated, and its shortest time is kept.
 
-ghost use Rattle.std.specs.Prelude.{◌≡◌, ◌↔◌, IsOk, None};
-
-use crate::cases::Case;
+use crate::batches::{Batch, Job};
 use crate::faults::BenchFault;
 use crate::modes::Mode;
-use std::alloc::Global;
 use std::rt::Clock;
 use std::time::{Duration, Instant};
 
-/// The shortest time that each piece of work took.
+/// The shortest time of each work on a batch.
 #[derive(Clone, Copy)]
 pub struct Times {
-    /// A plain copy of the octets.
-    pub copy: Duration,
     /// A value from the octets.
     pub read: Duration,
     /// The same, and the first octet that is not canonical.
     pub mark: Duration,
-    /// The octets of the value, into an empty vector.
+    /// The octets of the value.
     pub write: Duration,
 }
 
 impl Times {
-    /// Returns the shorter times of two rounds.
-    fn least(self, other: Times) -> Times {
+    /// Returns one time in the place of each.
+    pub fn all(took: Duration) -> Times {
         Times {
-            copy: self.copy.min(other.copy),
+            read: took,
+            mark: took,
+            write: took,
+        }
+    }
+
+    /// Returns the shorter times of two rounds.
+    pub fn least(self, other: Times) -> Times {
+        Times {
             read: self.read.min(other.read),
             mark: self.mark.min(other.mark),
             write: self.write.min(other.write),
@@ -34,46 +37,41 @@ impl Times {
     }
 }
 
-/// Returns the best of the mode's rounds.
-pub fn best<C: Case>(
+/// Returns the times of a job on a batch.
+pub fn work<J: Job>(
+    rt: &(impl AllocGlobal + Clock),
+    mode: Mode,
+    job: &J,
+    batch: Batch<'_>,
+) -> Result<Times, BenchFault> {
+    let (alloc, repetitions) = (rt.alloc(), mode.repetitions());
+    let (value, read) = timed(rt, repetitions, || job.read(alloc, batch))?;
+    let ((_, found), mark) = timed(rt, repetitions, || job.mark(alloc, batch))?;
+    expect_canonical(found)?;
+    let (octets, write) = timed(rt, repetitions, || job.write(alloc, &value, batch.count))?;
+    expect_same(octets, batch.first)?;
+    Ok(Times { read, mark, write })
+}
+
+/// Returns the time of a plain copy.
+pub fn copying(
     rt: &(impl AllocGlobal + Clock),
     mode: Mode,
     octets: &[u8],
-) -> Result<Times, BenchFault> {
-    let mut least = round::<C>(rt, mode.repetitions(), octets)?;
-    for _ in 1..mode.rounds() {
-        least = least.least(round::<C>(rt, mode.repetitions(), octets)?);
-    }
-    Ok(least)
-}
-
-/// Does one round.
-fn round<C: Case>(
-    rt: &(impl AllocGlobal + Clock),
-    repetitions: u32,
-    octets: &[u8],
-) -> Result<Times, BenchFault> {
+) -> Result<Duration, BenchFault> {
     let alloc = rt.alloc();
-    let (copied, copy) = timed(rt, repetitions, || Ok(Vec::from_slice(alloc, octets)?))?;
+    let (copied, took) = timed(
+        rt,
+        mode.repetitions(),
+        || Ok(Vec::from_slice(alloc, octets)?),
+    )?;
     expect_same(copied, octets)?;
-    let (value, read) = timed(rt, repetitions, || C::read(alloc, octets))?;
-    let (found, mark) = timed(rt, repetitions, || C::mark(alloc, octets))?;
-    expect_canonical(found)?;
-    let (written, write) = timed(rt, repetitions, || written(alloc, &value))?;
-    expect_same(written, octets)?;
-    Ok(Times {
-        copy,
-        read,
-        mark,
-        write,
-    })
+    Ok(took)
 }
 
 /// Looks at what was made, so that no compiler leaves the work out, and frees it, so that the next work finds the same
 /// memory as this one.
-pub fn expect_same(made: Vec<u8>, octets: &[u8]) -> Result<(), BenchFault>
-    ensures { IsOk result ↔ (made.items ≡ octets.now) }
-{
+pub fn expect_same(made: Vec<u8>, octets: &[u8]) -> Result<(), BenchFault> {
     if made.as_slice() == octets {
         Ok(())
     } else {
@@ -81,21 +79,12 @@ pub fn expect_same(made: Vec<u8>, octets: &[u8]) -> Result<(), BenchFault>
     }
 }
 
-/// Checks that no octet differs: those of a case are canonical.
-pub fn expect_canonical(mark: Option<usize>) -> Result<(), BenchFault>
-    ensures { IsOk result ↔ (mark ≡ None) }
-{
+/// Checks that no octet differs: those of a piece are canonical.
+fn expect_canonical(mark: Option<usize>) -> Result<(), BenchFault> {
     match mark {
         None => Ok(()),
         Some(_) => Err(BenchFault::Differs),
     }
-}
-
-/// Returns the octets of a value.
-fn written<C: Case>(alloc: Global, value: &C) -> Result<Vec<u8>, BenchFault> {
-    let mut out = Vec::new(alloc);
-    value.write(&mut out)?;
-    Ok(out)
 }
 
 /// Does the work as often as asked, and at least once. Returns what it made the last time, and the shortest time that

@@ -1,18 +1,20 @@
-//! How long a message of many segments takes to be cut and to be joined, beside a plain copy of its octets in the same
-//! run.
+//! A message of many segments, which is cut and joined.
 
 use crate::faults::BenchFault;
+use crate::lines::{Column, Figure, Layout, Work};
 use crate::modes::Mode;
-use crate::rounds::{expect_same, timed};
+use crate::pieces::Run;
+use crate::rounds::{copying, timed};
 use bac_apdu::{SegHead, Segment};
 use bac_segment::{CutPlan, Key, Reassembly, cut};
 use std::alloc::Global;
-use std::io;
-use std::num::nearest_usize_to_f64;
 use std::rt::Clock;
 use std::time::Duration;
 
-/// This plan makes 256 segments of 65,535 octets.
+/// The longest message that is cut.
+const LONGEST: Run = Run::Contents(65_535);
+
+/// This plan makes 256 segments of it.
 const PLAN: CutPlan = CutPlan {
     head: SegHead::Ack { invoke: 1 },
     choice: 14,
@@ -29,7 +31,7 @@ const KEY: Key = Key {
 };
 
 /// Joins the segments as they stand.
-fn in_order(alloc: Global, segments: &[Segment]) -> Result<Reassembly, BenchFault> {
+fn joined(alloc: Global, segments: &[Segment]) -> Result<Reassembly, BenchFault> {
     let mut reassembly = Reassembly::new(alloc, KEY)?;
     for segment in segments {
         reassembly.take(segment)?;
@@ -37,79 +39,52 @@ fn in_order(alloc: Global, segments: &[Segment]) -> Result<Reassembly, BenchFaul
     Ok(reassembly)
 }
 
-/// Joins the segments from the last to the first.
-fn backwards(alloc: Global, segments: &[Segment]) -> Result<Reassembly, BenchFault> {
-    let mut reassembly = Reassembly::new(alloc, KEY)?;
-    for segment in segments.iter().rev() {
-        reassembly.take(segment)?;
-    }
-    Ok(reassembly)
-}
-
-/// Checks that the message is whole and has these octets.
-fn expect_joined(reassembly: &Reassembly, octets: &[u8]) -> Result<(), BenchFault> {
-    match reassembly.octets() {
-        Some(found) if found == octets => Ok(()),
-        _ => Err(BenchFault::Differs),
-    }
-}
-
-/// Cuts and joins a message of these octets, and prints the table.
-pub fn run(
-    rt: &(impl Print + AllocGlobal + Clock),
+/// Returns the time to join these segments to a message of these octets.
+fn joining(
+    rt: &(impl AllocGlobal + Clock),
     mode: Mode,
+    segments: &[Segment],
     octets: &[u8],
-) -> Result<(), BenchFault> {
-    let (alloc, repetitions) = (rt.alloc(), mode.repetitions());
-    let (copied, copy) = timed(rt, repetitions, || Ok(Vec::from_slice(alloc, octets)?))?;
-    expect_same(copied, octets)?;
-    let (segments, cutting) = timed(rt, repetitions, || Ok(cut(alloc, &PLAN, octets)?))?;
-    let (joined, joining) = timed(rt, repetitions, || in_order(alloc, &segments))?;
-    expect_joined(&joined, octets)?;
-    let (joined, joining_backwards) = timed(rt, repetitions, || backwards(alloc, &segments))?;
-    expect_joined(&joined, octets)?;
-    let times = Times {
-        copy,
-        cut: cutting,
-        in_order: joining,
-        backwards: joining_backwards,
-    };
-    Ok(print(rt, mode, octets.len(), segments.len(), times)?)
-}
-
-/// The shortest time that each piece of work took.
-#[derive(Clone, Copy)]
-struct Times {
-    copy: Duration,
-    cut: Duration,
-    in_order: Duration,
-    backwards: Duration,
-}
-
-/// Prints the table, or that the work is done.
-fn print(rt: &impl Print, mode: Mode, size: usize, count: usize, times: Times) -> io::Result<()> {
-    if mode == Mode::Once {
-        return println!(rt;
-            "message: {size} octets cut into {count} segments, joined in order and backwards"
-        );
+) -> Result<Duration, BenchFault> {
+    let alloc = rt.alloc();
+    let (whole, took) = timed(rt, mode.repetitions(), || joined(alloc, segments))?;
+    if whole.octets() != Some(octets) {
+        return Err(BenchFault::Differs);
     }
-    let repetitions = mode.repetitions();
-    println!(rt;
-        "a message of {size} octets in {count} segments; the best of {repetitions} repetitions each"
-    )?;
-    println!(rt; "work                       us       MB/s  x copy")?;
-    add(rt, "copy", size, times.copy, times.copy)?;
-    add(rt, "cut", size, times.cut, times.copy)?;
-    add(rt, "in order", size, times.in_order, times.copy)?;
-    add(rt, "backwards", size, times.backwards, times.copy)
+    Ok(took)
 }
 
-/// Prints the line of a piece of work on a number of octets.
-fn add(rt: &impl Print, name: &str, size: usize, took: Duration, copy: Duration) -> io::Result<()> {
-    let microseconds = took.as_secs_f64() * 1e6;
-    println!(rt;
-        "{name:<18} {microseconds:>10.1} {:>10.0} {:>7.2}",
-        nearest_usize_to_f64(size) / microseconds,
-        took.div_duration_f64(copy)
-    )
+/// The table.
+const LAYOUT: Layout = Layout {
+    title: "a message of 65535 octets in 256 segments; the best of 200 repetitions each",
+    of: "work",
+    width: 18,
+    columns: &[
+        Column("us", 10, 1, Figure::Microseconds),
+        Column("MB/s", 10, 0, Figure::Megabytes(Work::Read)),
+        Column("x copy", 7, 2, Figure::Times(Work::Read)),
+    ],
+};
+
+/// Cuts a message, and joins it from the first segment to the last and from the last to the first. Prints the table.
+pub fn run(rt: &(impl Print + AllocGlobal + Clock), mode: Mode) -> Result<(), BenchFault> {
+    let alloc = rt.alloc();
+    let mut octets = Vec::new(alloc);
+    LONGEST.append(&mut octets)?;
+    let copy = copying(rt, mode, &octets)?;
+    let (mut segments, cutting) = timed(
+        rt,
+        mode.repetitions(),
+        || Ok(cut(alloc, &PLAN, &octets)?),
+    )?;
+    let in_order = joining(rt, mode, &segments, &octets)?;
+    segments.reverse();
+    let backwards = joining(rt, mode, &segments, &octets)?;
+    let works = [
+        ("copy", copy),
+        ("cut", cutting),
+        ("in order", in_order),
+        ("backwards", backwards),
+    ];
+    Ok(LAYOUT.all(rt, mode, octets.len(), copy, &works)?)
 }

@@ -1,58 +1,134 @@
-//! What is printed.
+//! The work of the tables: each piece is measured by the calls that it names, beside what it is compared with.
 
-use crate::cases::Case;
+use crate::batches::{Batch, Each};
 use crate::faults::BenchFault;
+use crate::layers::{Apdus, Contents, Frames, OpenValues, Services};
+use crate::lines::{Column, Figure, Layout, Measured, Work};
 use crate::modes::Mode;
-use crate::rounds::{Times, best};
-use std::io;
-use std::num::nearest_usize_to_f64;
+use crate::pieces::{Calls, LARGE_FRAME, Piece, TABLES, Table};
+use crate::rounds::{Times, copying, expect_same, timed, work};
+use crate::services::Encoded;
+use bac_npdu::normalise_frame;
+use bac_value::{Bits, Octets, Text};
+use std::marker::PhantomData;
 use std::rt::Clock;
-use std::time::Duration;
 
-/// Prints the head of the table, if the mode prints one.
-pub fn begin(rt: &impl Print, mode: Mode) -> io::Result<()> {
-    if mode == Mode::Once {
-        return Ok(());
+/// Prints the tables.
+pub fn run(rt: &(impl Print + AllocGlobal + Clock), mode: Mode) -> Result<(), BenchFault> {
+    for table in &TABLES {
+        run_table(rt, mode, table)?;
     }
-    let (rounds, repetitions) = (mode.rounds(), mode.repetitions());
-    println!(rt;
-        "values of the library; the best of {rounds} rounds of {repetitions} repetitions each"
-    )?;
-    println!(rt;
-        "value                octets  copy MB/s  read MB/s  x copy  mark MB/s  x copy  write MB/s  x copy"
-    )
+    run_normal(rt, mode)
 }
 
-/// Does the work of a case, and prints its line.
-pub fn add<C: Case>(
+/// Does the work of each piece of a table, and prints the table.
+fn run_table(
     rt: &(impl Print + AllocGlobal + Clock),
     mode: Mode,
-    name: &str,
-    octets: &[u8],
+    table: &Table,
 ) -> Result<(), BenchFault> {
-    let times = best::<C>(rt, mode, octets)?;
-    match mode {
-        Mode::Once => println!(rt; "{name}: {} octets read, marked and written", octets.len())?,
-        Mode::Time => add_times(rt, name, octets.len(), times)?,
+    table.layout.begin(rt, mode)?;
+    for piece in table.pieces {
+        let octets = piece.octets(rt.alloc())?;
+        let measured = best(rt, mode, table, piece, &octets)?;
+        table.layout.row(rt, mode, piece.name, &measured)?;
     }
     Ok(())
 }
 
-/// Prints the line of a case that was measured.
-fn add_times(rt: &impl Print, name: &str, size: usize, times: Times) -> io::Result<()> {
-    let copy = speed(size, times.copy);
-    let read = speed(size, times.read);
-    let reading = times.read.div_duration_f64(times.copy);
-    let mark = speed(size, times.mark);
-    let marking = times.mark.div_duration_f64(times.copy);
-    let write = speed(size, times.write);
-    let writing = times.write.div_duration_f64(times.copy);
-    println!(rt;
-        "{name:<18} {size:>8} {copy:>10.0} {read:>10.0} {reading:>7.2} {mark:>10.0} {marking:>7.2} {write:>11.0} {writing:>7.2}"
-    )
+/// Returns the best of a table's rounds.
+fn best(
+    rt: &(impl AllocGlobal + Clock),
+    mode: Mode,
+    table: &Table,
+    piece: &Piece,
+    octets: &[u8],
+) -> Result<Measured, BenchFault> {
+    let mut best = round(rt, mode, table.count, piece, octets)?;
+    for _ in 1..mode.often(table.rounds) {
+        best = best.least(round(rt, mode, table.count, piece, octets)?);
+    }
+    Ok(best)
 }
 
-/// Returns the megabytes a second.
-fn speed(size: usize, took: Duration) -> f64 {
-    nearest_usize_to_f64(size) / took.as_secs_f64() / 1e6
+/// Does a round of a piece, and of what it is compared with.
+fn round(
+    rt: &(impl AllocGlobal + Clock),
+    mode: Mode,
+    count: usize,
+    piece: &Piece,
+    octets: &[u8],
+) -> Result<Measured, BenchFault> {
+    let times = times_of(rt, mode, count, piece.calls, octets)?;
+    let beside = match piece.below {
+        None => times,
+        Some((head, calls)) => {
+            let below = octets.get(head..).ok_or(BenchFault::Differs)?;
+            times_of(rt, mode, count, calls, below)?
+        }
+    };
+    Ok(Measured {
+        size: octets.len(),
+        count,
+        times,
+        beside,
+    })
+}
+
+/// Returns the times of a batch of so many messages with these octets.
+fn times_of(
+    rt: &(impl AllocGlobal + Clock),
+    mode: Mode,
+    count: usize,
+    calls: Calls,
+    octets: &[u8],
+) -> Result<Times, BenchFault> {
+    let mut others = Vec::new(rt.alloc());
+    for _ in 1..count {
+        others.extend_from_slice(octets)?;
+    }
+    let batch = Batch {
+        first: octets,
+        others: &others,
+        count,
+    };
+    match calls {
+        Calls::Copy => Ok(Times::all(copying(rt, mode, octets)?)),
+        Calls::Octets => work(
+            rt,
+            mode,
+            &Each(Contents::<Octets> { of: PhantomData }),
+            batch,
+        ),
+        Calls::Text => work(rt, mode, &Each(Contents::<Text> { of: PhantomData }), batch),
+        Calls::Bits => work(rt, mode, &Each(Contents::<Bits> { of: PhantomData }), batch),
+        Calls::Open => work(rt, mode, &Each(OpenValues), batch),
+        Calls::Encoded(kind, choice) => work(rt, mode, &Encoded { kind, choice }, batch),
+        Calls::Service(kind, choice) => work(rt, mode, &Each(Services { kind, choice }), batch),
+        Calls::Apdu => work(rt, mode, &Each(Apdus), batch),
+        Calls::Frame => work(rt, mode, &Each(Frames), batch),
+    }
+}
+
+/// The last row of the table of a large value.
+const NORMAL: Layout = Layout {
+    title: "",
+    of: "layer",
+    width: 16,
+    columns: &[Column("x", 9, 2, Figure::Times(Work::Read))],
+};
+
+/// Measures `normalise_frame` on the frame of a large value, and prints its row.
+fn run_normal(rt: &(impl Print + AllocGlobal + Clock), mode: Mode) -> Result<(), BenchFault> {
+    let alloc = rt.alloc();
+    let octets = LARGE_FRAME.octets(alloc)?;
+    let copy = copying(rt, mode, &octets)?;
+    let (normal, took) = timed(
+        rt,
+        mode.repetitions(),
+        || Ok(normalise_frame(alloc, &octets)?),
+    )?;
+    expect_same(normal, &octets)?;
+    let measured = Measured::once(octets.len(), took, copy);
+    Ok(NORMAL.row(rt, mode, "normalise_frame", &measured)?)
 }

@@ -1,0 +1,389 @@
+//! What is measured, as tables. A new piece of work is a row of one of them.
+
+use crate::lines::{Column, Figure, Layout, Work};
+use bac_service::Kind;
+use std::alloc::{AllocError, Global};
+
+/// A table of pieces of work.
+#[derive(Drop)]
+pub struct Table {
+    pub layout: Layout,
+    /// How many rounds measure a piece.
+    pub rounds: u32,
+    /// How many messages a repetition does: one short message takes too short a time to be measured.
+    pub count: usize,
+    pub pieces: &'static [Piece],
+}
+
+/// A piece of work: octets that are read, marked and written.
+#[derive(Drop)]
+pub struct Piece {
+    pub name: &'static str,
+    /// Whose calls do the work.
+    pub calls: Calls,
+    /// What the times are compared with: how many octets are in front of that, and whose calls do it.
+    pub below: Option<(usize, Calls)>,
+    /// The octets in front of the runs.
+    pub front: &'static [u8],
+    /// Must be canonical, with the octets in front: what is written is compared with what was read.
+    pub runs: &'static [Run],
+}
+
+/// Whose calls do the work.
+#[derive(Clone, Copy, Drop)]
+pub enum Calls {
+    /// A plain copy.
+    Copy,
+    /// The contents of an octet string.
+    Octets,
+    /// The contents of a character string.
+    Text,
+    /// The contents of a bit string.
+    Bits,
+    /// An open value, with its tags.
+    Open,
+    /// A service of this kind with this choice, which is encoded.
+    Encoded(Kind, u8),
+    /// A service of this kind with this choice, which is appended.
+    Service(Kind, u8),
+    Apdu,
+    Frame,
+}
+
+/// Some octets.
+#[derive(Drop)]
+pub enum Run {
+    /// These, so often.
+    Again(usize, &'static [u8]),
+    /// So many that are contents of a value of each type: the 0 in front is a character set, and no unused bits.
+    Contents(usize),
+}
+
+impl Piece {
+    /// Returns the octets of the piece.
+    pub fn octets(&self, alloc: Global) -> Result<Vec<u8>, AllocError> {
+        let mut octets = Vec::from_slice(alloc, self.front)?;
+        for run in self.runs {
+            run.append(&mut octets)?;
+        }
+        Ok(octets)
+    }
+}
+
+impl Run {
+    /// Appends the octets.
+    pub fn append(&self, out: &mut Vec<u8>) -> Result<(), AllocError> {
+        match self {
+            Run::Again(count, octets) => {
+                for _ in 0..*count {
+                    out.extend_from_slice(octets)?;
+                }
+            }
+            Run::Contents(size) => {
+                for place in 0..*size {
+                    out.push((place % 251) as u8)?;
+                }
+            }
+        }
+        Ok(())
+    }
+}
+
+/// The contents of the largest value.
+const LARGEST: Run = Run::Contents(1_048_576);
+
+/// An open value with its tags, of one octet string.
+const OPEN_STRING: [Run; 3] = [
+    Run::Again(1, &[0x3E, 0x65, 0xFF, 0, 0x10, 0, 0]),
+    LARGEST,
+    Run::Again(1, &[0x3F]),
+];
+
+/// Six short primitives in 16 octets: an Unsigned, an Enumerated, a Real, an object identifier, a Boolean and Null.
+const SHORT: [u8; 16] = [
+    0x21, 0x55, 0x91, 3, 0x44, 0x42, 0xC8, 0, 0, 0xC4, 0, 0, 0, 5, 0x11, 0,
+];
+
+/// Property 85 of object 0:5.
+const READ_PROPERTY: [u8; 7] = [0x0C, 0, 0, 0, 5, 0x19, 0x55];
+
+/// A ReadPropertyMultiple-ACK of one object with twenty results, a Real each.
+const RESULTS: [Run; 3] = [
+    Run::Again(1, &[0x0C, 0, 0, 0, 5, 0x1E]),
+    Run::Again(20, &[0x29, 0x55, 0x4E, 0x44, 0x42, 0xC8, 0, 0, 0x4F]),
+    Run::Again(1, &[0x1F]),
+];
+
+/// The tables, in the order in which they are printed.
+pub const TABLES: [Table; 5] = [VALUES, SERVICES, APDUS, FRAMES, LARGE];
+
+/// Values, beside a plain copy.
+const VALUES: Table = Table {
+    layout: Layout {
+        title: "values of the library; the best of 5 rounds of 200 repetitions each",
+        of: "value",
+        width: 18,
+        columns: &[
+            Column("octets", 8, 0, Figure::Octets),
+            Column("copy MB/s", 10, 0, Figure::Beside),
+            Column("read MB/s", 10, 0, Figure::Megabytes(Work::Read)),
+            Column("x copy", 7, 2, Figure::Times(Work::Read)),
+            Column("mark MB/s", 10, 0, Figure::Megabytes(Work::Mark)),
+            Column("x copy", 7, 2, Figure::Times(Work::Mark)),
+            Column("write MB/s", 11, 0, Figure::Megabytes(Work::Write)),
+            Column("x copy", 7, 2, Figure::Times(Work::Write)),
+        ],
+    },
+    rounds: 5,
+    count: 1,
+    pieces: &[
+        Piece {
+            name: "octet string",
+            calls: Calls::Octets,
+            below: Some((0, Calls::Copy)),
+            front: &[],
+            runs: &[LARGEST],
+        },
+        Piece {
+            name: "character string",
+            calls: Calls::Text,
+            below: Some((0, Calls::Copy)),
+            front: &[],
+            runs: &[LARGEST],
+        },
+        Piece {
+            name: "bit string",
+            calls: Calls::Bits,
+            below: Some((0, Calls::Copy)),
+            front: &[],
+            runs: &[LARGEST],
+        },
+        Piece {
+            name: "open, one string",
+            calls: Calls::Open,
+            below: Some((0, Calls::Copy)),
+            front: &[],
+            runs: &OPEN_STRING,
+        },
+        Piece {
+            name: "open, short values",
+            calls: Calls::Open,
+            below: Some((0, Calls::Copy)),
+            front: &[0x3E],
+            runs: &[Run::Again(4_096, &SHORT), Run::Again(1, &[0x3F])],
+        },
+        Piece {
+            name: "open, short values",
+            calls: Calls::Open,
+            below: Some((0, Calls::Copy)),
+            front: &[0x3E],
+            runs: &[Run::Again(65_536, &SHORT), Run::Again(1, &[0x3F])],
+        },
+    ],
+};
+
+/// ReadProperty and ReadProperty-ACK, WriteProperty with a group in its value, three services that hold numbers and
+/// identifiers only, and two with lists: the second is a COV notification of one object with four values, a Real each.
+const SERVICES: Table = Table {
+    layout: Layout {
+        title: "services; the best of 200 repetitions of 1000 messages each",
+        of: "service",
+        width: 26,
+        columns: &[
+            Column("octets", 8, 0, Figure::Octets),
+            Column("decode/s", 12, 0, Figure::Messages(Work::Read)),
+            Column("mark/s", 12, 0, Figure::Messages(Work::Mark)),
+            Column("encode/s", 12, 0, Figure::Messages(Work::Write)),
+        ],
+    },
+    rounds: 1,
+    count: 1_000,
+    pieces: &[
+        Piece {
+            name: "ReadProperty",
+            calls: Calls::Encoded(Kind::Confirmed, 12),
+            below: None,
+            front: &READ_PROPERTY,
+            runs: &[],
+        },
+        Piece {
+            name: "ReadProperty-ACK",
+            calls: Calls::Encoded(Kind::ComplexAck, 12),
+            below: None,
+            front: &[
+                0x0C, 0, 0, 0, 5, 0x19, 0x55, 0x3E, 0x44, 0x42, 0xC8, 0, 0, 0x3F,
+            ],
+            runs: &[],
+        },
+        Piece {
+            name: "WriteProperty",
+            calls: Calls::Encoded(Kind::Confirmed, 15),
+            below: None,
+            front: &[
+                0x0C, 0, 0x80, 0, 1, 0x19, 0x55, 0x3E, 0x0E, 0x21, 5, 0x91, 3, 0x0F, 0x1E, 0x44,
+                0x42, 0xC8, 0, 0, 0x2E, 0xC4, 0, 0, 0, 5, 0x19, 0x55, 0x2F, 0x1F, 0x75, 6, 0, 0x41,
+                0x42, 0x43, 0x44, 0x45, 0xA4, 0x7C, 1, 0x0F, 1, 0xB4, 0x0C, 0, 0, 0, 0x3F, 0x49, 8,
+            ],
+            runs: &[],
+        },
+        Piece {
+            name: "I-Am",
+            calls: Calls::Encoded(Kind::Unconfirmed, 0),
+            below: None,
+            front: &[0xC4, 2, 0, 0, 5, 0x22, 5, 0xC4, 0x91, 3, 0x21, 0x0F],
+            runs: &[],
+        },
+        Piece {
+            name: "Who-Is",
+            calls: Calls::Encoded(Kind::Unconfirmed, 8),
+            below: None,
+            front: &[0x0A, 3, 0xE8, 0x1A, 7, 0xD0],
+            runs: &[],
+        },
+        Piece {
+            name: "SubscribeCOV",
+            calls: Calls::Encoded(Kind::Confirmed, 5),
+            below: None,
+            front: &[0x09, 0x12, 0x1C, 0, 0, 0, 0x0A, 0x29, 1, 0x3A, 1, 0x2C],
+            runs: &[],
+        },
+        Piece {
+            name: "ReadPropertyMultiple-ACK",
+            calls: Calls::Encoded(Kind::ComplexAck, 14),
+            below: None,
+            front: &[],
+            runs: &RESULTS,
+        },
+        Piece {
+            name: "COVNotification",
+            calls: Calls::Encoded(Kind::Unconfirmed, 2),
+            below: None,
+            front: &[
+                0x09, 0x12, 0x1C, 2, 0, 4, 0xD2, 0x2C, 0, 0, 0, 10, 0x39, 0, 0x4E,
+            ],
+            runs: &[
+                Run::Again(4, &[0x09, 0x55, 0x2E, 0x44, 0x42, 0xC8, 0, 0, 0x2F]),
+                Run::Again(1, &[0x4F]),
+            ],
+        },
+    ],
+};
+
+/// The columns of a layer beside the one below.
+const LAYERS: [Column; 8] = [
+    Column("octets", 8, 0, Figure::Octets),
+    Column("decode/s", 12, 0, Figure::Messages(Work::Read)),
+    Column("mark/s", 12, 0, Figure::Messages(Work::Mark)),
+    Column("append/s", 12, 0, Figure::Messages(Work::Write)),
+    Column("x", 8, 2, Figure::Times(Work::Read)),
+    Column("x", 8, 2, Figure::Times(Work::Mark)),
+    Column("x", 8, 2, Figure::Times(Work::Write)),
+    Column("head ns", 8, 1, Figure::Beyond),
+];
+
+/// APDUs, beside their services alone: a request to read a property, an answer with twenty results, and a segment of a
+/// request.
+const APDUS: Table = Table {
+    layout: Layout {
+        title: "APDUs; the best of 200 repetitions of 1000 messages each; x: times as long as the service alone",
+        of: "APDU",
+        width: 26,
+        columns: &LAYERS,
+    },
+    rounds: 1,
+    count: 1_000,
+    pieces: &[
+        Piece {
+            name: "ReadProperty",
+            calls: Calls::Apdu,
+            below: Some((4, Calls::Service(Kind::Confirmed, 12))),
+            front: &[0, 5, 1, 12],
+            runs: &[Run::Again(1, &READ_PROPERTY)],
+        },
+        Piece {
+            name: "ReadPropertyMultiple-ACK",
+            calls: Calls::Apdu,
+            below: Some((3, Calls::Service(Kind::ComplexAck, 14))),
+            front: &[0x30, 1, 14],
+            runs: &RESULTS,
+        },
+        Piece {
+            name: "segment, opaque service",
+            calls: Calls::Apdu,
+            below: Some((6, Calls::Service(Kind::Confirmed, 200))),
+            front: &[0x0C, 5, 1, 0, 16, 200],
+            runs: &[Run::Contents(480)],
+        },
+    ],
+};
+
+/// Frames, beside their APDUs alone: a request to read a property, and an answer with twenty results that another
+/// network sends.
+const FRAMES: Table = Table {
+    layout: Layout {
+        title: "frames; the best of 200 repetitions of 1000 messages each; x: times as long as the APDU alone",
+        of: "frame",
+        width: 26,
+        columns: &LAYERS,
+    },
+    rounds: 1,
+    count: 1_000,
+    pieces: &[
+        Piece {
+            name: "ReadProperty",
+            calls: Calls::Frame,
+            below: Some((2, Calls::Apdu)),
+            front: &[1, 4, 0, 5, 1, 12],
+            runs: &[Run::Again(1, &READ_PROPERTY)],
+        },
+        Piece {
+            name: "ReadPropertyMultiple-ACK",
+            calls: Calls::Frame,
+            below: Some((6, Calls::Apdu)),
+            front: &[1, 8, 0, 7, 1, 9, 0x30, 1, 14],
+            runs: &RESULTS,
+        },
+    ],
+};
+
+/// A WriteProperty whose value is one string, beside a plain copy: the service, the APDU and the frame.
+const LARGE: Table = Table {
+    layout: Layout {
+        title: "one string in a frame of 1048597 octets; the best of 200 repetitions each; x: times as long as a copy",
+        of: "layer",
+        width: 16,
+        columns: &[
+            Column("decode x", 9, 2, Figure::Times(Work::Read)),
+            Column("mark x", 8, 2, Figure::Times(Work::Mark)),
+            Column("append x", 8, 2, Figure::Times(Work::Write)),
+        ],
+    },
+    rounds: 1,
+    count: 1,
+    pieces: &[
+        Piece {
+            name: "service",
+            calls: Calls::Service(Kind::Confirmed, 15),
+            below: Some((0, Calls::Copy)),
+            front: &[0x0C, 0, 0, 0, 5, 0x19, 0x55],
+            runs: &OPEN_STRING,
+        },
+        Piece {
+            name: "APDU",
+            calls: Calls::Apdu,
+            below: Some((0, Calls::Copy)),
+            front: &[0, 5, 1, 15, 0x0C, 0, 0, 0, 5, 0x19, 0x55],
+            runs: &OPEN_STRING,
+        },
+        LARGE_FRAME,
+    ],
+};
+
+/// The frame of that.
+pub const LARGE_FRAME: Piece = Piece {
+    name: "frame",
+    calls: Calls::Frame,
+    below: Some((0, Calls::Copy)),
+    front: &[1, 4, 0, 5, 1, 15, 0x0C, 0, 0, 0, 5, 0x19, 0x55],
+    runs: &OPEN_STRING,
+};
