@@ -13,6 +13,7 @@ mod tool;
 mod tool_tests;
 mod words;
 
+pub use bac_pack::{PackFault, run_pack};
 use bac_stream::Counted;
 pub use command_line::Job;
 pub use job_faults::JobFault;

@@ -1,8 +1,7 @@
 //! The program over readers and writers in memory: worked examples of docs/EXAMPLES.md.
 
-use crate::{JobFault, run_tool};
-use bac_pack::PackFault;
-use bac_stream::{Counted, Input, Output, RunFault, StreamFault};
+use crate::{Job, JobFault, PackFault, job, run_tool};
+use bac_stream::{Counted, Input, Mode, Output, RunFault, StreamFault};
 use std::alloc::Global;
 use std::fmt::Debug;
 use std::io::{self, ErrorKind, Read};
@@ -317,6 +316,32 @@ fn lines_without_end_are_left(rt: HostRuntime) {
 fn is_run(rt: &impl Abort, alloc: Global, line: &str, status: u8, output: &str) {
     let file = file_of(rt, alloc, &[F2]);
     runs(rt, alloc, line, &file, (status, output.as_bytes(), ""));
+}
+
+/// The words name this job, or none.
+fn names(rt: &impl Abort, alloc: Global, line: &str, wanted: Option<Job>) {
+    let words = words_of(rt, alloc, line);
+    assert_same(rt, job(alloc, &words).ok(), wanted, line);
+}
+
+// Of example 33 of docs/EXAMPLES.md.
+#[test]
+fn words_name_a_job(rt: HostRuntime) {
+    let alloc = rt.alloc();
+    let (tolerant, strict) = (Mode::Tolerant, Mode::Strict);
+    names(&rt, alloc, "bactool|show", Some(Job::Show(tolerant)));
+    names(&rt, alloc, "bactool|show|--strict", Some(Job::Show(strict)));
+    names(&rt, alloc, "bactool|check", Some(Job::Check(tolerant)));
+    let job = Some(Job::Check(strict));
+    names(&rt, alloc, "bactool|check|--strict", job);
+    let job = Some(Job::Normalise(tolerant));
+    names(&rt, alloc, "bactool|normalise", job);
+    let job = Some(Job::Normalise(strict));
+    names(&rt, alloc, "bactool|normalise|--strict", job);
+    names(&rt, alloc, "bactool|pack", Some(Job::Pack));
+    names(&rt, alloc, "bactool|pack|--strict", None);
+    names(&rt, alloc, "bactool|--strict|check", None);
+    names(&rt, alloc, "bactool", None);
 }
 
 // F2 is tolerated and not canonical, so what is written of it shows the command and the mode.
