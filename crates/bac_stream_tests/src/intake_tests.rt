@@ -1,20 +1,15 @@
-//! What an intake gives of streams of frames: worked examples of docs/EXAMPLES.md.
+//! What an intake gives where memory is refused, or records are too many.
 
-ghost use Rattle.std.specs.Prelude.{◌≤◌};
-
-use crate::expectations::{assert_holds, assert_same, assert_same_of};
-use bac_npdu::{Frame, encode_frame};
+use crate::expectations::{assert_same, assert_same_of, assert_shown};
+use bac_npdu::Frame;
 use bac_stream::{FeedFault, Intake, Mode};
-use bac_tables::{enclosed, mixed, octets_of, rows_of};
+use bac_tables::{enclosed, octets_of};
 use bac_tag::Refusal;
 use std::alloc::{AllocError, Global};
 use std::process::Abort;
 
 /// What an intake gives for a record.
 type Item = Result<Frame, Refusal>;
-
-/// F1: the canonical octets of the first example.
-const F1: &str = "01 04 00 05 01 0C 0C 00 00 00 05 19 55";
 
 /// The file of example 28: a record of F2, one of F1 and an empty one.
 const FILE: &str =
@@ -129,4 +124,14 @@ fn refused_memory_changes_nothing(rt: HostRuntime) {
         feed_again(&rt, &mut taken, piece);
     }
     taken.tells(&rt, alloc, "ok, ok, Short at 0, ok, 4", 20);
+}
+
+#[test]
+fn faults_of_an_intake_are_told(rt: HostRuntime) {
+    let alloc = rt.alloc();
+    assert_shown(&rt, alloc, FeedFault::Truncated, "truncated");
+    assert_shown(&rt, alloc, FeedFault::RecordTooLong, "too long");
+    let text = "more than 1000000 records";
+    assert_shown(&rt, alloc, FeedFault::TooManyFrames, text);
+    assert_shown(&rt, alloc, FeedFault::OutOfMemory, "out of memory");
 }

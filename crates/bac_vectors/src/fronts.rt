@@ -15,6 +15,8 @@ enum Saying<'a> {
     Whole,
     /// `each front Short`, or `each front Short but PLACES`.
     Fronts(&'a str),
+    /// `each front Short below PLACE`.
+    Below(&'a str),
     /// `each head longer at PLACES`.
     Heads(&'a str),
 }
@@ -27,6 +29,9 @@ impl<'a> Saying<'a> {
         }
         if let Some(wholes) = words.strip_prefix("each front Short but ") {
             return Saying::Fronts(wholes);
+        }
+        if let Some(least) = words.strip_prefix("each front Short below ") {
+            return Saying::Below(least);
         }
         match words.strip_prefix("each head longer at ") {
             Some(places) => Saying::Heads(places),
@@ -46,6 +51,7 @@ pub fn found(
     match Saying::of(row.told) {
         Saying::Whole => whole(alloc, section, front, &octets, row.told),
         Saying::Fronts(wholes) => each_front(alloc, section, &octets, wholes, row.told),
+        Saying::Below(least) => each_front_below(alloc, section, &octets, least, row.told),
         Saying::Heads(places) => each_head(alloc, section, &octets, places, row.told),
     }
 }
@@ -90,6 +96,25 @@ fn each_front(
         let front = octets.get(..length).unwrap_or(octets);
         let is_whole = length == octets.len() || wholes.contains(&length);
         if let Some(found) = other_front(alloc, section, front, is_whole)? {
+            return Ok(found);
+        }
+    }
+    Ok(String::from_str(alloc, words)?)
+}
+
+/// Returns the words if each front of fewer octets than this number is Short at its end, and each other one is canonical, the
+/// octets themselves too. Else returns what the first front that is not comes to.
+fn each_front_below(
+    alloc: Global,
+    section: Section<'_>,
+    octets: &[u8],
+    least: &str,
+    words: &str,
+) -> Result<String, RowFault> {
+    let least = place_of(least)?;
+    for length in 0..=octets.len() {
+        let front = octets.get(..length).unwrap_or(octets);
+        if let Some(found) = other_front(alloc, section, front, length >= least)? {
             return Ok(found);
         }
     }

@@ -1,7 +1,7 @@
 //! Constructors and parts.
 
 use super::{decoded, encoded};
-use crate::expectations::{assert_holds, assert_same, assert_same_of};
+use crate::expectations::{assert_holds, assert_same, assert_same_of, assert_shown};
 use bac_npdu::{
     Body, Frame, Mac, MacFault, NetFault, NetMessage, NetPriority, OpaqueNet, Port, Ports, Source,
 };
@@ -101,4 +101,23 @@ fn parts_are_those_of_the_octets(rt: HostRuntime) {
         panic!(rt; "no Reject")
     };
     assert_same(&rt, (*reason, *network), (1, 9));
+}
+
+// As they stand in their enums, from 1 on.
+#[test]
+fn faults_have_numbers_and_texts(rt: HostRuntime) {
+    let alloc = rt.alloc();
+    assert_same(&rt, MacFault::TooLong as u8, 1);
+    assert_same(&rt, MacFault::OutOfMemory as u8, 2);
+    let text = "the address would have more than 255 octets";
+    assert_shown(&rt, alloc, MacFault::TooLong, text);
+    assert_shown(&rt, alloc, MacFault::OutOfMemory, "out of memory");
+    assert_same(&rt, NetFault::Typed as u8, 1);
+    assert_same(&rt, NetFault::Vendor as u8, 2);
+    assert_same(&rt, NetFault::OutOfMemory as u8, 3);
+    let text = "the message type has a layout";
+    assert_shown(&rt, alloc, NetFault::Typed, text);
+    let text = "types from 128 on have a vendor, and no others";
+    assert_shown(&rt, alloc, NetFault::Vendor, text);
+    assert_shown(&rt, alloc, NetFault::OutOfMemory, "out of memory");
 }

@@ -151,6 +151,9 @@ fn faults_and_numbers_are_shown(rt: HostRuntime) {
     let text = "the kind and the service choice have a production";
     assert_shown(&rt, rt.alloc(), fault, text);
     assert_same(&rt, fault as u8, 1);
+    let fault = OpaqueFault::OutOfMemory;
+    assert_shown(&rt, rt.alloc(), fault, "out of memory");
+    assert_same(&rt, fault as u8, 2);
     assert_same(&rt, Unsigned32::from(u32::MAX), Unsigned32(u32::MAX));
     assert_holds(&rt, Unsigned16::from(255) < Unsigned16(256), 255);
 }

@@ -1,6 +1,6 @@
 //! Values of many octets are made and written whole: no clause says that memory is there.
 
-ghost use Rattle.std.specs.Prelude.{◌≤◌, ◌<◌};
+ghost use Rattle.std.specs.Prelude.{◌≤◌};
 
 use crate::expectations::{assert_holds, assert_joined, assert_same};
 use bac_tables::{enclosed, mixed, octets_of};
