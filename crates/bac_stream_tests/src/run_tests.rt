@@ -3,7 +3,7 @@
 ghost use Rattle.std.specs.Prelude.{◌≤◌};
 
 use crate::expectations::{assert_holds, assert_same, assert_same_of, assert_shown};
-use crate::fakes::{CopyOctets, Drain, Feed, Troubled, Unending};
+use crate::fakes::{CopyOctets, Drain, Feed, Interrupted, Troubled, Unending};
 use bac_record::layers::{
     front_record, make_room, put_decimal, put_hexadecimal, put_signed_decimal, write_whole,
 };
@@ -252,6 +252,21 @@ fn interrupted_calls_are_tried_again(rt: HostRuntime) {
     tells_write(&rt, troubled(interrupted, 64, 9), unwritten);
     tells_write(&rt, troubled(missing, 1, 9), unwritten);
     tells_write(&rt, troubled(missing, 0, 0), unwritten);
+}
+
+// Example 66: 63 interruptions before each of two records.
+#[test]
+fn each_record_is_read_behind_interruptions(rt: HostRuntime) {
+    let mut reader = Counted::new(Interrupted {
+        octets: &[0, 1, 7, 0, 1, 8],
+        size: 3,
+        times: 63,
+        left: 63,
+    });
+    reads(&rt, rt.alloc(), &mut reader, Some(&[7]));
+    reads(&rt, rt.alloc(), &mut reader, Some(&[8]));
+    reads(&rt, rt.alloc(), &mut reader, None);
+    assert_same(&rt, reader.failures, 0);
 }
 
 #[test]

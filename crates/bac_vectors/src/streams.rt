@@ -1,18 +1,28 @@
-//! The records of a stream, in whatever pieces it comes.
+//! The records of a stream, in whatever pieces it comes, and as a file.
 
 use crate::faults::RowFault;
-use bac_npdu::append_frame;
-use bac_stream::{Intake, Mode};
-use std::alloc::Global;
+use bac_npdu::{Frame, append_frame};
+use bac_stream::{
+    Counted, Intake, Mode, RunFault, StreamFault, Summary, run_check, run_normalise, run_show,
+};
+use bac_tag::Refusal;
+use std::alloc::{AllocError, Global};
 
 /// How many octets a stream has at most that is cut at each place.
 const MOST_CUTS: usize = 256;
 
-/// Returns what the stream gives: `ok` or `REASON at PLACE` for each record, and then how many there are, or the fault.
-/// It gives this as a whole, cut in two at each place with an empty piece between, and in pieces of 1, 2, 3, 16, 17, 1,000
-/// and 65,537 octets; else the words name the first way in which it gives something else. A long stream is not cut in two.
+/// How many records that come to the same are told one by one.
+const MOST_TOLD: usize = 16;
+
+/// Returns what the stream gives: `ok` or `REASON at PLACE` for each record, and then how many there are, or the fault. Of
+/// more than 16 records that come to the same it says `COUNT times ok`. It gives this as a whole, cut in two at each place
+/// with an empty piece between, in pieces of 1, 2, 3, 16, 17, 1,000 and 65,537 octets, and as a file of each run; else the
+/// words name the first way in which it gives something else. A long stream is not cut in two.
 pub fn found(alloc: Global, mode: Mode, stream: &[u8]) -> Result<String, RowFault> {
     let whole = fed(alloc, mode, &[stream])?;
+    if !is_run(alloc, mode, stream, &whole) {
+        return Ok(String::from_str(alloc, "a run tells otherwise")?);
+    }
     let cuts = if stream.len() > MOST_CUTS {
         0
     } else {
@@ -35,6 +45,9 @@ pub fn found(alloc: Global, mode: Mode, stream: &[u8]) -> Result<String, RowFaul
     Ok(whole.words)
 }
 
+/// What an intake gives for a record.
+type Item = Result<Frame, Refusal>;
+
 /// What a stream gives.
 #[derive(PartialEq, Eq, Drop)]
 struct Given {
@@ -42,31 +55,135 @@ struct Given {
     words: String,
     /// The canonical octets of the frames, one behind the other.
     octets: Vec<u8>,
+    /// How many records there are, and how many of them are refused.
+    records: usize,
+    refused: usize,
+    /// Whether the stream ends behind its last record.
+    is_whole: bool,
 }
 
 /// Returns what the pieces of a stream give.
 fn fed(alloc: Global, mode: Mode, pieces: &[&[u8]]) -> Result<Given, RowFault> {
     let mut intake = Intake::new(alloc, mode)?;
     let mut items = Vec::new(alloc);
-    let mut words = String::new(alloc);
-    let mut octets = Vec::new(alloc);
     for piece in pieces {
-        if let Err(fault) = intake.feed(piece, &mut items) {
-            words.push_str(&format!(in alloc; "{fault}, ")?)?;
+        if intake.feed(piece, &mut items).is_err() {
+            return Err(RowFault::OutOfMemory);
         }
     }
-    for item in items.iter() {
-        match item {
-            Ok(frame) => {
-                append_frame(frame, &mut octets)?;
-                words.push_str("ok, ")?;
-            }
-            Err(refusal) => words.push_str(&format!(in alloc; "{refusal}, ")?)?,
+    let front = words_of(alloc, &items)?;
+    let words = match intake.finish() {
+        Ok(count) => format!(in alloc; "{front}{count}")?,
+        Err(fault) => format!(in alloc; "{front}{fault}")?,
+    };
+    let octets = octets_of(alloc, &items)?;
+    Ok(Given {
+        words,
+        octets,
+        records: items.len(),
+        refused: items.iter().filter(|item| item.is_err()).count(),
+        is_whole: intake.finish().is_ok(),
+    })
+}
+
+/// Returns the canonical octets of the frames, one behind the other.
+fn octets_of(alloc: Global, items: &[Item]) -> Result<Vec<u8>, RowFault> {
+    let mut octets = Vec::new(alloc);
+    for item in items {
+        if let Ok(frame) = item {
+            append_frame(frame, &mut octets)?;
         }
     }
-    match intake.finish() {
-        Ok(count) => words.push_str(&format!(in alloc; "{count}")?)?,
-        Err(fault) => words.push_str(&format!(in alloc; "{fault}")?)?,
+    Ok(octets)
+}
+
+/// Returns what is told of the records, with a comma behind each.
+fn words_of(alloc: Global, items: &[Item]) -> Result<String, AllocError> {
+    let mut words = String::new(alloc);
+    let mut last = None;
+    let mut count: usize = 0;
+    for item in items {
+        let told = refusal_of(item);
+        if count > 0 && told != last {
+            push_records(alloc, &mut words, last, count)?;
+            count = 0;
+        }
+        last = told;
+        count = count.saturating_add(1);
     }
-    Ok(Given { words, octets })
+    push_records(alloc, &mut words, last, count)?;
+    Ok(words)
+}
+
+/// Returns why a record is refused, if it is.
+fn refusal_of(item: &Item) -> Option<Refusal> {
+    match item {
+        Ok(_) => None,
+        Err(refusal) => Some(*refusal),
+    }
+}
+
+/// Appends what so many records come to, one behind the other.
+fn push_records(
+    alloc: Global,
+    words: &mut String,
+    refusal: Option<Refusal>,
+    count: usize,
+) -> Result<(), AllocError> {
+    let told = match refusal {
+        None => String::from_str(alloc, "ok, ")?,
+        Some(refusal) => format!(in alloc; "{refusal}, ")?,
+    };
+    if count > MOST_TOLD {
+        return words.push_str(&format!(in alloc; "{count} times {told}")?);
+    }
+    for _ in 0..count {
+        words.push_str(&told)?;
+    }
+    Ok(())
+}
+
+/// Returns true if each run over the stream, as a file, deals with as many records, and ends so.
+fn is_run(alloc: Global, mode: Mode, stream: &[u8], given: &Given) -> bool {
+    let mut output = Counted::new(Vec::new(alloc));
+    let checked = run_check(alloc, mode, &mut Counted::new(stream), &mut output);
+    let mut output = Counted::new(Vec::new(alloc));
+    let shown = run_show(alloc, mode, &mut Counted::new(stream), &mut output);
+    agrees(given, checked) && agrees(given, shown) && is_normalised(alloc, mode, stream, given)
+}
+
+/// Returns true if a run that goes on behind refused records has this answer.
+fn agrees(given: &Given, answer: Result<Summary, RunFault>) -> bool {
+    match answer {
+        Ok(summary) => {
+            let counts = (summary.records as usize, summary.refused as usize);
+            given.is_whole && counts == (given.records, given.refused)
+        }
+        Err(fault) => is_cut(given, fault),
+    }
+}
+
+/// Returns true if the stream ends within a record, and the fault says in which.
+fn is_cut(given: &Given, fault: RunFault) -> bool {
+    match fault {
+        RunFault::Stream {
+            at,
+            fault: StreamFault::Truncated,
+        } => !given.is_whole && (at as usize).checked_sub(1) == Some(given.records),
+        _ => false,
+    }
+}
+
+/// Returns true if the run that normalises the stream writes a record of each frame, or stops where a record is refused.
+fn is_normalised(alloc: Global, mode: Mode, stream: &[u8], given: &Given) -> bool {
+    let mut output = Counted::new(Vec::new(alloc));
+    match run_normalise(alloc, mode, &mut Counted::new(stream), &mut output) {
+        Ok(_) => {
+            let heads = given.records.saturating_mul(2);
+            let length = output.device.len().checked_sub(heads);
+            given.is_whole && given.refused == 0 && length == Some(given.octets.len())
+        }
+        Err(RunFault::Frame { .. }) => given.refused > 0,
+        Err(fault) => given.refused == 0 && is_cut(given, fault),
+    }
 }
