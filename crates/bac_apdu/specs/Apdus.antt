@@ -41,12 +41,12 @@ pub data ApduValue : Type 0 where
 abbrev pub value_of : Apdu → ApduValue
 value_of (held.Confirmed request) = confirmed_request request.head (service_of request.service)
 value_of (held.Unconfirmed request) = unconfirmed_request (service_of request)
-value_of (held.SimpleAck ack) = simple_ack ack.invoke ack.choice
+value_of (held.SimpleAck invoke choice) = simple_ack invoke choice
 value_of (held.ComplexAck ack) = complex_ack ack.invoke (service_of ack.service)
-value_of (held.SegmentAck ack) = segment_ack ack.invoke ack.nak ack.srv ack.seq ack.window
+value_of (held.SegmentAck invoke nak srv seq size) = segment_ack invoke nak srv seq size
 value_of (held.Error answer) = error answer.invoke (service_of answer.service)
-value_of (held.Reject answer) = reject answer.invoke answer.reason
-value_of (held.Abort answer) = abort answer.invoke answer.srv answer.reason
+value_of (held.Reject invoke reason) = reject invoke reason
+value_of (held.Abort invoke srv reason) = abort invoke srv reason
 value_of (held.Segment part) = segment part.head part.seq part.window part.more part.choice part.piece.items
 
 -- the octets in front of the service, the piece or the end

@@ -4,7 +4,11 @@ ghost use Rattle.std.specs.Prelude.{◌≡◌, IfOk, OnOk, OnErr};
 ghost use Rattle.bac_tag.specs.Spelling.{IsLeast, AppendsLeast};
 ghost use Rattle.bac_apdu.specs.Apdus.{SpellsApdu, value_of};
 
+use crate::abort::append_abort;
 use crate::apdu::Apdu;
+use crate::reject::append_reject;
+use crate::segment_ack::append_segment_ack;
+use crate::simple_ack::append_simple_ack;
 use bac_tag::OutOfMemory;
 use std::alloc::Global;
 
@@ -22,12 +26,22 @@ pub fn append_apdu(apdu: &Apdu, out: &mut Vec<u8>) -> Result<(), OutOfMemory>
     match apdu {
         Apdu::Confirmed(request) => request.append(out),
         Apdu::Unconfirmed(request) => request.append(out),
-        Apdu::SimpleAck(ack) => ack.append(out),
+        Apdu::SimpleAck { invoke, choice } => append_simple_ack(*invoke, *choice, out),
         Apdu::ComplexAck(ack) => ack.append(out),
-        Apdu::SegmentAck(ack) => ack.append(out),
+        Apdu::SegmentAck {
+            invoke,
+            nak,
+            srv,
+            seq,
+            window,
+        } => append_segment_ack(*invoke, *nak, *srv, *seq, *window, out),
         Apdu::Error(answer) => answer.append(out),
-        Apdu::Reject(reject) => reject.append(out),
-        Apdu::Abort(abort) => abort.append(out),
+        Apdu::Reject { invoke, reason } => append_reject(*invoke, *reason, out),
+        Apdu::Abort {
+            invoke,
+            srv,
+            reason,
+        } => append_abort(*invoke, *srv, *reason, out),
         Apdu::Segment(segment) => segment.append(out),
     }
 }
@@ -39,11 +53,11 @@ pub fn append_apdu(apdu: &Apdu, out: &mut Vec<u8>) -> Result<(), OutOfMemory>
 ///
 /// # Examples
 /// ```rust
-/// use bac_apdu::{Apdu, Reject, encode_apdu};
+/// use bac_apdu::{Apdu, encode_apdu};
 ///
 /// // Request 1 is rejected, since its service is not known (reason 9).
 /// let (invoke, reason) = (1, 9);
-/// let apdu = Apdu::Reject(Reject { invoke, reason });
+/// let apdu = Apdu::Reject { invoke, reason };
 /// let written = encode_apdu(rt.alloc(), &apdu)?;
 /// assert_eq!(rt; written.as_slice(), [0x60, 0x01, 0x09].as_slice());
 /// ```

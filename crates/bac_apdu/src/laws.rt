@@ -48,10 +48,13 @@ pub fn octets_tell_small_apdus()
 {}
 
 /// Formerly, WritePropertyMultiple and its error were opaque, and at most 16 groups nested. Each other APDU that was
-/// spelled then is still spelled by the same lists of octets, and has the same canonical octets.
+/// spelled then is still spelled by the same lists of octets and no others. It had canonical octets then, and they are
+/// the same.
 pub fn former_apdus_are_kept()
-    ensures spelled { (v : ApduValue) (b : List ℕ) → IsKept v → SpellsFormerApdu v b → SpellsApdu v b }
+    ensures spelled { (v : ApduValue) (b c : List ℕ) → IsKept v → SpellsFormerApdu v b → SpellsFormerApdu v c ↔ SpellsApdu v c }
+    ensures canonical { (v : ApduValue) (b : List ℕ) → IsKept v → SpellsFormerApdu v b → (c : List ℕ) × IsLeast (SpellsFormerApdu v) c }
     ensures least { (v : ApduValue) (b : List ℕ) → IsKept v → IsLeast (SpellsFormerApdu v) b → IsLeast (SpellsApdu v) b }
 {
+    apdus_have_canonical_octets();
     bac_service::laws::former_services_are_kept();
 }

@@ -28,7 +28,6 @@ mod unconfirmed_request;
 mod visiting;
 mod window;
 
-pub use abort::Abort;
 pub use apdu::Apdu;
 pub use apdu_decoding::{decode_apdu, decode_apdu_marked};
 pub use apdu_encoding::{append_apdu, encode_apdu};
@@ -37,9 +36,6 @@ pub use confirmed_request::{ConfirmedRequest, RequestHead};
 pub use error_pdu::ErrorPdu;
 pub use max_resp::MaxResp;
 pub use max_segs::MaxSegs;
-pub use reject::Reject;
 pub use segment::{SegHead, Segment};
-pub use segment_ack::SegmentAck;
-pub use simple_ack::SimpleAck;
 pub use unconfirmed_request::UnconfirmedRequest;
 pub use window::Window;

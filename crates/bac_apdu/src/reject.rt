@@ -11,27 +11,13 @@ use crate::heads::ended;
 use crate::visiting::ApduVisitor;
 use bac_tag::{OutOfMemory, Refusal, Why};
 
-/// The answer to a request that was not understood.
-///
-/// Octets (clause 20.1.8): type 6 in bits 7 to 4; the invoke id; the reason. Bits 3 to 0 of the first octet are
-/// ignored, and 0 in canonical form.
-#[derive(Clone, Copy, Debug, PartialEq, Eq)]
-pub struct Reject {
-    /// The invoke id of the request.
-    pub invoke: u8,
-    /// Why it was rejected (clause 18.8).
-    pub reason: u8,
-}
-
-impl Reject {
-    /// Appends the canonical octets. If memory is refused, `out` stays as it was.
-    pub(crate) fn append(&self, out: &mut Vec<u8>) -> Result<(), OutOfMemory>
-        ensures written { OnOk result (AppendsLeast (SpellsApdu (reject self.now.invoke self.now.reason)) out.old.items out.new.items) }
-        ensures unchanged { OnErr result (out.new.items ≡ out.old.items) }
-    {
-        out.extend_from_slice(&[0x60, self.invoke, self.reason])?;
-        Ok(())
-    }
+/// Appends the canonical octets of a Reject. If memory is refused, `out` stays as it was.
+pub(crate) fn append_reject(invoke: u8, reason: u8, out: &mut Vec<u8>) -> Result<(), OutOfMemory>
+    ensures written { OnOk result (AppendsLeast (SpellsApdu (reject invoke reason)) out.old.items out.new.items) }
+    ensures unchanged { OnErr result (out.new.items ≡ out.old.items) }
+{
+    out.extend_from_slice(&[0x60, invoke, reason])?;
+    Ok(())
 }
 
 /// Decodes a Reject.
@@ -47,10 +33,10 @@ pub(crate) fn decode_reject<V: ApduVisitor>(
     let [_, invoke, reason, ..] = octets else {
         return Err(Why::Short.at(octets.len()));
     };
-    let reject = Reject {
+    let answer = Apdu::Reject {
         invoke: *invoke,
         reason: *reason,
     };
     let mark = ended(octets, &[0x60, *invoke, *reason])?;
-    Ok(visitor.visit(Apdu::Reject(reject), mark, place))
+    Ok(visitor.visit(answer, mark, place))
 }

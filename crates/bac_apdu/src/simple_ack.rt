@@ -11,27 +11,17 @@ use crate::heads::ended;
 use crate::visiting::ApduVisitor;
 use bac_tag::{OutOfMemory, Refusal, Why};
 
-/// An answer without contents: the request was carried out.
-///
-/// Octets (clause 20.1.4): type 2 in bits 7 to 4; the invoke id; the service choice. Bits 3 to 0 of the first octet are
-/// ignored, and 0 in canonical form.
-#[derive(Clone, Copy, Debug, PartialEq, Eq)]
-pub struct SimpleAck {
-    /// The invoke id of the request.
-    pub invoke: u8,
-    /// The service choice of the request.
-    pub choice: u8,
-}
-
-impl SimpleAck {
-    /// Appends the canonical octets. If memory is refused, `out` stays as it was.
-    pub(crate) fn append(&self, out: &mut Vec<u8>) -> Result<(), OutOfMemory>
-        ensures written { OnOk result (AppendsLeast (SpellsApdu (simple_ack self.now.invoke self.now.choice)) out.old.items out.new.items) }
-        ensures unchanged { OnErr result (out.new.items ≡ out.old.items) }
-    {
-        out.extend_from_slice(&[0x20, self.invoke, self.choice])?;
-        Ok(())
-    }
+/// Appends the canonical octets of a SimpleACK. If memory is refused, `out` stays as it was.
+pub(crate) fn append_simple_ack(
+    invoke: u8,
+    choice: u8,
+    out: &mut Vec<u8>,
+) -> Result<(), OutOfMemory>
+    ensures written { OnOk result (AppendsLeast (SpellsApdu (simple_ack invoke choice)) out.old.items out.new.items) }
+    ensures unchanged { OnErr result (out.new.items ≡ out.old.items) }
+{
+    out.extend_from_slice(&[0x20, invoke, choice])?;
+    Ok(())
 }
 
 /// Decodes a SimpleACK.
@@ -47,10 +37,10 @@ pub(crate) fn decode_simple_ack<V: ApduVisitor>(
     let [_, invoke, choice, ..] = octets else {
         return Err(Why::Short.at(octets.len()));
     };
-    let ack = SimpleAck {
+    let ack = Apdu::SimpleAck {
         invoke: *invoke,
         choice: *choice,
     };
     let mark = ended(octets, &[0x20, *invoke, *choice])?;
-    Ok(visitor.visit(Apdu::SimpleAck(ack), mark, place))
+    Ok(visitor.visit(ack, mark, place))
 }

@@ -1,6 +1,6 @@
 //! The examples of the doc comments of bac_apdu, bac_segment, bac_npdu and bac_text, with the same lines.
 
-use bac_apdu::{Apdu, Reject, SegHead, decode_apdu, encode_apdu};
+use bac_apdu::{Apdu, SegHead, decode_apdu, encode_apdu};
 use bac_npdu::{
     Body, Frame, NetMessage, NetPriority, Side, decode_frame, decode_strict, encode_frame,
     normalise_frame, same_meaning,
@@ -33,7 +33,7 @@ fn an_apdu_is_decoded(rt: HostRuntime) -> Result<(), Fail> {
 fn an_apdu_is_encoded(rt: HostRuntime) -> Result<(), Fail> {
     // Request 1 is rejected, since its service is not known (reason 9).
     let (invoke, reason) = (1, 9);
-    let apdu = Apdu::Reject(Reject { invoke, reason });
+    let apdu = Apdu::Reject { invoke, reason };
     let written = encode_apdu(rt.alloc(), &apdu)?;
     assert_eq!(rt; written.as_slice(), [0x60, 0x01, 0x09].as_slice());
     Ok(())

@@ -24,6 +24,14 @@ pub fn assert_holds<C: Debug + Drop>(rt: &impl Abort, holds: bool, case: C) {
     assert!(rt; holds, "of {case:?}");
 }
 
+/// Stops the test unless these are the octets in front and those behind them. It tells how many there are, since there
+/// may be a mebibyte of them.
+pub fn assert_joined(rt: &impl Abort, found: &[u8], front: &[u8], behind: &[u8]) {
+    assert_same(rt, Some(found.len()), front.len().checked_add(behind.len()));
+    assert_holds(rt, found.starts_with(front), front.len());
+    assert_holds(rt, found.ends_with(behind), behind.len());
+}
+
 /// Stops the test unless this is how the value is shown.
 pub fn assert_shown<D: Display + Drop>(rt: &impl Abort, alloc: Global, value: D, text: &str) {
     let shown = format!(in alloc; "{value}").expect(rt, "memory");

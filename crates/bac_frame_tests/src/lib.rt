@@ -12,6 +12,8 @@ mod expectations;
 #[cfg(test)]
 mod frame;
 #[cfg(test)]
+mod long_fronts;
+#[cfg(test)]
 mod segment;
 #[cfg(test)]
 mod text;

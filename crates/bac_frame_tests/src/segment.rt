@@ -2,6 +2,7 @@
 //! in turn (`rt try --test --fail-alloc N`).
 
 mod desks;
+mod drawn;
 mod examples;
 mod orders;
 mod sizes;

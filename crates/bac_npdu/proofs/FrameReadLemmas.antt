@@ -38,7 +38,7 @@ use Rattle.bac_npdu.proofs.HeadRefusedLemmas.{HasParts, frame_of, frame_every, p
 abbrev pub front_of : ℕ → Option DestinationValue → Option SourceValue → List ℕ
 front_of c d s = 1 ∷ c ∷ addresses d s
 
-front_then : (c : ℕ) (d : Option DestinationValue) (s : Option SourceValue) (b : List ℕ) → 1 ∷ c ∷ behind_control d s b ≡ front_of c d s ++ b
+pub front_then : (c : ℕ) (d : Option DestinationValue) (s : Option SourceValue) (b : List ℕ) → 1 ∷ c ∷ behind_control d s b ≡ front_of c d s ++ b
 front_then c d s b = sym (ap (λ (l : List ℕ). 1 ∷ c ∷ l) (append_assoc (from_octets (address_of d)) (from_octets s ++ hops_octets d) b ∙ ap (λ (l : List ℕ). from_octets (address_of d) ++ l) (append_assoc (from_octets s) (hops_octets d) b)))
 
 least_hops : (d : Option DestinationValue) → least_head (hops_of d) ≡ hops_octets d
@@ -220,21 +220,20 @@ module _ (octets : List ℕ) (small : (k : ℕ) → slice_index octets k < 256) 
 
   -- ---- memory that was refused
 
-  memory_refused : begins_small octets ≡ false → IsRefused octets (record { place = 0; why = OutOfMemory })
-  memory_refused e = record {
-    refused = λ w. absurd (w refl);
-    memory = λ w. (refl, e);
-    reasoned = record {
-      of_version = (λ w. absurd (let i : OutOfMemory ≡ Version = w in cc), λ p. absurd (p.2 has_head.version));
-      of_address = (λ w. absurd (let i : OutOfMemory ≡ Address = w in cc), λ p. absurd (omega (arith, p.2)));
-      of_type = (λ w. absurd (let i : OutOfMemory ≡ PduType = w in cc), λ p. absurd (omega (arith, p.2, far)));
-      of_window = (λ w. absurd (let i : OutOfMemory ≡ Window = w in cc), λ p. absurd (let k = p.2 in omega (arith, k.1, far)));
-      others = inr (inr (inr (inr (inl refl))));
-    };
+  pub memory_reasoned : IsReasoned octets (record { place = 0; why = OutOfMemory })
+  memory_reasoned = record {
+    of_version = (λ w. absurd (let i : OutOfMemory ≡ Version = w in cc), λ p. absurd (p.2 has_head.version));
+    of_address = (λ w. absurd (let i : OutOfMemory ≡ Address = w in cc), λ p. absurd (omega (arith, p.2)));
+    of_type = (λ w. absurd (let i : OutOfMemory ≡ PduType = w in cc), λ p. absurd (omega (arith, p.2, far)));
+    of_window = (λ w. absurd (let i : OutOfMemory ≡ Window = w in cc), λ p. absurd (let k = p.2 in omega (arith, k.1, far)));
+    others = inr (inr (inr (inr (inl refl))));
   }
     where
       far : 2 ≤ body_place octets
       far = subst (λ (n : ℕ). 2 ≤ n) size_of (let e : 2 ≤ length (1 ∷ c ∷ addresses d s) = omega arith in e)
+
+  memory_refused : begins_small octets ≡ false → IsRefused octets (record { place = 0; why = OutOfMemory })
+  memory_refused e = record { refused = λ w. absurd (w refl); memory = λ w. (refl, e); reasoned = memory_reasoned }
 
   pub destination_memory : IsLong (address_of d) → IsRefused octets (record { place = 0; why = OutOfMemory })
   destination_memory long = memory_refused (large d refl long)
@@ -310,21 +309,30 @@ within X x b size (Some place) fits h = omega (arith, fits, h.is_mark.0)
 
 -- ---- a frame that is kept
 
+-- the head of a frame that the octets spell
+head_there : (v c : ℕ) (b : List ℕ) (f : FrameValue) → SpellsFrame f (v ∷ c ∷ b) → (rest : List ℕ) × IsHead (v ∷ c ∷ b) c f.destination f.source rest
+head_there v c b f p =
+    let q = parts_of f c b (p.0, ((refl, omega arith), p.1.1)) in
+    (q.rest, record { octets_are = ap (λ (n : ℕ). n ∷ c ∷ b) p.1.0.0 ∙ ap (λ (l : List ℕ). 1 ∷ c ∷ l) q.octets_are; destination = q.control.destination; source = q.control.source; address = q.address })
+
+-- memory was refused to what is written of a frame that the octets spell
+pub spelled_memory : (octets : List ℕ) → ((k : ℕ) → slice_index octets k < 256) → (f : FrameValue) → SpellsFrame f octets → IsReasoned octets (record { place = 0; why = OutOfMemory })
+spelled_memory [] small f p = absurd p.1
+spelled_memory (v ∷ []) small f p = absurd p.1.1
+spelled_memory (v ∷ c ∷ b) small f p = let head = head_there v c b f p in memory_reasoned (v ∷ c ∷ b) small c f.destination f.source head.0 head.1
+
 -- memory was refused to a long address of a frame that the octets spell
 pub kept_memory : (octets : List ℕ) → ((k : ℕ) → slice_index octets k < 256) → (f : FrameValue) → SpellsFrame f octets → IsLong (address_of f.destination) ⊎ IsLong f.source → IsRefused octets (record { place = 0; why = OutOfMemory })
 kept_memory [] small f p long = absurd p.1
 kept_memory (v ∷ []) small f p long = absurd p.1.1
 kept_memory (v ∷ c ∷ b) small f p long = told long
   where
-    q : HasParts f c b
-    q = parts_of f c b (p.0, ((refl, omega arith), p.1.1))
-
-    head : IsHead (v ∷ c ∷ b) c f.destination f.source q.rest
-    head = record { octets_are = ap (λ (n : ℕ). n ∷ c ∷ b) p.1.0.0 ∙ ap (λ (l : List ℕ). 1 ∷ c ∷ l) q.octets_are; destination = q.control.destination; source = q.control.source; address = q.address }
+    head : (rest : List ℕ) × IsHead (v ∷ c ∷ b) c f.destination f.source rest
+    head = head_there v c b f p
 
     told : IsLong (address_of f.destination) ⊎ IsLong f.source → IsRefused (v ∷ c ∷ b) (record { place = 0; why = OutOfMemory })
-    told (inl l) = destination_memory (v ∷ c ∷ b) small c f.destination f.source q.rest head l
-    told (inr l) = source_memory (v ∷ c ∷ b) small c f.destination f.source q.rest head l
+    told (inl l) = destination_memory (v ∷ c ∷ b) small c f.destination f.source head.0 head.1 l
+    told (inr l) = source_memory (v ∷ c ∷ b) small c f.destination f.source head.0 head.1 l
 
 -- what keeping a frame gives is what decoding it gives
 pub kept_decoded : (octets : List ℕ) → ((k : ℕ) → slice_index octets k < 256) → (f : FrameValue) (mark : Option ℕ) (made : Result (Frame × Option ℕ) Refusal) → SpellsFrame f octets → HasMark (SpellsFrame f) octets mark → IsKept f mark made → IsDecoded octets made

@@ -17,3 +17,5 @@ mod BodyLemmas
 mod FrameReadLemmas
 mod OnceLemmas
 mod FormerLemmas
+mod SmallLemmas
+mod MemoryLemmas

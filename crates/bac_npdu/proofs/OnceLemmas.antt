@@ -217,6 +217,9 @@ module _ (frames : (f g : FrameValue) (b : List ℕ) → SpellsFrame f b → Spe
     λ m. let same = frames x m.0 l p m.1 ∙ frames m.0 y r m.2 q in IsLeast-one (SpellsFrame y) b c (subst (λ (f : FrameValue). IsLeast (SpellsFrame f) b) same s) t,
   )
 
+  pub meaning_told : (b c d e : List ℕ) → IsNormalOf b d → IsNormalOf c e → MeanTheSame b c ↔ (d ≡ e)
+  meaning_told b c d e p q = let told = same_told p.0 q.0 b c d e p.1 q.1 p.2 q.2 in (told.1, told.0)
+
   -- the same, where a comparison tells whether they are equal
   pub same_compared : (x y : FrameValue) (l r b c : List ℕ) (t : Bool) → SpellsFrame x l → SpellsFrame y r → IsLeast (SpellsFrame x) b → IsLeast (SpellsFrame y) c → (t ≡ true) ↔ (b ≡ c) → (t ≡ true) ↔ MeanTheSame l r
   same_compared x y l r b c t p q s u e = let told = same_told x y l r b c p q s u in (λ h. told.0 (e.0 h), λ m. e.1 (told.1 m))

@@ -1,16 +1,18 @@
 -- What decoding gives.
-use Rattle.std.specs.Prelude.{◌≡◌, ◌≢◌, ◌↔◌, ◌⊎◌, ℕ, ◌+◌, ◌<◌, cond, nat_le, nat_eq, ◌&&◌, ◌||◌, Bool, true, false, Option, List, length, drop, slice_index, Result, Ok, Err}
+use Rattle.std.specs.Prelude.{◌≡◌, ◌≢◌, ◌↔◌, ◌⊎◌, ℕ, ◌+◌, ◌<◌, cond, nat_le, nat_eq, ◌&&◌, ◌||◌, Bool, true, false, Option, None, Some, List, length, drop, slice_index, Result, Ok, Err}
 use Rattle.bac_tag.specs.declared.refusals.Refusal.{Refusal}
 use Rattle.bac_tag.specs.declared.refusals.Why.{Why}
 use Rattle.bac_tag.specs.declared.refusals.Why.TheVariants.{Short, Trailing, Version, Address, PduType, Window, OutOfMemory}
 use Rattle.bac_tag.specs.Spelling.{HasMark, IsWholeRefusal}
 use Rattle.bac_apdu.specs.FirstOctet.{IsTypePlace, IsWindowPlace}
-use Rattle.bac_apdu.specs.Decoded.{IsApduReason, begins_small as begins_small_apdu}
+use Rattle.bac_apdu.specs.Decoded.{IsApduReason, begins_small as begins_small_apdu, is_small as is_small_apdu}
 use Rattle.bac_npdu.specs.declared.frame.Frame.{Frame}
 use Rattle.bac_npdu.specs.declared.message.NetMessage.{NetMessage}
-use Rattle.bac_npdu.specs.Messages.{SpellsMessage, message_value}
+use Rattle.bac_npdu.specs.Addresses.{SourceValue}
+use Rattle.bac_npdu.specs.Messages.{MessageValue, i_am_router, router_busy, router_available, init_table, init_table_ack, opaque, SpellsMessage, message_value}
 use Rattle.bac_npdu.specs.FrameHeads.{address_of, IsLong}
-use Rattle.bac_npdu.specs.Frames.{FrameValue, SpellsFrame, value_of}
+use Rattle.bac_npdu.specs.Frames as frames
+use Rattle.bac_npdu.specs.Frames.{BodyValue, FrameValue, SpellsFrame, value_of}
 use Rattle.bac_npdu.specs.Heads.{says_message, says_destination, says_source, source_place, body_place, HasHead, IsVersionPlace, IsAddressPlace}
 
 -- the octets are so many, or fewer, or more
@@ -56,6 +58,27 @@ abbrev pub begins_small : List ℕ → Bool
 begins_small octets =
     few_octets (says_destination octets) 2 octets && (few_octets (says_source octets) (source_place octets) octets
     && cond (says_message octets) (begins_small_message (drop (body_place octets) octets)) (begins_small_apdu (drop (body_place octets) octets)))
+
+-- the same by the value: no address above seven octets, and no list, open value, opaque octets or piece
+abbrev pub is_short_address : Option SourceValue → Bool
+is_short_address None = true
+is_short_address (Some a) = nat_le (length a.address) 7
+
+abbrev pub is_small_message : MessageValue → Bool
+is_small_message (i_am_router networks) = false
+is_small_message (router_busy networks) = false
+is_small_message (router_available networks) = false
+is_small_message (init_table ports) = false
+is_small_message (init_table_ack (Some ports)) = false
+is_small_message (opaque message) = false
+is_small_message _ = true
+
+abbrev pub is_small_body : BodyValue → Bool
+is_small_body (frames.apdu a) = is_small_apdu a
+is_small_body (frames.message m) = is_small_message m
+
+abbrev pub is_small : FrameValue → Bool
+is_small f = is_short_address (address_of f.destination) && (is_short_address f.source && is_small_body f.body)
 
 -- the place is that of the first octet of an APDU of no type
 abbrev pub IsPduTypePlace : List ℕ → ℕ → Type 0

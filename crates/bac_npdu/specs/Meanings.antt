@@ -1,7 +1,8 @@
 -- What two lists mean, and canonical octets of what was read.
-use Rattle.std.specs.Prelude.{◌≡◌, ℕ, Option, None, Some, List}
-use Rattle.bac_tag.specs.Spelling.{IsLeast, HasMark}
+use Rattle.std.specs.Prelude.{◌≡◌, ◌⊎◌, ℕ, false, Option, None, Some, List}
+use Rattle.bac_tag.specs.Spelling.{IsLeast, IsSpelling, HasMark}
 use Rattle.bac_npdu.specs.Frames.{FrameValue, SpellsFrame}
+use Rattle.bac_npdu.specs.Decoded.{begins_small}
 
 -- one frame has both spellings
 abbrev pub MeanTheSame : List ℕ → List ℕ → Type 0
@@ -10,6 +11,10 @@ MeanTheSame b c = (f : FrameValue) × SpellsFrame f b × SpellsFrame f c
 -- c are the canonical octets of the frame that b spells
 abbrev pub IsNormalOf : List ℕ → List ℕ → Type 0
 IsNormalOf b c = (f : FrameValue) × SpellsFrame f b × IsLeast (SpellsFrame f) c
+
+-- memory may be refused to what these octets give: they are not those of a small frame, or the canonical octets of their frame are written
+abbrev pub IsShortOfMemory : List ℕ → Type 0
+IsShortOfMemory b = (begins_small b ≡ false) ⊎ IsSpelling SpellsFrame b
 
 -- what is written for a frame of which octets with this mark are a spelling: these, where they are canonical, else its canonical octets
 abbrev pub IsNormalised : FrameValue → List ℕ → Option ℕ → List ℕ → Type 0

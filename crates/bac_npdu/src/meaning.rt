@@ -1,11 +1,11 @@
 //! Whether two inputs spell the same frame.
 
-ghost use Rattle.std.specs.Prelude.{◌≡◌, ◌≢◌, ◌↔◌, true, IfOk, IfErr};
+ghost use Rattle.std.specs.Prelude.{◌≡◌, ◌≢◌, ◌↔◌, true, false, IfOk, IfErr};
 ghost use Rattle.bac_tag.specs.declared.refusals.Why.TheVariants.{OutOfMemory};
 ghost use Rattle.bac_tag.specs.Spelling.{HasMark, IsLeast, IsSpelling, IsWholeRefusal};
 ghost use Rattle.bac_npdu.specs.Frames.{SpellsFrame, value_of};
-ghost use Rattle.bac_npdu.specs.Decoded.{IsReasoned};
-ghost use Rattle.bac_npdu.specs.Meanings.{MeanTheSame};
+ghost use Rattle.bac_npdu.specs.Decoded.{begins_small, IsReasoned};
+ghost use Rattle.bac_npdu.specs.Meanings.{IsShortOfMemory, MeanTheSame};
 
 use crate::frame::Frame;
 use crate::frame_decoding::decode_marked;
@@ -23,13 +23,15 @@ pub enum Side {
     Right,
 }
 
-/// Decodes the frame of one side, and returns it with its mark.
+/// Decodes the frame of one side, and returns it with its mark. OutOfMemory at 0 is then a refusal that what is written of
+/// the frame may have.
 fn read(alloc: Global, side: Side, octets: &[u8]) -> Result<(Frame, Option<usize>), (Side, Refusal)>
     ensures spelled { IfOk result (λ found. SpellsFrame (value_of found.0) octets.now) }
     ensures marked { IfOk result (λ found. HasMark (SpellsFrame (value_of found.0)) octets.now found.1) }
+    ensures unwritten { IfOk result (λ found. IsReasoned octets.now (record { place = 0; why = OutOfMemory })) }
     ensures side { IfErr result (λ told. told.0 ≡ side) }
     ensures refused { IfErr result (λ told. told.1.why ≢ OutOfMemory → IsWholeRefusal SpellsFrame octets.now told.1) }
-    ensures memory { IfErr result (λ told. told.1.why ≡ OutOfMemory → told.1.place ≡ 0) }
+    ensures memory { IfErr result (λ told. told.1.why ≡ OutOfMemory → (told.1.place ≡ 0) × (begins_small octets.now ≡ false)) }
     ensures reasons { IfErr result (λ told. IsReasoned octets.now told.1) }
 {
     match decode_marked(alloc, octets) {
@@ -72,10 +74,11 @@ pub fn same_meaning(alloc: Global, left: &[u8], right: &[u8]) -> Result<bool, (S
     ensures spelled { IfOk result (λ same. IsSpelling SpellsFrame left.now × IsSpelling SpellsFrame right.now) }
     ensures same { IfOk result (λ same. (same ≡ true) ↔ MeanTheSame left.now right.now) }
     ensures left { IfErr result (λ told. told.0 ≡ Side.Left → told.1.why ≢ OutOfMemory → IsWholeRefusal SpellsFrame left.now told.1) }
-    ensures left_reasons { IfErr result (λ told. told.0 ≡ Side.Left → told.1.why ≢ OutOfMemory → IsReasoned left.now told.1) }
+    ensures left_reasons { IfErr result (λ told. told.0 ≡ Side.Left → IsReasoned left.now told.1) }
+    ensures left_memory { IfErr result (λ told. told.0 ≡ Side.Left → told.1.why ≡ OutOfMemory → (told.1.place ≡ 0) × IsShortOfMemory left.now) }
     ensures right { IfErr result (λ told. told.0 ≡ Side.Right → told.1.why ≢ OutOfMemory → IsSpelling SpellsFrame left.now × IsWholeRefusal SpellsFrame right.now told.1) }
-    ensures right_reasons { IfErr result (λ told. told.0 ≡ Side.Right → told.1.why ≢ OutOfMemory → IsReasoned right.now told.1) }
-    ensures memory { IfErr result (λ told. told.1.why ≡ OutOfMemory → told.1.place ≡ 0) }
+    ensures right_reasons { IfErr result (λ told. told.0 ≡ Side.Right → IsReasoned right.now told.1) }
+    ensures right_memory { IfErr result (λ told. told.0 ≡ Side.Right → told.1.why ≡ OutOfMemory → (told.1.place ≡ 0) × IsSpelling SpellsFrame left.now × IsShortOfMemory right.now) }
 {
     // By this law equal canonical octets are those of one frame.
     frames_have_one_value();

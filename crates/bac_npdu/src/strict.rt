@@ -4,8 +4,8 @@ ghost use Rattle.std.specs.Prelude.{◌≡◌, ◌≢◌, ◌↔◌, false, IsTr
 ghost use Rattle.bac_tag.specs.Spelling.{IsLeast, IsWholeRefusal, IsCanonical};
 ghost use Rattle.bac_npdu.specs.Frames.{SpellsFrame, value_of};
 ghost use Rattle.bac_npdu.specs.Heads.{IsVersionPlace, IsAddressPlace};
-ghost use Rattle.bac_npdu.specs.Decoded.{begins_small, IsPduTypePlace, IsFrameWindowPlace, IsFrameReason};
-ghost use Rattle.bac_npdu.specs.Meanings.{IsNormalOf, IsFirstFlaw};
+ghost use Rattle.bac_npdu.specs.Decoded.{begins_small, IsPduTypePlace, IsFrameWindowPlace, IsFrameReason, IsReasoned};
+ghost use Rattle.bac_npdu.specs.Meanings.{IsNormalOf, IsFirstFlaw, IsShortOfMemory};
 
 use crate::frame::{Body, Frame};
 use crate::frame_decoding::{decode_marked, mark_of, visit_frame};
@@ -113,8 +113,8 @@ impl FrameVisitor for Normalising<'_> {
 /// Returns the canonical octets of the frame that all the octets spell.
 ///
 /// # Errors
-/// As those of [`decode_frame`]. But `OutOfMemory` may be returned for any frame, since the canonical octets need
-/// memory.
+/// As those of [`decode_frame`]. But `OutOfMemory` may be returned for any octets that spell a frame, since the canonical
+/// octets need memory.
 ///
 /// # Examples
 /// ```rust
@@ -133,12 +133,8 @@ impl FrameVisitor for Normalising<'_> {
 pub fn normalise_frame(alloc: Global, octets: &[u8]) -> Result<Vec<u8>, Refusal>
     ensures written { IfOk result (λ out. IsNormalOf octets.now out.items) }
     ensures refused { IfErr result (λ refusal. refusal.why ≢ Why.OutOfMemory → IsWholeRefusal SpellsFrame octets.now refusal) }
-    ensures memory { IfErr result (λ refusal. refusal.why ≡ Why.OutOfMemory → refusal.place ≡ 0) }
-    ensures versions { IfErr result (λ refusal. refusal.why ≢ Why.OutOfMemory → (refusal.why ≡ Why.Version) ↔ IsVersionPlace octets.now refusal.place) }
-    ensures addresses { IfErr result (λ refusal. refusal.why ≢ Why.OutOfMemory → (refusal.why ≡ Why.Address) ↔ IsAddressPlace octets.now refusal.place) }
-    ensures types { IfErr result (λ refusal. refusal.why ≢ Why.OutOfMemory → (refusal.why ≡ Why.PduType) ↔ IsPduTypePlace octets.now refusal.place) }
-    ensures windows { IfErr result (λ refusal. refusal.why ≢ Why.OutOfMemory → (refusal.why ≡ Why.Window) ↔ IsFrameWindowPlace octets.now refusal.place) }
-    ensures reasons { IfErr result (λ refusal. IsFrameReason refusal.why) }
+    ensures memory { IfErr result (λ refusal. refusal.why ≡ Why.OutOfMemory → (refusal.place ≡ 0) × IsShortOfMemory octets.now) }
+    ensures reasons { IfErr result (IsReasoned octets.now) }
 {
     if octets.len() > LONG && is_canonical_frame(alloc, octets) {
         return match Vec::from_slice(alloc, octets) {

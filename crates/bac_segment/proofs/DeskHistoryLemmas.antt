@@ -7,6 +7,7 @@ use Rattle.std.proofs.lemmas.Bool.{le-leb, leb-true}
 use Rattle.bac_segment.specs.declared.keys.Key.{Key}
 use Rattle.bac_segment.specs.declared.cutting.CutPlan.{CutPlan}
 use Rattle.bac_segment.specs.declared.faults.Taken.{Taken}
+use Rattle.bac_segment.specs.declared.faults.Taken.TheVariants.{Complete}
 use Rattle.bac_segment.specs.declared.faults.TakeFault.{TakeFault}
 use Rattle.bac_segment.specs.declared.faults.TakeFault.TheVariants.{OtherKey, Conflict, PastEnd, TooLarge, OutOfMemory, DeskFull}
 use Rattle.bac_segment.specs.Deliveries.{Delivery, key_of}
@@ -18,7 +19,7 @@ use Rattle.bac_segment.specs.Reassembled.{Reassembled}
 use Rattle.bac_segment.specs.Desks.{same_key, table_of_key, is_open, held_of, is_full_for, put, closed, AreApart, IsDesk, AreUsed, DeskTakes}
 use Rattle.bac_segment.specs.DeskHistories.{DeskCall, taken, closing, DeskRuns, part_from, part, is_held, AreDistinct, EightOthers, IsDeskAnswer}
 use Rattle.bac_segment.proofs.JudgeLemmas.{kept_where}
-use Rattle.bac_segment.proofs.JoinLemmas.{held_more, cut_gives, cut_answered, good_by}
+use Rattle.bac_segment.proofs.JoinLemmas.{held_more, cut_gives, cut_answered, cut_completed, good_by}
 use Rattle.bac_segment.proofs.DeskLemmas.{key_same, same_self, put_same, put_other, closed_same, closed_other, used_closed, used_takes, desk_takes, desk_closes, open_used}
 
 -- ---- one call
@@ -255,3 +256,16 @@ desk_joined plan octets segments key calls desk fine cut among h =
 pub desk_good : (plan : CutPlan) (octets : List ℕ) (segments : List Delivery) (before after : List DeskCall) (desk : List Reassembled) (peer : ℕ) (s : Delivery) (a : Answer) → cut_fault plan octets ≡ None → IsCutOf plan octets segments → AreAmong segments (part (key_of peer s) before) → IsOneOf segments s → DeskRuns [] (before ++ taken peer s a ∷ after) desk → IsGood a
 desk_good plan octets segments before after desk peer s a fine cut among one h =
     good_by a (answer (held (part (key_of peer s) before)) s) (cut_answered plan octets segments (part (key_of peer s) before) s fine cut among one) (desk_answered before after desk peer s a h).by_table
+
+-- calls behind others
+pub runs_on : (old mid new : List Reassembled) (calls more : List DeskCall) → DeskRuns old calls mid → DeskRuns mid more new → DeskRuns old (calls ++ more) new
+runs_on old mid new [] more h k = subst (λ (d : List Reassembled). DeskRuns d more new) h k
+runs_on old mid new (taken peer s a ∷ calls) more h k = (h.0, (h.1.0, h.1.1, runs_on h.1.0 mid new calls more h.1.2 k))
+runs_on old mid new (closing q was_open ∷ calls) more h k = (h.0, runs_on (closed old q) mid new calls more h.1 k)
+
+-- the last segment of a cut that is answered by what is held
+pub desk_completed : (plan : CutPlan) (octets : List ℕ) (segments : List Delivery) (before after : List DeskCall) (desk : List Reassembled) (peer : ℕ) (s : Delivery) (a : Answer) → cut_fault plan octets ≡ None → IsCutOf plan octets segments
+    → AreAmong segments (part (key_of peer s) before) → IsOneOf segments s → AreAmong (part (key_of peer s) before ++ s ∷ []) segments → (AreAmong (part (key_of peer s) before) segments → ⊥)
+    → DeskRuns [] (before ++ taken peer s a ∷ after) desk → counts a ≡ true → a ≡ Ok Complete
+desk_completed plan octets segments before after desk peer s a fine cut among one all missing h counted =
+    (desk_answered before after desk peer s a h).by_table counted ∙ cut_completed plan octets segments (part (key_of peer s) before) s fine cut among one all missing

@@ -134,3 +134,8 @@ whole_stays old new (call ∷ calls) octets w h =
     let is : is_some (whole old.table) ≡ true = ap (λ (o : Option (List ℕ)). is_some o) w in
     let rest = whole_stays h.0 new calls octets (ap whole (s.table ∙ stays_step old.table call.0 (counts call.1) is) ∙ w) h.2 in
     (rest.0, ((λ c. let t = complete_adds old.table call.0 (sym (s.is_answer.by_table (ap counts c)) ∙ c) in let j : true ≡ false = sym t ∙ no_more old.table call.0 is in cc), rest.1))
+
+-- deliveries behind others
+pub delivers_on : (old mid new : Reassembled) (calls more : List (Delivery × Answer)) → Delivers old calls mid → Delivers mid more new → Delivers old (calls ++ more) new
+delivers_on old mid new [] more h k = subst (λ (r : Reassembled). Delivers r more new) h k
+delivers_on old mid new (call ∷ calls) more h k = (h.0, h.1, delivers_on h.0 mid new calls more h.2 k)

@@ -8,6 +8,7 @@ use Rattle.bac_segment.specs.declared.keys.Key.{Key}
 use Rattle.bac_segment.specs.declared.cutting.CutPlan.{CutPlan}
 use Rattle.bac_segment.specs.declared.cutting.CutFault.{CutFault}
 use Rattle.bac_segment.specs.declared.cutting.CutFault.TheVariants.{Size, Window, TooLong, TooMany}
+use Rattle.bac_segment.specs.declared.faults.Taken.TheVariants.{Complete}
 use Rattle.bac_segment.specs.Deliveries.{Delivery, key_of}
 use Rattle.bac_segment.specs.Tables.{Table, empty_table, whole}
 use Rattle.bac_segment.specs.Taking.{Answer, counts, answer, with_next, held}
@@ -18,6 +19,7 @@ use Rattle.bac_segment.specs.Histories.{Delivers, counted}
 use Rattle.bac_segment.proofs.PieceLemmas.{few}
 use Rattle.bac_segment.proofs.CutLemmas.{IsPiece, ArePiecesOf, IsCut, has_number, HasAll, cut_held, cut_answer}
 use Rattle.bac_segment.proofs.HistoryLemmas.{Stepped, stepped, counted_held}
+use Rattle.bac_segment.proofs.JudgeLemmas.{completes}
 
 few_pieces : (s : List ℕ) (n : ℕ) (ps : List (List ℕ)) → ArePieces s n ps → length s ≤ 256 * n → (length ps ≤ 256) × (0 < length ps)
 few_pieces s n ps (e, inl i) l = let k : length ps ≡ 1 = ap (λ xs. length xs) i in (omega (arith, k), omega (arith, k))
@@ -156,7 +158,7 @@ among_counted segments old new (call ∷ calls) of h =
     by_count true e k rest = (of.0 (k e), rest)
     by_count false e k rest = rest
 
-among_append : (segments l : List Delivery) (s : Delivery) → AreAmong segments l → IsOneOf segments s → AreAmong segments (l ++ s ∷ [])
+pub among_append : (segments l : List Delivery) (s : Delivery) → AreAmong segments l → IsOneOf segments s → AreAmong segments (l ++ s ∷ [])
 among_append segments [] s a b = (b, tt)
 among_append segments (x ∷ l) s a b = (a.0, among_append segments l s a.1 b)
 
@@ -185,3 +187,11 @@ cut_joined plan octets segments key calls r fine cut of h =
 
 pub cut_all_good : (plan : CutPlan) (octets : List ℕ) (segments : List Delivery) (key : Key) (calls : List (Delivery × Answer)) (r : Reassembled) → cut_fault plan octets ≡ None → IsCutOf plan octets segments → AreOf key segments calls → Delivers (opened key) calls r → AllByRecursion (λ c. IsGood c.1) calls
 cut_all_good plan octets segments key calls r fine cut of h = all_good plan octets segments [] (opened key) r calls fine cut tt refl of h
+
+-- ---- the last segment of a cut
+
+pub cut_completed : (plan : CutPlan) (octets : List ℕ) (segments l : List Delivery) (s : Delivery) → cut_fault plan octets ≡ None → IsCutOf plan octets segments → AreAmong segments l → IsOneOf segments s
+    → AreAmong (l ++ s ∷ []) segments → (AreAmong l segments → ⊥) → answer (held l) s ≡ Ok Complete
+cut_completed plan octets segments l s fine cut among one all missing =
+    let now = (cut_gives plan octets segments (l ++ s ∷ []) fine cut (among_append segments l s among one)).0.1 all in
+    completes (held l) s (ap whole (sym (held_more l s)) ∙ now) (λ w. missing ((cut_gives plan octets segments l fine cut among).0.0 w))

@@ -1,5 +1,5 @@
 -- The answer to a segment, where its tests went so.
-use Rattle.std.proofs.Common.{Result, ◌≡◌, inl, inr, Bool, true, false, not, cond, Option, Some, None, Ok, Err, refl, sym, ap, subst, ◌∙◌, ◌&&◌, ◌||◌, eqb}
+use Rattle.std.proofs.Common.{Result, ◌≡◌, ℕ, List, inl, inr, Bool, true, false, not, cond, Option, Some, None, Ok, Err, refl, sym, ap, subst, ◌∙◌, ◌&&◌, ◌||◌, eqb}
 use Rattle.std.specs.Prelude.{is_none, is_some}
 use Rattle.bac_segment.specs.declared.faults.Taken.{Taken}
 use Rattle.bac_segment.specs.declared.faults.Taken.TheVariants.{Repeat, Kept, Complete}
@@ -190,3 +190,22 @@ adds_where m s (inl h) = let j = judged_somehow m s in by_judged j.0 j.1
     by_judged (Ok true) j = j.0
     by_judged (Ok false) j = let a : Answer = Ok Repeat in let b : Answer = Ok Kept in let i : a ≡ b = sym j.1 ∙ h in absurd (let k : Repeat ≡ Kept = cc in cc)
     by_judged (Err f) j = no_ok Kept f (sym h ∙ j.1)
+
+-- what may be added is kept
+pub kept_is : (m : Table) (s : Delivery) → may_add m s ≡ true → answer m s ≡ kept_answer m s
+kept_is m s adds = let judged = judged_somehow m s in by_judgement judged.0 judged.1
+  where
+    by_judgement : (r : Result Bool TakeFault) → Judges m s r → answer m s ≡ kept_answer m s
+    by_judgement (Ok true) j = j.1
+    by_judgement (Ok false) j = absurd (let k : true ≡ false = sym adds ∙ j.0 in cc)
+    by_judgement (Err f) j = absurd (let k : true ≡ false = sym adds ∙ j.0 in cc)
+
+-- with a segment that makes it whole a message is complete
+pub completes : {octets : List ℕ} (m : Table) (s : Delivery) → whole (with_next m s) ≡ Some octets → (whole m ≡ Some octets → ⊥) → answer m s ≡ Ok Complete
+completes {octets} m s all missing = by_add (may_add m s) refl
+  where
+    by_add : (b : Bool) → may_add m s ≡ b → answer m s ≡ Ok Complete
+    by_add true e =
+        let there : whole (with_segment m s) ≡ Some octets = ap (λ (t : Bool). whole (cond t (with_segment m s) m)) (sym e) ∙ all in
+        kept_is m s e ∙ ap (λ (o : Option (List ℕ)). let a : Answer = cond (is_some o) (Ok Complete) (Ok Kept) in a) there
+    by_add false e = absurd (missing (ap (λ (t : Bool). whole (cond t (with_segment m s) m)) (sym e) ∙ all))

@@ -7,7 +7,7 @@ ghost use Rattle.bac_segment.specs.declared.cutting.CutPlan.{CutPlan};
 ghost use Rattle.bac_segment.specs.declared.faults.Taken.TheVariants.{Complete};
 ghost use Rattle.bac_segment.specs.Deliveries.{Delivery, key_of};
 ghost use Rattle.bac_segment.specs.Tables.{Table, whole};
-ghost use Rattle.bac_segment.specs.Taking.{Answer, IsKept, answer, may_add, held};
+ghost use Rattle.bac_segment.specs.Taking.{Answer, IsKept, answer, counts, may_add, held};
 ghost use Rattle.bac_segment.specs.Pieces.{ArePieces, IsCutOf, cut_fault};
 ghost use Rattle.bac_segment.specs.Cuts.{IsOneOf, AreAmong, AreOf, IsGood};
 ghost use Rattle.bac_segment.specs.Reassembled.{Reassembled, opened};
@@ -34,6 +34,11 @@ pub fn what_counts_is_held()
     ensures { (key : Key) (calls : List (Delivery × Answer)) (r : Reassembled) → Delivers (opened key) calls r → (r.key ≡ key) × (r.table ≡ held (counted calls)) }
 {}
 
+/// Deliveries behind others lead on from where those led.
+pub fn deliveries_go_on()
+    ensures { (old mid new : Reassembled) (calls more : List (Delivery × Answer)) → Delivers old calls mid → Delivers mid more new → Delivers old (calls ++ more) new }
+{}
+
 /// Each answer of a reassembly goes by what the segments before it give. It is never `DeskFull`.
 pub fn answers_are_by_what_is_held()
     ensures { (key : Key) (before after : List (Delivery × Answer)) (s : Delivery) (a : Answer) (r : Reassembled) → Delivers (opened key) (before ++ (s, a) ∷ after) r → IsAnswer key (held (counted before)) s a }
@@ -46,11 +51,12 @@ pub fn whole_once()
 
 /// Segments of one cut, in any order, some lost and some repeated, give what was cut exactly where each segment of the
 /// cut is among them, and otherwise nothing. What is held answers each of them with `Kept`, `Repeat` or `Complete`, and
-/// so does a reassembly ([`answers_are_by_what_is_held`]).
+/// so does a reassembly ([`answers_are_by_what_is_held`]). The last missing one is answered with `Complete`.
 pub fn one_cut_gives_what_was_cut()
     ensures joined { (plan : CutPlan) (octets : List ℕ) (segments l : List Delivery) → cut_fault plan octets ≡ None → IsCutOf plan octets segments → AreAmong segments l → (whole (held l) ≡ Some octets) ↔ AreAmong l segments }
     ensures or_none { (plan : CutPlan) (octets : List ℕ) (segments l : List Delivery) → cut_fault plan octets ≡ None → IsCutOf plan octets segments → AreAmong segments l → (whole (held l) ≡ Some octets) ⊎ (whole (held l) ≡ None) }
     ensures answers { (plan : CutPlan) (octets : List ℕ) (segments l : List Delivery) (s : Delivery) → cut_fault plan octets ≡ None → IsCutOf plan octets segments → AreAmong segments l → IsOneOf segments s → IsGood (answer (held l) s) }
+    ensures last { (plan : CutPlan) (octets : List ℕ) (segments l : List Delivery) (s : Delivery) → cut_fault plan octets ≡ None → IsCutOf plan octets segments → AreAmong segments l → IsOneOf segments s → AreAmong (l ++ s ∷ []) segments → (AreAmong l segments → ⊥) → answer (held l) s ≡ Ok Complete }
 {}
 
 /// If all segments of its key come from one cut, a reassembly has what was cut exactly where each segment of the cut
@@ -65,6 +71,11 @@ pub fn what_was_cut_is_joined()
 /// except by `DeskFull` and by want of memory.
 pub fn keys_are_apart()
     ensures { (calls : List DeskCall) (desk : List Reassembled) (key : Key) → DeskRuns [] calls desk → held_of desk key ≡ held (part key calls) }
+{}
+
+/// Calls of a desk behind others lead on from where those led.
+pub fn desk_calls_go_on()
+    ensures { (old mid new : List Reassembled) (calls more : List DeskCall) → DeskRuns old calls mid → DeskRuns mid more new → DeskRuns old (calls ++ more) new }
 {}
 
 /// No key of a desk is open twice, at most eight are open, and something is held of each.
@@ -85,9 +96,10 @@ pub fn closing_tells_what_was_held()
 
 /// If all segments of a key since it was closed come from one cut, a desk has of it what was cut exactly where each
 /// segment of the cut was answered by what was held, and otherwise nothing. Each answer to one more segment of the cut
-/// is a good one.
+/// is a good one, and to the last missing one it is `Complete`, unless memory is refused or eight other keys are open.
 pub fn a_desk_joins_what_was_cut()
     ensures joined { (plan : CutPlan) (octets : List ℕ) (segments : List Delivery) (key : Key) (calls : List DeskCall) (desk : List Reassembled) → cut_fault plan octets ≡ None → IsCutOf plan octets segments → AreAmong segments (part key calls) → DeskRuns [] calls desk → (whole (held_of desk key) ≡ Some octets) ↔ AreAmong (part key calls) segments }
     ensures or_none { (plan : CutPlan) (octets : List ℕ) (segments : List Delivery) (key : Key) (calls : List DeskCall) (desk : List Reassembled) → cut_fault plan octets ≡ None → IsCutOf plan octets segments → AreAmong segments (part key calls) → DeskRuns [] calls desk → (whole (held_of desk key) ≡ Some octets) ⊎ (whole (held_of desk key) ≡ None) }
     ensures answers { (plan : CutPlan) (octets : List ℕ) (segments : List Delivery) (before after : List DeskCall) (desk : List Reassembled) (peer : ℕ) (s : Delivery) (a : Answer) → cut_fault plan octets ≡ None → IsCutOf plan octets segments → AreAmong segments (part (key_of peer s) before) → IsOneOf segments s → DeskRuns [] (before ++ taken peer s a ∷ after) desk → IsGood a }
+    ensures last { (plan : CutPlan) (octets : List ℕ) (segments : List Delivery) (before after : List DeskCall) (desk : List Reassembled) (peer : ℕ) (s : Delivery) (a : Answer) → cut_fault plan octets ≡ None → IsCutOf plan octets segments → AreAmong segments (part (key_of peer s) before) → IsOneOf segments s → AreAmong (part (key_of peer s) before ++ s ∷ []) segments → (AreAmong (part (key_of peer s) before) segments → ⊥) → DeskRuns [] (before ++ taken peer s a ∷ after) desk → counts a ≡ true → a ≡ Ok Complete }
 {}

@@ -1,2 +1,4 @@
 mod WideningLemmas
 pub mod LongHeadLemmas
+mod Same
+mod SameLemmas

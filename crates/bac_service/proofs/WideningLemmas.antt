@@ -1,5 +1,5 @@
 -- Services that were spelled in the former setting are spelled alike.
-use Rattle.std.specs.Prelude.{◌≡◌, ◌≢◌, ℕ, true, false, nat_eq, Option, None, Some, List, [], ◌∷◌, refl}
+use Rattle.std.specs.Prelude.{◌≡◌, ◌≢◌, ◌↔◌, ℕ, true, false, nat_eq, Option, None, Some, List, [], ◌∷◌, refl}
 use Rattle.std.proofs.Common.{◌∙◌, arith}
 use Rattle.std.proofs.lemmas.Bool.Decides.{nat_tests}
 use Rattle.bac_tag.specs.Spelling.{IsLeast, Joined}
@@ -131,7 +131,7 @@ notification_parts : Widens (Joined (Joined (UnsignedField 0) (Joined (ObjectFie
 notification_parts = both (same (Joined (UnsignedField 0) (Joined (ObjectField 1) (ObjectField 2)))) (both (same (UnsignedField 3)) (grouped 4 (items property_value)))
 
 notification : Widens (SpellsNotification 16) (SpellsNotification 32)
-notification = by_fields (λ (n : Notification). ((n.process_identifier, (n.device, n.object)), (n.time_remaining, n.values))) notification_parts
+notification = by_fields (λ (n : Notification). ((n.process, (n.device, n.object)), (n.remaining, n.values))) notification_parts
 
 -- ---- services
 
@@ -162,7 +162,7 @@ same_production Unconfirmed choice other = refl
 same_production ComplexAck choice other = refl
 same_production Error choice other = rw (not_multiple choice other) refl
 
-pub former_spelled : (kind : Kind) (choice : ℕ) (v : ServiceValue) (b : List ℕ) → IsUnchanged kind choice → SpellsService false 16 kind choice v b → SpellsService true 32 kind choice v b
+former_spelled : (kind : Kind) (choice : ℕ) (v : ServiceValue) (b : List ℕ) → IsUnchanged kind choice → SpellsService false 16 kind choice v b → SpellsService true 32 kind choice v b
 former_spelled kind choice v b other s = record {
   kind_is = s.kind_is;
   choice_is = s.choice_is;
@@ -171,14 +171,14 @@ former_spelled kind choice v b other s = record {
   spelled = (said v.production).wider v.said b s.spelled;
 }
 
-pub former_least : (kind : Kind) (choice : ℕ) (v : ServiceValue) (b : List ℕ) → IsUnchanged kind choice → IsLeast (SpellsService false 16 kind choice v) b → IsLeast (SpellsService true 32 kind choice v) b
-former_least kind choice v b other l = record {
-  member = former_spelled kind choice v b other l.member;
-  least = λ c t. l.least c (record {
-    kind_is = t.kind_is;
-    choice_is = t.choice_is;
-    choice_fits = t.choice_fits;
-    production_is = l.member.production_is;
-    spelled = (said v.production).back v.said b c l.member.spelled t.spelled;
-  });
+former_back : (kind : Kind) (choice : ℕ) (v : ServiceValue) (b c : List ℕ) → SpellsService false 16 kind choice v b → SpellsService true 32 kind choice v c → SpellsService false 16 kind choice v c
+former_back kind choice v b c s t = record {
+  kind_is = t.kind_is;
+  choice_is = t.choice_is;
+  choice_fits = t.choice_fits;
+  production_is = s.production_is;
+  spelled = (said v.production).back v.said b c s.spelled t.spelled;
 }
+
+pub former_same : (kind : Kind) (choice : ℕ) (v : ServiceValue) (b c : List ℕ) → IsUnchanged kind choice → SpellsService false 16 kind choice v b → SpellsService false 16 kind choice v c ↔ SpellsService true 32 kind choice v c
+former_same kind choice v b c other s = (former_spelled kind choice v c other, former_back kind choice v b c s)

@@ -5,8 +5,6 @@ use Rattle.bac_value.specs.Numbers.{NumberContents}
 use Rattle.bac_value.specs.Identifier.{Identifier, IsIdentifier, identifier_octets}
 use Rattle.bac_value.specs.BooleanContents.{IsBoolean, boolean_octets}
 use Rattle.bac_value.specs.declared.types.enumeration.Enumerated.{Enumerated}
-use Rattle.bac_value.specs.declared.types.unsigned16.Unsigned16.{Unsigned16}
-use Rattle.bac_value.specs.declared.types.unsigned32.Unsigned32.{Unsigned32}
 use Rattle.bac_service.specs.Fields.{heading, IsField}
 
 -- ---- under a context tag
@@ -16,12 +14,12 @@ abbrev pub ObjectField : ℕ → Identifier → List ℕ → Type 0
 ObjectField number = IsField (heading (Some number) 12) (IsTheList IsIdentifier identifier_octets)
 
 -- Enumerated, below 2^32
-abbrev pub EnumeratedField : ℕ → Enumerated → List ℕ → Type 0
-EnumeratedField number = IsField (heading (Some number) 9) (λ value octets. NumberContents 0 (2 ^ 32 - 1) value.0 octets)
+abbrev pub EnumeratedField : ℕ → ℕ → List ℕ → Type 0
+EnumeratedField number value = IsField (heading (Some number) 9) (λ (v : Enumerated) octets. NumberContents 0 (2 ^ 32 - 1) v.0 octets) (record { 0 = value })
 
 -- Unsigned, below 2^32
-abbrev pub UnsignedField : ℕ → Unsigned32 → List ℕ → Type 0
-UnsignedField number = IsField (heading (Some number) 2) (λ value octets. NumberContents 0 (2 ^ 32 - 1) value.0 octets)
+abbrev pub UnsignedField : ℕ → ℕ → List ℕ → Type 0
+UnsignedField number = IsField (heading (Some number) 2) (λ value octets. NumberContents 0 (2 ^ 32 - 1) value octets)
 
 -- Unsigned, an instance: 0 to 4,194,303
 abbrev pub InstanceField : ℕ → ℕ → List ℕ → Type 0
@@ -42,13 +40,13 @@ abbrev pub ApplicationObject : Identifier → List ℕ → Type 0
 ApplicationObject = IsField (heading None 12) (IsTheList IsIdentifier identifier_octets)
 
 -- Unsigned, below 2^32
-abbrev pub ApplicationUnsigned : Unsigned32 → List ℕ → Type 0
-ApplicationUnsigned = IsField (heading None 2) (λ value octets. NumberContents 0 (2 ^ 32 - 1) value.0 octets)
+abbrev pub ApplicationUnsigned : ℕ → List ℕ → Type 0
+ApplicationUnsigned = IsField (heading None 2) (λ value octets. NumberContents 0 (2 ^ 32 - 1) value octets)
 
 -- Enumerated, below 2^32
-abbrev pub ApplicationEnumerated : Enumerated → List ℕ → Type 0
-ApplicationEnumerated = IsField (heading None 9) (λ value octets. NumberContents 0 (2 ^ 32 - 1) value.0 octets)
+abbrev pub ApplicationEnumerated : ℕ → List ℕ → Type 0
+ApplicationEnumerated value = IsField (heading None 9) (λ (v : Enumerated) octets. NumberContents 0 (2 ^ 32 - 1) v.0 octets) (record { 0 = value })
 
 -- Unsigned, below 2^16
-abbrev pub ApplicationUnsigned16 : Unsigned16 → List ℕ → Type 0
-ApplicationUnsigned16 = IsField (heading None 2) (λ value octets. NumberContents 0 (2 ^ 16 - 1) value.0 octets)
+abbrev pub ApplicationUnsigned16 : ℕ → List ℕ → Type 0
+ApplicationUnsigned16 = IsField (heading None 2) (λ value octets. NumberContents 0 (2 ^ 16 - 1) value octets)

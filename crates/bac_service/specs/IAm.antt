@@ -6,6 +6,6 @@ use Rattle.bac_service.specs.Contents.{ApplicationObject, ApplicationUnsigned, A
 
 abbrev pub SpellsIAm : IAm → List ℕ → Type 0
 SpellsIAm request =
-    Joins (ApplicationObject request.device)
-    (Joins (ApplicationUnsigned request.max_apdu_length)
+    Joins (ApplicationObject request.object)
+    (Joins (ApplicationUnsigned request.apdu)
     (Joins (ApplicationEnumerated request.segmentation) (ApplicationUnsigned16 request.vendor)))

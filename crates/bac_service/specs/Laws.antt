@@ -20,7 +20,6 @@ pub mod Whole
 pub mod Service
 pub mod Viable
 pub mod SubscribeCov
-pub mod Same
 pub mod PropertyResult
 pub mod Decoded
 pub mod Canonical

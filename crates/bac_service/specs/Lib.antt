@@ -26,5 +26,4 @@ pub mod ServiceTable
 pub mod ServiceValues
 pub mod Services
 pub mod Decoded
-pub mod Same
 pub mod Laws

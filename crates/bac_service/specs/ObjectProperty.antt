@@ -2,14 +2,12 @@
 use Rattle.std.specs.Prelude.{ℕ, List, Option}
 use Rattle.bac_tag.specs.Spelling.{Joined}
 use Rattle.bac_value.specs.Identifier.{Identifier}
-use Rattle.bac_value.specs.declared.types.enumeration.Enumerated.{Enumerated}
-use Rattle.bac_value.specs.declared.types.unsigned32.Unsigned32.{Unsigned32}
 use Rattle.bac_service.specs.Contents.{ObjectField, EnumeratedField, UnsignedField}
 use Rattle.bac_service.specs.Productions.{Optional}
 
 -- the object, the property, the index
 abbrev pub ObjectProperty : Type 0
-ObjectProperty = Identifier × (Enumerated × Option Unsigned32)
+ObjectProperty = Identifier × (ℕ × Option ℕ)
 
 abbrev pub SpellsObjectProperty : ObjectProperty → List ℕ → Type 0
 SpellsObjectProperty = Joined (ObjectField 0) (Joined (EnumeratedField 1) (Optional (UnsignedField 2)))

@@ -7,6 +7,6 @@ use Rattle.bac_service.specs.Productions.{Optional}
 
 abbrev pub SpellsSubscribeCov : SubscribeCov → List ℕ → Type 0
 SpellsSubscribeCov request =
-    Joins (UnsignedField 0 request.process_identifier)
+    Joins (UnsignedField 0 request.process)
     (Joins (ObjectField 1 request.object)
     (Joins (Optional (BooleanField 2) request.confirmed) (Optional (UnsignedField 3) request.lifetime)))

@@ -10,7 +10,6 @@ ghost use Rattle.bac_service.specs.Contents.{ApplicationEnumerated};
 ghost use Rattle.bac_service.specs.ErrorCause.{SpellsErrorCause};
 ghost use Rattle.bac_service.specs.PropertyResult.{SpellsReadResult};
 ghost use Rattle.bac_service.specs.ServiceTable.{ServiceProduction, IsUnchanged};
-ghost use Rattle.bac_service.specs.Same.{same_service};
 ghost use Rattle.bac_service.specs.ServiceValues.{ServiceValue, opaque, value_of};
 ghost use Rattle.bac_service.specs.Services.{SpellsBy, SpellsService, IsPlaced};
 
@@ -87,19 +86,21 @@ pub fn canonical_octets_tell_the_service()
 
 /// Returns `a == b`: two services that are spelled are equal exactly where they are the same service.
 pub fn equal_services_are_the_same(a: &Service, b: &Service) -> bool
-    ensures answer { result ≡ same_service a.now b.now }
-    ensures same { (kind other : Kind) (choice another : ℕ) (c d : List ℕ) → SpellsService true 32 kind choice (value_of a.now) c → SpellsService true 32 other another (value_of b.now) d → IsTrue result ↔ (value_of a.now ≡ value_of b.now) }
+    ensures { (kind other : Kind) (choice another : ℕ) (c d : List ℕ) → SpellsService true 32 kind choice (value_of a.now) c → SpellsService true 32 other another (value_of b.now) d → IsTrue result ↔ (value_of a.now ≡ value_of b.now) }
 {
     bac_data::laws::only_open_values_are_spelled();
     a == b
 }
 
 /// Formerly WritePropertyMultiple and its error were opaque, and at most 16 groups nested. Each other service that was
-/// spelled then is still spelled by the same lists, and has the same canonical octets.
+/// spelled then is still spelled by the same lists and no others. It had canonical octets then, and they are the same.
 pub fn former_services_are_kept()
-    ensures spelled { (kind : Kind) (choice : ℕ) (v : ServiceValue) (b : List ℕ) → IsUnchanged kind choice → SpellsService false 16 kind choice v b → SpellsService true 32 kind choice v b }
+    ensures spelled { (kind : Kind) (choice : ℕ) (v : ServiceValue) (b c : List ℕ) → IsUnchanged kind choice → SpellsService false 16 kind choice v b → SpellsService false 16 kind choice v c ↔ SpellsService true 32 kind choice v c }
+    ensures canonical { (kind : Kind) (choice : ℕ) (v : ServiceValue) (b : List ℕ) → IsUnchanged kind choice → SpellsService false 16 kind choice v b → (c : List ℕ) × IsLeast (SpellsService false 16 kind choice v) c }
     ensures least { (kind : Kind) (choice : ℕ) (v : ServiceValue) (b : List ℕ) → IsUnchanged kind choice → IsLeast (SpellsService false 16 kind choice v) b → IsLeast (SpellsService true 32 kind choice v) b }
-{}
+{
+    services_have_canonical_octets();
+}
 
 /// A list begins the result of reading a property (clause 21) exactly where it begins a value, or an error between its
 /// tags.

@@ -22,7 +22,6 @@ mod service_decoding;
 mod service_encoding;
 mod services;
 
-pub use bac_value::{Unsigned16, Unsigned32};
 pub use kind::Kind;
 pub use service::Service;
 pub use service_decoding::{decode_service, decode_service_marked};

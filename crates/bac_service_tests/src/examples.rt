@@ -4,7 +4,6 @@ use bac_service::{
     Kind, Service, WhoIs, append_service, decode_service, decode_service_marked, encode_service,
 };
 use bac_tag::Why;
-use bac_value::Enumerated;
 use std::test::Fail;
 
 // Of README.md.
@@ -18,7 +17,7 @@ fn a_request_is_decoded_and_encoded(rt: HostRuntime) -> Result<(), Fail> {
     };
     assert_eq!(rt; request.object.kind(), 0);
     assert_eq!(rt; request.object.instance(), 5);
-    assert_eq!(rt; request.property, Enumerated(85));
+    assert_eq!(rt; request.property, 85);
     assert_eq!(rt; request.index, None);
     let written = encode_service(rt.alloc(), &service)?;
     assert_eq!(rt; written.as_slice(), octets.as_slice());

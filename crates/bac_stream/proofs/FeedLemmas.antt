@@ -6,9 +6,10 @@ use Rattle.bac_tag.specs.declared.refusals.Refusal.{Refusal}
 use Rattle.bac_tag.specs.declared.refusals.Why.TheVariants.{OutOfMemory, NotCanonical}
 use Rattle.bac_record.specs.Records.{Records, MOST, TooMany, end_of}
 use Rattle.bac_record.proofs.Unique.{unique}
-use Rattle.bac_stream.specs.Judging.{Refuses}
+use Rattle.bac_npdu.specs.Frames.{FrameValue, SpellsFrame, value_of}
+use Rattle.bac_stream.specs.Judging.{IsCanonicalFor, Refuses}
 use Rattle.bac_stream.specs.Feeds.{Feed, Fed, Feeds, IsAnswer, taken_in, items_of, where_ok}
-use Rattle.bac_stream.specs.Intakes.{IntakeValue, Item, IsItem, TakesIn, FeedFails, fresh}
+use Rattle.bac_stream.specs.Intakes.{IntakeValue, Item, IsItem, GivesItsValue, TakesIn, FeedFails, fresh}
 use Rattle.bac_stream.specs.declared.modes.Mode.{Mode}
 use Rattle.bac_stream.specs.declared.modes.Mode.TheVariants.{Tolerant, Strict}
 use Rattle.bac_stream.specs.declared.feed_faults.FeedFault.{FeedFault}
@@ -99,3 +100,19 @@ refuses_no_memory Strict octets refusal (inr refuses) = λ e. let i : NotCanonic
 
 pub no_memory : (mode : Mode) (octets : List ℕ) (refusal : Refusal) → IsItem mode octets (Err refusal) → refusal.why ≢ OutOfMemory
 no_memory mode octets refusal item = refuses_no_memory mode octets refusal item.1
+
+-- feeds behind others
+pub feeds_on : (old mid new : IntakeValue) (feeds more : List Feed) → Feeds old feeds mid → Feeds mid more new → Feeds old (feeds ++ more) new
+feeds_on old mid new [] more h k = subst (λ (i : IntakeValue). Feeds i more new) h k
+feeds_on old mid new (feed ∷ feeds) more h k = (h.0, h.1, feeds_on h.0 mid new feeds more h.2 k)
+
+-- ---- what an item gives
+
+module _ (frames : (f g : FrameValue) (b : List ℕ) → SpellsFrame f b → SpellsFrame g b → f ≡ g) where
+  pub tolerant_gives : (octets : List ℕ) (item : Item) → IsItem Tolerant octets item → GivesItsValue SpellsFrame octets item
+  tolerant_gives octets (Ok frame) is = λ value. (λ s. frames value (value_of frame) octets s is, λ e. subst (λ (f : FrameValue). SpellsFrame f octets) (sym e) is)
+  tolerant_gives octets (Err refusal) is = is.0
+
+  pub strict_gives : (octets : List ℕ) (item : Item) → IsItem Strict octets item → GivesItsValue IsCanonicalFor octets item
+  strict_gives octets (Ok frame) is = λ value. (λ s. frames value (value_of frame) octets s.member is.member, λ e. subst (λ (f : FrameValue). IsCanonicalFor f octets) (sym e) is)
+  strict_gives octets (Err refusal) is = is.0

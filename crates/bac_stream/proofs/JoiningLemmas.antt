@@ -17,32 +17,25 @@ use Rattle.bac_segment.specs.declared.faults.TakeFault.{TakeFault}
 use Rattle.bac_segment.specs.declared.faults.TakeFault.TheVariants as fault
 use Rattle.bac_segment.specs.Deliveries.{Delivery, key_of}
 use Rattle.bac_segment.specs.Tables.{Table, empty_table, whole, with_segment}
-use Rattle.bac_segment.specs.Taking.{Answer, answer, counts, kept_answer, may_add, with_next, Judges}
+use Rattle.bac_segment.specs.Taking.{Answer, answer, counts, kept_answer, may_add, with_next}
 use Rattle.bac_segment.specs.Pieces.{segments_from, IsCutOf, cut_fault}
 use Rattle.bac_segment.specs.Cuts.{IsOneOf, AreAmong, IsGood}
 use Rattle.bac_segment.specs.Reassembled.{Reassembled}
 use Rattle.bac_segment.specs.Desks.{same_key, held_of, DeskTakes}
 use Rattle.bac_segment.specs.DeskHistories as history
 use Rattle.bac_segment.specs.DeskHistories.{DeskCall, DeskRuns, part_from, part}
-use Rattle.bac_segment.proofs.DeskHistoryLemmas.{desk_answered, desk_good, desk_joined}
+use Rattle.bac_segment.proofs.DeskHistoryLemmas.{desk_answered, desk_good, desk_joined, desk_completed}
 use Rattle.bac_segment.proofs.DeskLemmas.{put_same}
-use Rattle.bac_segment.proofs.JudgeLemmas.{complete_adds, judged_somehow}
+use Rattle.bac_segment.proofs.JoinLemmas.{among_append}
+use Rattle.bac_segment.proofs.JudgeLemmas.{complete_adds, kept_is}
 use Rattle.bac_stream.specs.declared.joined.Joined.{Joined}
 use Rattle.bac_stream.specs.declared.joined.Joined.TheVariants.{NotSegment, Kept, Repeat, Message}
 use Rattle.bac_stream.specs.declared.joined.JoinFault.{JoinFault}
 use Rattle.bac_stream.specs.declared.joined.JoinFault.TheVariants.{Take, Content}
-use Rattle.bac_stream.specs.Joining.{IsFromMessage, IsNoMessage, IsJoined, IsGoodJoin, SpellsMessage, kind_of}
+use Rattle.bac_stream.specs.Joining.{IsFromMessage, IsNoMessage, IsJoined, IsGoodJoin, IsLastJoin, SpellsMessage, kind_of}
 use Rattle.bac_stream.proofs.JudgingLemmas.{memory_or_other}
 
 -- ---- a message that is whole
-
-differ : {P : Type 0} (b : Bool) → b ≡ true → b ≡ false → P
-differ b i j = absurd (let k : true ≡ false = sym i ∙ j in cc)
-
-kept_is : (m : Table) (s : Delivery) → may_add m s ≡ true → (r : Result Bool TakeFault) → Judges m s r → answer m s ≡ kept_answer m s
-kept_is m s adds (Ok true) j = j.1
-kept_is m s adds (Ok false) j = differ (may_add m s) adds j.0
-kept_is m s adds (Err f) j = differ (may_add m s) adds j.0
 
 is_there : (o : Option (List ℕ)) → (let a : Answer = cond (is_some o) (Ok taken.Complete) (Ok taken.Kept) in a) ≡ Ok taken.Complete → (octets : List ℕ) × (o ≡ Some octets)
 is_there (Some octets) i = (octets, refl)
@@ -51,8 +44,7 @@ is_there None i = let a : Answer = Ok taken.Kept in let b : Answer = Ok taken.Co
 whole_there : (m : Table) (s : Delivery) → answer m s ≡ Ok taken.Complete → (octets : List ℕ) × (whole (with_next m s) ≡ Some octets)
 whole_there m s h =
     let adds = complete_adds m s h in
-    let judged = judged_somehow m s in
-    let found = is_there (whole (with_segment m s)) (sym (kept_is m s adds judged.0 judged.1) ∙ h) in
+    let found = is_there (whole (with_segment m s)) (sym (kept_is m s adds) ∙ h) in
     (found.0, ap (λ (b : Bool). whole (cond b (with_segment m s) m)) adds ∙ found.1)
 
 -- With the answer Complete the desk has the message.
@@ -77,10 +69,6 @@ no_message s octets refusal kind is refused memory reasons = record {
 }
 
 -- ---- one more segment of a cut
-
-among_append : (segments l : List Delivery) (s : Delivery) → AreAmong segments l → IsOneOf segments s → AreAmong segments (l ++ s ∷ [])
-among_append segments [] s among one = (one, tt)
-among_append segments (x ∷ l) s among one = (among.0, among_append segments l s among.1 one)
 
 part_more : (segments : List Delivery) (key : Key) (l : List Delivery) (calls : List DeskCall) (peer : ℕ) (s : Delivery) (a : Answer) → AreAmong segments (part_from key l calls) → IsOneOf segments s → AreAmong segments (part_from key l (calls ++ history.taken peer s a ∷ []))
 part_more segments key l [] peer s a among one = by_key (same_key (key_of peer s) key && counts a)
@@ -151,3 +139,31 @@ module _ (services : (kind : Kind) (choice : ℕ) (v w : ServiceValue) (b : List
       joined_by s service octets a (whole (held_of desk (key_of peer s))) result spells
       (desk_answered before [] desk peer s a runs).other_key (desk_good plan octets segments before [] desk peer s a fine cut among one runs)
       (desk_joined plan octets segments (key_of peer s) (before ++ history.taken peer s a ∷ []) desk fine cut more runs).1 h
+
+  -- the last missing segment, which is answered with Complete
+  last_by : (s : Delivery) (service : ServiceValue) (a : Answer) (held : Option (List ℕ)) (result : Result Joined JoinFault) → (counts a ≡ true → a ≡ Ok taken.Complete) → IsJoined s a held result → IsGoodJoin service result → IsLastJoin service result
+  last_by s service (Ok taken.Kept) held result complete h good = absurd (let a : Answer = Ok taken.Kept in let b : Answer = Ok taken.Complete in let i : a ≡ b = complete refl in let k : taken.Kept ≡ taken.Complete = cc in cc)
+  last_by s service (Ok taken.Repeat) held result complete h good = absurd (let a : Answer = Ok taken.Repeat in let b : Answer = Ok taken.Complete in let i : a ≡ b = complete refl in let k : taken.Repeat ≡ taken.Complete = cc in cc)
+  last_by s service (Ok taken.Complete) held result complete h good = by_result result h.2 good
+    where
+      by_result : (r : Result Joined JoinFault) → IsFromMessage s h.0 r → IsGoodJoin service r → IsLastJoin service r
+      by_result (Ok (Message found)) m g = g
+      by_result (Ok NotSegment) m g = absurd m
+      by_result (Ok Kept) m g = absurd m
+      by_result (Ok Repeat) m g = absurd m
+      by_result (Err (Take refused)) m g = absurd m
+      by_result (Err (Content refusal)) m g = g
+  last_by s service (Err fault.OutOfMemory) held result complete h good = subst (IsLastJoin service) (sym h) tt
+  last_by s service (Err fault.DeskFull) held result complete h good = subst (IsLastJoin service) (sym h) tt
+  last_by s service (Err fault.OtherKey) held result complete h good = absurd (subst (IsGoodJoin service) h good)
+  last_by s service (Err fault.Conflict) held result complete h good = absurd (subst (IsGoodJoin service) h good)
+  last_by s service (Err fault.PastEnd) held result complete h good = absurd (subst (IsGoodJoin service) h good)
+  last_by s service (Err fault.TooLarge) held result complete h good = absurd (subst (IsGoodJoin service) h good)
+
+  pub joined_last : (plan : CutPlan) (octets : List ℕ) (segments : List Delivery) (service : ServiceValue) (before : List DeskCall) (desk : List Reassembled) (peer : ℕ) (s : Delivery) (a : Answer) (result : Result Joined JoinFault)
+      → cut_fault plan octets ≡ None → IsCutOf plan octets segments → SpellsService true 32 (kind_of plan.head) plan.choice service octets
+      → AreAmong segments (part (key_of peer s) before) → IsOneOf segments s → AreAmong (part (key_of peer s) before ++ s ∷ []) segments → (AreAmong (part (key_of peer s) before) segments → ⊥)
+      → DeskRuns [] (before ++ history.taken peer s a ∷ []) desk → IsJoined s a (whole (held_of desk (key_of peer s))) result → IsLastJoin service result
+  joined_last plan octets segments service before desk peer s a result fine cut spells among one all missing runs joins =
+      last_by s service a (whole (held_of desk (key_of peer s))) result (desk_completed plan octets segments before [] desk peer s a fine cut among one all missing runs) joins
+      (joined_good plan octets segments service before desk peer s a result fine cut spells among one runs joins)

@@ -8,7 +8,9 @@ use Rattle.bac_tag.specs.Octets.{IsMark}
 use Rattle.bac_tag.specs.Laws.Octets.{NoGreater-length}
 use Rattle.bac_tag.specs.Spelling.{IsLeast, HasMark}
 use Rattle.bac_tag.specs.Laws.Spelling.{IsLeast-one, unmarked_least}
+use Rattle.bac_npdu.specs.Heads.{IsVersionPlace, IsAddressPlace}
 use Rattle.bac_npdu.specs.Frames.{FrameValue, SpellsFrame}
+use Rattle.bac_npdu.specs.Decoded.{IsPduTypePlace, IsFrameWindowPlace, IsFrameReason, IsReasoned}
 use Rattle.bac_stream.specs.Judging.{IsCanonicalFor, IsCanonical, Accepts, IsJudged, IsRefused, IsHopeless, Refuses}
 use Rattle.bac_stream.specs.Lines.{IsChecked, said_of}
 use Rattle.bac_record.specs.Deals.{DealFails}
@@ -106,6 +108,11 @@ module _ (frames : (f g : FrameValue) (b : List ℕ) → SpellsFrame f b → Spe
     judged_refused (Err Memory) j = tt
 
 -- ---- reasons
+
+-- what decoding says of the reason of a refusal
+pub reasoned : {octets : List ℕ} {refusal : Refusal} → (refusal.why ≡ Version) ↔ IsVersionPlace octets refusal.place → (refusal.why ≡ Address) ↔ IsAddressPlace octets refusal.place
+    → (refusal.why ≡ PduType) ↔ IsPduTypePlace octets refusal.place → (refusal.why ≡ Window) ↔ IsFrameWindowPlace octets refusal.place → IsFrameReason refusal.why → IsReasoned octets refusal
+reasoned versions addresses types windows reasons = record { of_version = versions; of_address = addresses; of_type = types; of_window = windows; others = reasons }
 
 pub memory_or_other : (why : Why) → (why ≡ OutOfMemory) ⊎ (why ≢ OutOfMemory)
 memory_or_other Short = inr (λ e. cc)

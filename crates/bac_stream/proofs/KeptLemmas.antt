@@ -1,5 +1,5 @@
 -- Files that normalise wrote.
-use Rattle.std.proofs.Common.{◌≡◌, ℕ, ◌+◌, List, [], ◌∷◌, ◌++◌, sym, ap, subst, ◌∙◌}
+use Rattle.std.proofs.Common.{◌≡◌, ℕ, suc, ◌+◌, List, [], ◌∷◌, ◌++◌, length, refl, sym, ap, subst, ◌∙◌}
 use Rattle.std.specs.List.{AllByRecursion}
 use Rattle.bac_tag.specs.Spelling.{IsLeast}
 use Rattle.bac_tag.specs.Laws.Spelling.{IsLeast-one}
@@ -25,15 +25,16 @@ module _ (frames : (f g : FrameValue) (b : List ℕ) → SpellsFrame f b → Spe
       p.4 ∙ ap record_of one
 
   -- the same from any number on
-  record KeptFrom (n : ℕ) (file : List ℕ) : Type 0 where
+  record KeptFrom (n records : ℕ) (file : List ℕ) : Type 0 where
     list : List (List ℕ)
+    count : length list ≡ records
     each : AllByRecursion IsRecord list
     joins : file ≡ joined list
     written : (mode : Mode) → Outputs (NormalisesTo mode) n list file
     alone : (mode : Mode) (output : List ℕ) → Outputs (NormalisesTo mode) n list output → output ≡ file
 
-  kept_from : (mode : Mode) (n : ℕ) (list : List (List ℕ)) (output : List ℕ) → AllByRecursion IsRecord list → Outputs (NormalisesTo mode) n list output → KeptFrom n output
-  kept_from mode n [] output small p = record { list = []; each = tt; joins = p; written = λ m. p; alone = λ m o q. q ∙ sym p }
+  kept_from : (mode : Mode) (n : ℕ) (list : List (List ℕ)) (output : List ℕ) → AllByRecursion IsRecord list → Outputs (NormalisesTo mode) n list output → KeptFrom n (length list) output
+  kept_from mode n [] output small p = record { list = []; count = refl; each = tt; joins = p; written = λ m. p; alone = λ m o q. q ∙ sym p }
   kept_from mode n (octets ∷ list) output small p =
       let line = p.2 in
       let frame = line.0 in
@@ -42,11 +43,12 @@ module _ (frames : (f g : FrameValue) (b : List ℕ) → SpellsFrame f b → Spe
       let first_is : p.0 ≡ record_of c = line.4 in
       record {
         list = c ∷ rest.list;
+        count = ap suc rest.count;
         each = (written_fits frame octets c (accepted_spelled mode frame octets line.2) small.0 line.3, rest.each);
         joins = p.4 ∙ ap (λ (l : List ℕ). l ++ p.1) first_is ∙ ap (λ (l : List ℕ). record_of c ++ l) rest.joins;
         written = λ m. (p.0, p.1, (frame, c, canonical_accepted m frame c line.3, line.3, first_is), rest.written m, p.4);
         alone = λ m o q. q.4 ∙ ap (λ (l : List ℕ). l ++ q.1) (written_again m n frame c q.0 line.3 q.2 ∙ sym first_is) ∙ ap (λ (l : List ℕ). p.0 ++ l) (rest.alone m q.1 q.3) ∙ sym p.4;
       }
 
-  pub kept : (mode : Mode) (list : List (List ℕ)) (output : List ℕ) → AllByRecursion IsRecord list → Outputs (NormalisesTo mode) 1 list output → IsKept output
-  kept mode list output small p = let k = kept_from mode 1 list output small p in record { list = k.list; each = k.each; joins = k.joins; written = k.written; alone = k.alone }
+  pub kept : (mode : Mode) (list : List (List ℕ)) (output : List ℕ) → AllByRecursion IsRecord list → Outputs (NormalisesTo mode) 1 list output → IsKept (length list) output
+  kept mode list output small p = let k = kept_from mode 1 list output small p in record { list = k.list; count = k.count; each = k.each; joins = k.joins; written = k.written; alone = k.alone }

@@ -1,5 +1,5 @@
 -- Streams of records that come in pieces.
-use Rattle.std.specs.Prelude.{◌≡◌, ◌≢◌, ℕ, ◌+◌, ◌-◌, ◌<◌, Option, Some, None, List, [], ◌∷◌, ◌++◌, length, refl, Result, Ok, Err}
+use Rattle.std.specs.Prelude.{◌≡◌, ◌≢◌, ◌↔◌, ℕ, ◌+◌, ◌-◌, ◌<◌, Option, Some, None, List, [], ◌∷◌, ◌++◌, length, refl, Result, Ok, Err}
 use Rattle.std.specs.List.{AllZip}
 use Rattle.std.specs.Coded.{Coded, code_by, coded×, coded_ℕ, coded_list}
 use Rattle.bac_tag.specs.declared.refusals.Refusal.{Refusal}
@@ -38,6 +38,11 @@ Item = Result Frame Refusal
 abbrev pub IsItem : Mode → List ℕ → Item → Type 0
 IsItem mode octets (Ok frame) = Accepts mode (value_of frame) octets
 IsItem mode octets (Err refusal) = IsRefused mode octets × Refuses mode octets refusal
+
+-- The item is the one value of these octets, or a refusal where they have none.
+abbrev pub GivesItsValue : (FrameValue → List ℕ → Type 0) → List ℕ → Item → Type 0
+GivesItsValue Spells octets (Ok frame) = (value : FrameValue) → Spells value octets ↔ (value ≡ value_of frame)
+GivesItsValue Spells octets (Err refusal) = (value : FrameValue) → Spells value octets → ⊥
 
 -- The item is that of a frame with this mark: the frame where the mode accepts it, else that it is not canonical.
 abbrev pub IsItemOf : Mode → FrameValue → Option ℕ → Item → Type 0

@@ -91,3 +91,13 @@ IsGoodJoin service (Err (Take fault.OutOfMemory)) = ⊤
 IsGoodJoin service (Err (Take fault.DeskFull)) = ⊤
 IsGoodJoin service (Err (Take _)) = ⊥
 IsGoodJoin service (Err (Content refusal)) = refusal.why ≡ OutOfMemory
+
+-- the answers to the last missing one of such segments: it completes this service, unless memory is refused or eight other
+-- keys are open
+abbrev pub IsLastJoin : ServiceValue → Result Joined JoinFault → Type 0
+IsLastJoin service (Ok (Message found)) = service_of found ≡ service
+IsLastJoin service (Ok _) = ⊥
+IsLastJoin service (Err (Take fault.OutOfMemory)) = ⊤
+IsLastJoin service (Err (Take fault.DeskFull)) = ⊤
+IsLastJoin service (Err (Take _)) = ⊥
+IsLastJoin service (Err (Content refusal)) = refusal.why ≡ OutOfMemory

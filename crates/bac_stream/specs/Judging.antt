@@ -5,7 +5,7 @@ use Rattle.bac_tag.specs.declared.refusals.Why.TheVariants.{NotCanonical, OutOfM
 use Rattle.bac_tag.specs.Octets.{IsMark}
 use Rattle.bac_tag.specs.Spelling.{IsLeast, HasMark, IsWholeRefusal, IsCanonical as IsCanonicalOf}
 use Rattle.bac_npdu.specs.Frames.{FrameValue, SpellsFrame}
-use Rattle.bac_npdu.specs.Decoded.{IsFrameReason}
+use Rattle.bac_npdu.specs.Decoded.{IsReasoned}
 use Rattle.bac_record.specs.declared.dealing.DealFault.{DealFault}
 use Rattle.bac_record.specs.declared.dealing.DealFault.TheVariants.{Stop, Memory}
 use Rattle.bac_stream.specs.declared.modes.Mode.{Mode}
@@ -28,9 +28,9 @@ Accepts Strict frame octets = IsCanonicalFor frame octets
 abbrev pub IsRefused : Mode → List ℕ → Type 0
 IsRefused mode octets = (frame : FrameValue) → Accepts mode frame octets → ⊥
 
--- The octets spell no frame, and the refusal says where they stop to begin one.
+-- The octets spell no frame, and the refusal says where they stop to begin one, and why.
 abbrev pub IsHopeless : List ℕ → Refusal → Type 0
-IsHopeless octets refusal = IsWholeRefusal SpellsFrame octets refusal × IsFrameReason refusal.why × (refusal.why ≢ OutOfMemory)
+IsHopeless octets refusal = IsWholeRefusal SpellsFrame octets refusal × IsReasoned octets refusal × (refusal.why ≢ OutOfMemory)
 
 -- The octets spell a frame, and the refusal says where they differ from its canonical octets.
 abbrev pub IsNotCanonical : List ℕ → Refusal → Type 0

@@ -1,5 +1,5 @@
 -- The lines of show and check, and the records of normalise.
-use Rattle.std.specs.Prelude.{◌≡◌, ℕ, ◌++◌, ◌↔◌, List, Option, Some, None, Result, Ok, Err, IsTrue, true, false, codes}
+use Rattle.std.specs.Prelude.{◌≡◌, ℕ, ◌++◌, ◌↔◌, List, length, Option, Some, None, Result, Ok, Err, IsTrue, true, false, codes}
 use Rattle.std.specs.Fmt.{decimal}
 use Rattle.bac_tag.specs.Octets.{IsMark}
 use Rattle.bac_tag.specs.Spelling.{HasMark}
@@ -97,9 +97,10 @@ abbrev pub IsRewritten : FrameValue → Option ℕ → List ℕ → List ℕ →
 IsRewritten frame None old new = new ≡ old
 IsRewritten frame (Some place) old new = ((canonical : List ℕ) → IsCanonicalFor frame canonical → IsRecord canonical) → AppendsRecord frame old new
 
--- The octets are records, and in each mode what normalise writes of these are the octets, and nothing else.
-pub record IsKept (file : List ℕ) : Type 0 where
+-- The octets are so many records, and in each mode what normalise writes of these are the octets, and nothing else.
+pub record IsKept (records : ℕ) (file : List ℕ) : Type 0 where
   pub list : List (List ℕ)
+  pub count : length list ≡ records
   pub each : AllByRecursion IsRecord list
   pub joins : file ≡ joined list
   pub written : (mode : Mode) → Outputs (NormalisesTo mode) 1 list file

@@ -8,7 +8,7 @@ use thiserror::Error;
 pub enum FeedFault {
     /// The stream ended inside a record. Only [`crate::Intake::finish`] returns it.
     #[error("truncated")]
-    Truncated,
+    Truncated = 1,
     /// A record has more than 65,535 octets. Its two length octets cannot say so, and no call returns it.
     #[error("too long")]
     RecordTooLong,

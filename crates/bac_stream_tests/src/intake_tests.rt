@@ -126,9 +126,14 @@ fn refused_memory_changes_nothing(rt: HostRuntime) {
     taken.tells(&rt, alloc, "ok, ok, Short at 0, ok, 4", 20);
 }
 
+// As they stand in their enum, from 1 on.
 #[test]
-fn faults_of_an_intake_are_told(rt: HostRuntime) {
+fn faults_of_an_intake_have_numbers_and_texts(rt: HostRuntime) {
     let alloc = rt.alloc();
+    assert_same(&rt, FeedFault::Truncated as u8, 1);
+    assert_same(&rt, FeedFault::RecordTooLong as u8, 2);
+    assert_same(&rt, FeedFault::TooManyFrames as u8, 3);
+    assert_same(&rt, FeedFault::OutOfMemory as u8, 4);
     assert_shown(&rt, alloc, FeedFault::Truncated, "truncated");
     assert_shown(&rt, alloc, FeedFault::RecordTooLong, "too long");
     let text = "more than 1000000 records";

@@ -1,5 +1,7 @@
 //! Runs over texts at work.
 
+ghost use Rattle.std.specs.Prelude.{◌≤◌};
+
 use crate::expectations::{assert_holds, assert_same, assert_same_of, assert_shown};
 use crate::fakes::{Drain, Feed, Interrupted};
 use bac_pack::{PackFault, run_pack};
@@ -88,6 +90,53 @@ fn a_text_stops_at_what_is_not_hexadecimal(rt: HostRuntime) {
     stops(&rt, alloc, b"AB\n\xC3\xA9\n", 2, "00 01 AB");
 }
 
+/// How many octets the writer of the next test has room for.
+const ROOM: usize = 64;
+
+/// How many octets the record of example 1 has.
+const RECORD: usize = 15;
+
+/// The run over the text answers this and writes these records of example 1, or it tells the line that memory was refused
+/// for and writes the records of those in front of it. The writer wants no memory.
+fn packs_or_wants_memory(
+    rt: &impl Abort,
+    alloc: Global,
+    text: &[u8],
+    want: Result<u32, PackFault>,
+    records: &str,
+) {
+    let records = octets_of(records).expect(rt, "octets");
+    let mut taken = [0; ROOM];
+    let mut writer = Counted::new(taken.as_mut_slice());
+    let got = run_pack(alloc, &mut Feed::new(text, usize::MAX), &mut writer);
+    let count = ROOM.saturating_sub(writer.device.len());
+    let (want, end) = match got {
+        Err(PackFault::OutOfMemory(line)) => {
+            let lines = line.saturating_sub(1) as usize;
+            (got, lines.saturating_mul(RECORD))
+        }
+        _ => (want, records.len()),
+    };
+    assert_same_of(rt, got, want, text);
+    assert_same_of(rt, taken.get(..count), records.get(..end), text);
+}
+
+// Example 31, with each allocation refused in turn: its lines alone, and behind two others.
+#[test]
+fn refused_memory_leaves_whole_records(rt: HostRuntime) {
+    let alloc = rt.alloc();
+    let line = b"0104 0005010C 0C00000005 1955";
+    let record = "00 0D 01 04 00 05 01 0C 0C 00 00 00 05 19 55";
+    packs_or_wants_memory(&rt, alloc, line, Ok(1), record);
+    let fault = Err(PackFault::NotHex(1));
+    packs_or_wants_memory(&rt, alloc, b"01 4", fault, "none");
+    let lines = b"0104 0005010C 0C00000005 1955\n0104 0005010C 0C00000005 1955\n01 4";
+    let records =
+        "00 0D 01 04 00 05 01 0C 0C 00 00 00 05 19 55 00 0D 01 04 00 05 01 0C 0C 00 00 00 05 19 55";
+    let fault = Err(PackFault::NotHex(3));
+    packs_or_wants_memory(&rt, alloc, lines, fault, records);
+}
+
 /// So many octets, and then an octet more.
 fn many(rt: &impl Abort, alloc: Global, octet: u8, count: usize, last: u8) -> Vec<u8> {
     let octets = vec![in alloc; octet; count].expect(rt, "memory");
@@ -107,44 +156,34 @@ fn answers(
     written
 }
 
-/// The longest record is written in pieces of this size, and a longer one is told, where this octet stands behind it.
-fn tells_long_records(rt: &impl Abort, alloc: Global, size: usize, last: u8) {
-    let longest = vec![in alloc; 0x77; 65_535].expect(rt, "memory");
-    let record = enclosed(alloc, &[0xFF, 0xFF], &longest, &[], &[]).expect(rt, "memory");
-    let written = answers(
-        rt,
-        alloc,
-        &many(rt, alloc, b'7', 131_070, last),
-        size,
-        Ok(1),
-    );
-    assert_holds(rt, written == record, size);
-    let fault = Err(PackFault::RecordTooLong(1));
-    let written = answers(
-        rt,
-        alloc,
-        &many(rt, alloc, b'7', 131_072, last),
-        size,
-        fault,
-    );
-    assert_same_of(rt, written.len(), 0, size);
-    let fault = Err(PackFault::NotHex(1));
-    answers(
-        rt,
-        alloc,
-        &many(rt, alloc, b'7', 131_073, last),
-        size,
-        fault,
-    );
-    answers(
-        rt,
-        alloc,
-        &many(rt, alloc, b'Z', 131_072, last),
-        size,
-        fault,
-    );
+/// A line of so many digits, and then an octet: the digits of the frame of example 78, and of others of its kind.
+fn digits(rt: &impl Abort, alloc: Global, count: usize, last: u8) -> Vec<u8>
+    requires { 8 ≤ count }
+{
+    let behind = many(rt, alloc, b'A', count - 8, last);
+    enclosed(alloc, b"01001009", &behind, &[], &[]).expect(rt, "memory")
 }
 
+/// The longest record is written in pieces of this size, and a longer one is told, where this octet stands behind it.
+fn tells_long_records(rt: &impl Abort, alloc: Global, size: usize, last: u8) {
+    let octets = vec![in alloc; 0xAA; 65_531].expect(rt, "memory");
+    let front = [0xFF, 0xFF, 0x01, 0x00, 0x10, 0x09];
+    let record = enclosed(alloc, &front, &octets, &[], &[]).expect(rt, "memory");
+    let text = digits(rt, alloc, 131_070, last);
+    let written = answers(rt, alloc, &text, size, Ok(1));
+    assert_holds(rt, written == record, size);
+    let fault = Err(PackFault::RecordTooLong(1));
+    let text = digits(rt, alloc, 131_072, last);
+    let written = answers(rt, alloc, &text, size, fault);
+    assert_same_of(rt, written.len(), 0, size);
+    let fault = Err(PackFault::NotHex(1));
+    let text = digits(rt, alloc, 131_073, last);
+    answers(rt, alloc, &text, size, fault);
+    let text = many(rt, alloc, b'Z', 131_072, last);
+    answers(rt, alloc, &text, size, fault);
+}
+
+// Of example 78 of docs/EXAMPLES.md.
 #[test]
 fn a_record_has_at_most_65_535_octets(rt: HostRuntime) {
     for size in [1, 64, 65_536, usize::MAX] {

@@ -11,7 +11,7 @@ use bac_record::{
     Counted, DealFault, Device, Input, RunFault, StreamFault, Summary, read_record, run,
     write_record,
 };
-use bac_tables::enclosed;
+use bac_tables::{enclosed, mixed};
 use bac_tag::Why;
 use std::alloc::Global;
 use std::io::ErrorKind;
@@ -169,18 +169,26 @@ fn comes_back(rt: &impl Abort, alloc: Global, size: u16, octets: &[u8], record: 
     assert_same_of(rt, reader.device.len(), 0, size);
 }
 
-// Example 78 for records: the longest has 65,535 octets.
+/// A record of so many octets comes back, and without the last one it is cut.
+fn is_kept_whole(rt: &impl Abort, alloc: Global, size: u16) {
+    let octets = mixed(alloc, usize::from(size)).expect(rt, "memory");
+    let length = size.to_be_bytes();
+    let record = enclosed(alloc, &length, &octets, &[], &[]).expect(rt, "memory");
+    comes_back(rt, alloc, size, &octets, &record);
+    let cut = record.len().saturating_sub(1);
+    let mut reader = Counted::new(&record[..cut]);
+    let fault = read_record(alloc, &mut reader).err();
+    assert_same_of(rt, fault, Some(StreamFault::Truncated), size);
+}
+
+// Example 78 for records: the longest has 65,535 octets. Others are spread out below it, 1,285 octets apart.
 #[test]
 fn records_of_each_size_come_back(rt: HostRuntime) {
     for size in SIZES {
-        let octets = octets_of_size(&rt, rt.alloc(), size);
-        let length = size.to_be_bytes();
-        let record = enclosed(rt.alloc(), &length, &octets, &[], &[]).expect(&rt, "memory");
-        comes_back(&rt, rt.alloc(), size, &octets, &record);
-        let cut = record.len().saturating_sub(1);
-        let mut reader = Counted::new(&record[..cut]);
-        let fault = read_record(rt.alloc(), &mut reader).err();
-        assert_same_of(&rt, fault, Some(StreamFault::Truncated), size);
+        is_kept_whole(&rt, rt.alloc(), size);
+    }
+    for number in 0..52u16 {
+        is_kept_whole(&rt, rt.alloc(), 1_285 * number);
     }
 }
 

@@ -4,7 +4,7 @@
 
 pub use crate::appending::append_head;
 pub use crate::expecting::Expected;
-pub use crate::marks::{first_difference, joined_marks, mark_head, mark_read_head};
+pub use crate::marks::{first_difference, joined_marks, mark_read_head};
 pub use crate::numbers::{first_hopeless, number_of, number_within};
 pub use crate::quick_heads::{begins_long, long_length, quick_head};
 pub use crate::reading::{read_expected, read_one_of};

@@ -28,6 +28,7 @@ mod short;
 mod writing;
 
 pub use heads::TagHead;
+pub use marks::mark_head;
 pub use reading::read_head;
 pub use refusals::{OutOfMemory, Refusal, Why};
 pub use writing::{head_len, write_head};

@@ -13,5 +13,5 @@ notification_name _ = codes "UnconfirmedCOVNotification"
 
 abbrev pub notification_text : Kind → Notification → List ℕ
 notification_text kind notification =
-    notification_name kind ++ field " process=" (number notification.process_identifier.0) ++ field " device=" (object_text notification.device)
-    ++ field " object=" (object_text notification.object) ++ field " remaining=" (number notification.time_remaining.0) ++ field " values=" (listed property_value_text notification.values)
+    notification_name kind ++ field " process=" (number notification.process) ++ field " device=" (object_text notification.device)
+    ++ field " object=" (object_text notification.object) ++ field " remaining=" (number notification.remaining) ++ field " values=" (listed property_value_text notification.values)

@@ -5,5 +5,5 @@ use Rattle.bac_text.specs.Words.{number, field, object_text}
 
 abbrev pub i_am_text : IAm → List ℕ
 i_am_text request =
-    field "I-Am object=" (object_text request.device) ++ field " apdu=" (number request.max_apdu_length.0) ++ field " segmentation=" (number request.segmentation.0)
-    ++ field " vendor=" (number request.vendor.0)
+    field "I-Am object=" (object_text request.object) ++ field " apdu=" (number request.apdu) ++ field " segmentation=" (number request.segmentation)
+    ++ field " vendor=" (number request.vendor)

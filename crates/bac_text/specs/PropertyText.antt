@@ -1,7 +1,5 @@
 -- The text of properties, their values, and why they have none.
 use Rattle.std.specs.Prelude.{ℕ, Option, List, ◌++◌, codes}
-use Rattle.bac_value.specs.declared.types.enumeration.Enumerated.{Enumerated}
-use Rattle.bac_value.specs.declared.types.unsigned32.Unsigned32.{Unsigned32}
 use Rattle.bac_service.specs.declared.services.property_reference.PropertyReference.{PropertyReference}
 use Rattle.bac_service.specs.declared.services.property_result.ReadResult.{ReadResult}
 use Rattle.bac_service.specs.declared.services.property_result.ReadResult.TheVariants.{Value, Error}
@@ -11,8 +9,8 @@ use Rattle.bac_text.specs.Words.{number, field, optional}
 use Rattle.bac_text.specs.OpenValueText.{open_text}
 
 -- the number of a property, and the index, where one element is meant
-abbrev pub property_text : Enumerated → Option Unsigned32 → List ℕ
-property_text property index = number property.0 ++ optional " index=" (λ (i : Unsigned32). number i.0) index
+abbrev pub property_text : ℕ → Option ℕ → List ℕ
+property_text property index = number property ++ optional " index=" number index
 
 -- class and code of an error
 abbrev pub cause_text : ℕ → ℕ → List ℕ
@@ -23,7 +21,7 @@ reference_text reference = field "(property=" (property_text reference.property 
 
 abbrev pub read_result_text : ReadResult → List ℕ
 read_result_text (Value value) = field "value=" (open_text value)
-read_result_text (Error cause) = field "error=(class=" (cause_text cause.class.0 cause.code.0) ++ codes ")"
+read_result_text (Error cause) = field "error=(class=" (cause_text cause.class cause.code) ++ codes ")"
 
 abbrev pub property_result_text : PropertyResult → List ℕ
 property_result_text result = field "(property=" (property_text result.property result.index) ++ field " " (read_result_text result.result) ++ codes ")"

@@ -5,4 +5,4 @@ use Rattle.bac_text.specs.Words.{number, field}
 use Rattle.bac_text.specs.PropertyText.{cause_text}
 
 abbrev pub service_error_text : ℕ → ErrorCause → List ℕ
-service_error_text choice cause = field "choice=" (number choice) ++ field " class=" (cause_text cause.class.0 cause.code.0)
+service_error_text choice cause = field "choice=" (number choice) ++ field " class=" (cause_text cause.class cause.code)

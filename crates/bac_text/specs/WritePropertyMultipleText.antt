@@ -14,4 +14,4 @@ write_multiple_text specs = field "WritePropertyMultiple specs=" (listed write_s
 
 abbrev pub write_error_text : WritePropertyMultipleError → List ℕ
 write_error_text error =
-    field "choice=16 class=" (cause_text error.class.0 error.code.0) ++ field " object=" (object_text error.object) ++ field " property=" (property_text error.property error.index)
+    field "choice=16 class=" (cause_text error.class error.code) ++ field " object=" (object_text error.object) ++ field " property=" (property_text error.property error.index)

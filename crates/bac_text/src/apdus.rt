@@ -1,6 +1,8 @@
 //! The text of APDUs.
 
-use crate::texts::{HasText, write_short};
+use crate::pdus::answers::{write_abort, write_reject, write_simple_ack};
+use crate::pdus::segments::write_segment_ack;
+use crate::texts::HasText;
 use bac_apdu::Apdu;
 use bac_tag::OutOfMemory;
 
@@ -14,12 +16,22 @@ impl HasText for Apdu {
         match self {
             Apdu::Confirmed(request) => request.write_text(out, at),
             Apdu::Unconfirmed(request) => request.write_text(out, at),
-            Apdu::SimpleAck(ack) => write_short(out, at, ack),
+            Apdu::SimpleAck { invoke, choice } => write_simple_ack(out, at, *invoke, *choice),
             Apdu::ComplexAck(ack) => ack.write_text(out, at),
-            Apdu::SegmentAck(ack) => write_short(out, at, ack),
+            Apdu::SegmentAck {
+                invoke,
+                nak,
+                srv,
+                seq,
+                window,
+            } => write_segment_ack(out, at, *invoke, *nak, *srv, *seq, *window),
             Apdu::Error(answer) => answer.write_text(out, at),
-            Apdu::Reject(answer) => write_short(out, at, answer),
-            Apdu::Abort(answer) => write_short(out, at, answer),
+            Apdu::Reject { invoke, reason } => write_reject(out, at, *invoke, *reason),
+            Apdu::Abort {
+                invoke,
+                srv,
+                reason,
+            } => write_abort(out, at, *invoke, *srv, *reason),
             Apdu::Segment(segment) => segment.write_text(out, at),
         }
     }

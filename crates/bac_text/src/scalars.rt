@@ -7,7 +7,7 @@ ghost use Rattle.bac_record.specs.Digits.{hexadecimal};
 use crate::texts::{HasShortText, HasText, ROOM, put_field, write_short, write_word};
 use bac_record::layers::{make_room, put_decimal, put_hexadecimal, put_word};
 use bac_tag::OutOfMemory;
-use bac_value::{Enumerated, Instance, ObjectId, Priority, Unsigned16, Unsigned32};
+use bac_value::{Enumerated, Instance, ObjectId, Priority};
 
 /// Writes two digits for each octet.
 #[inline]
@@ -137,32 +137,6 @@ impl HasShortText for bool {
     fn put_text(&self, room: &mut [u8], at: usize) -> usize {
         room[at] = if *self { b'1' } else { b'0' };
         at + 1
-    }
-}
-
-impl HasShortText for Unsigned16 {
-    ghost use Rattle.bac_text.specs.Words.{number};
-
-    ghost text = { λ value. number value.0 };
-
-    ghost most = { 10 };
-
-    #[inline(always)]
-    fn put_text(&self, room: &mut [u8], at: usize) -> usize {
-        put_decimal(room, at, u64::from(self.0))
-    }
-}
-
-impl HasShortText for Unsigned32 {
-    ghost use Rattle.bac_text.specs.Words.{number};
-
-    ghost text = { λ value. number value.0 };
-
-    ghost most = { 10 };
-
-    #[inline(always)]
-    fn put_text(&self, room: &mut [u8], at: usize) -> usize {
-        put_decimal(room, at, u64::from(self.0))
     }
 }
 

@@ -64,6 +64,4 @@ pub use types::real::RealBits;
 pub use types::signed_integer::Signed;
 pub use types::time_value::Time;
 pub use types::unsigned_integer::Unsigned;
-pub use types::unsigned16::Unsigned16;
-pub use types::unsigned32::Unsigned32;
 pub use value_faults::{RangeFault, ValueFault};

@@ -2,10 +2,10 @@
 
 use crate::faults::RowFault;
 use bac_tag::layers::{
-    begins_long, is_short_closing, is_short_opening, long_length, mark_head, mark_read_head,
-    quick_head, short_boolean, short_len,
+    begins_long, is_short_closing, is_short_opening, long_length, mark_read_head, quick_head,
+    short_boolean, short_len,
 };
-use bac_tag::{TagHead, head_len, read_head, write_head};
+use bac_tag::{TagHead, head_len, mark_head, read_head, write_head};
 use std::alloc::{AllocError, Global};
 
 /// Returns what the head at the front of octets is, how many octets it takes, and where they differ from its least ones:

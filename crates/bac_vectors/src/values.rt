@@ -5,9 +5,10 @@ ghost use Rattle.std.specs.Prelude.{◌≤◌, length};
 use crate::faults::RowFault;
 use crate::told::Told;
 use bac_tag::OutOfMemory;
+use bac_value::layers::{Unsigned16, Unsigned32};
 use bac_value::{
     Bits, Boolean, Date, DoubleBits, Enumerated, Instance, Null, ObjectId, Octets, Prim, PrimRef,
-    Primitive, Priority, RealBits, Signed, Text, Time, Unsigned, Unsigned16, Unsigned32,
+    Primitive, Priority, RealBits, Signed, Text, Time, Unsigned,
 };
 use std::alloc::Global;
 

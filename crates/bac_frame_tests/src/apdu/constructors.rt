@@ -67,13 +67,19 @@ fn parts_are_those_of_the_octets(rt: HostRuntime) {
     assert_same(&rt, (segment.more, segment.choice), (false, 0x0C));
     let piece = segment.piece.as_slice();
     assert_same(&rt, piece, [0xAA, 0xBB].as_slice());
-    let Apdu::SegmentAck(ack) = apdu_of(&rt, alloc, &[0x42, 1, 2, 3]) else {
+    let Apdu::SegmentAck {
+        invoke,
+        nak,
+        srv,
+        seq,
+        window,
+    } = apdu_of(&rt, alloc, &[0x42, 1, 2, 3])
+    else {
         panic!(rt; "no SegmentACK")
     };
-    let found = (ack.invoke, ack.nak, ack.srv, ack.seq);
-    assert_same(&rt, found, (1, true, false, 2));
-    assert_same(&rt, Some(ack.window), Window::new(3));
-    assert_holds(&rt, Some(ack.window) < Window::new(4), "the order");
+    assert_same(&rt, (invoke, nak, srv, seq), (1, true, false, 2));
+    assert_same(&rt, Some(window), Window::new(3));
+    assert_holds(&rt, Some(window) < Window::new(4), "the order");
 }
 
 /// The two are not equal.

@@ -1,6 +1,7 @@
 -- Each struct is its parts, and is spelled as they are.
-use Rattle.std.specs.Prelude.{ℕ, refl}
-use Rattle.bac_service.specs.ObjectProperty.{SpellsObjectProperty}
+use Rattle.std.specs.Prelude.{ℕ, List, Option, refl}
+use Rattle.bac_value.specs.Identifier.{Identifier}
+use Rattle.bac_value.specs.declared.types.enumeration.Enumerated.{Enumerated}
 use Rattle.bac_service.specs.Productions.{IsRecordOf, Optional, Items, Grouped}
 use Rattle.bac_service.specs.ReadProperty.{SpellsReadProperty}
 use Rattle.bac_tag.specs.Spelling.{Joined}
@@ -20,46 +21,60 @@ use Rattle.bac_service.specs.CovNotification.{SpellsNotification}
 use Rattle.bac_service.specs.WhoIs.{SpellsWhoIs}
 use Rattle.bac_service.specs.IAm.{SpellsIAm}
 
-pub read_property_parts : IsRecordOf SpellsObjectProperty SpellsReadProperty
+-- an Enumerated, seen as the number in it
+abbrev pub EnumeratedPart : ℕ → Enumerated → List ℕ → Type 0
+EnumeratedPart number value = EnumeratedField number value.0
+
+abbrev pub ApplicationEnumeratedPart : Enumerated → List ℕ → Type 0
+ApplicationEnumeratedPart value = ApplicationEnumerated value.0
+
+abbrev pub of_number : ℕ → Enumerated
+of_number number = record { 0 = number }
+
+-- the parts of a reference to a property of an object
+abbrev pub ObjectPropertyParts : Identifier × (Enumerated × Option ℕ) → List ℕ → Type 0
+ObjectPropertyParts = Joined (ObjectField 0) (Joined (EnumeratedPart 1) (Optional (UnsignedField 2)))
+
+pub read_property_parts : IsRecordOf ObjectPropertyParts SpellsReadProperty
 read_property_parts = record {
-  fields = λ r. (r.object, (r.property, r.index));
-  of_fields = λ p. record { object = p.0; property = p.1.0; index = p.1.1 };
+  fields = λ r. (r.object, (of_number r.property, r.index));
+  of_fields = λ p. record { object = p.0; property = p.1.0.0; index = p.1.1 };
   same = λ r. refl;
   split = λ r b s. s;
   joined = λ p b s. s;
 }
 
-unfoldable pub read_property_ack_parts : (groups : ℕ) → IsRecordOf (Joined SpellsObjectProperty (SpellsOpen groups 3)) (SpellsReadPropertyAck groups)
+unfoldable pub read_property_ack_parts : (groups : ℕ) → IsRecordOf (Joined ObjectPropertyParts (SpellsOpen groups 3)) (SpellsReadPropertyAck groups)
 read_property_ack_parts groups = record {
-  fields = λ a. ((a.object, (a.property, a.index)), a.value);
-  of_fields = λ p. record { object = p.0.0; property = p.0.1.0; index = p.0.1.1; value = p.1 };
+  fields = λ a. ((a.object, (of_number a.property, a.index)), a.value);
+  of_fields = λ p. record { object = p.0.0; property = p.0.1.0.0; index = p.0.1.1; value = p.1 };
   same = λ a. refl;
   split = λ a b s. s;
   joined = λ p b s. s;
 }
 
-unfoldable pub write_property_parts : (groups : ℕ) → IsRecordOf (Joined SpellsObjectProperty (Joined (SpellsOpen groups 3) (Optional (PriorityField 4)))) (SpellsWriteProperty groups)
+unfoldable pub write_property_parts : (groups : ℕ) → IsRecordOf (Joined ObjectPropertyParts (Joined (SpellsOpen groups 3) (Optional (PriorityField 4)))) (SpellsWriteProperty groups)
 write_property_parts groups = record {
-  fields = λ r. ((r.object, (r.property, r.index)), (r.value, r.priority));
-  of_fields = λ p. record { object = p.0.0; property = p.0.1.0; index = p.0.1.1; value = p.1.0; priority = p.1.1 };
+  fields = λ r. ((r.object, (of_number r.property, r.index)), (r.value, r.priority));
+  of_fields = λ p. record { object = p.0.0; property = p.0.1.0.0; index = p.0.1.1; value = p.1.0; priority = p.1.1 };
   same = λ r. refl;
   split = λ r b s. s;
   joined = λ p b s. s;
 }
 
-pub property_reference_parts : IsRecordOf (Joined (EnumeratedField 0) (Optional (UnsignedField 1))) SpellsPropertyReference
+pub property_reference_parts : IsRecordOf (Joined (EnumeratedPart 0) (Optional (UnsignedField 1))) SpellsPropertyReference
 property_reference_parts = record {
-  fields = λ r. (r.property, r.index);
-  of_fields = λ p. record { property = p.0; index = p.1 };
+  fields = λ r. (of_number r.property, r.index);
+  of_fields = λ p. record { property = p.0.0; index = p.1 };
   same = λ r. refl;
   split = λ r b s. s;
   joined = λ p b s. s;
 }
 
-unfoldable pub property_value_parts : (groups : ℕ) → IsRecordOf (Joined (EnumeratedField 0) (Joined (Optional (UnsignedField 1)) (Joined (SpellsOpen groups 2) (Optional (PriorityField 3))))) (SpellsPropertyValue groups)
+unfoldable pub property_value_parts : (groups : ℕ) → IsRecordOf (Joined (EnumeratedPart 0) (Joined (Optional (UnsignedField 1)) (Joined (SpellsOpen groups 2) (Optional (PriorityField 3))))) (SpellsPropertyValue groups)
 property_value_parts groups = record {
-  fields = λ v. (v.property, (v.index, (v.value, v.priority)));
-  of_fields = λ p. record { property = p.0; index = p.1.0; value = p.1.1.0; priority = p.1.1.1 };
+  fields = λ v. (of_number v.property, (v.index, (v.value, v.priority)));
+  of_fields = λ p. record { property = p.0.0; index = p.1.0; value = p.1.1.0; priority = p.1.1.1 };
   same = λ v. refl;
   split = λ v b s. s;
   joined = λ p b s. s;
@@ -92,10 +107,10 @@ write_specification_parts groups = record {
   joined = λ p b h. h;
 }
 
-pub write_error_parts : IsRecordOf (Joined (Grouped 0 SpellsErrorCause) (Grouped 1 SpellsObjectProperty)) SpellsWriteError
+pub write_error_parts : IsRecordOf (Joined (Grouped 0 SpellsErrorCause) (Grouped 1 ObjectPropertyParts)) SpellsWriteError
 write_error_parts = record {
-  fields = λ e. (record { class = e.class; code = e.code }, (e.object, (e.property, e.index)));
-  of_fields = λ p. record { class = p.0.class; code = p.0.code; object = p.1.0; property = p.1.1.0; index = p.1.1.1 };
+  fields = λ e. (record { class = e.class; code = e.code }, (e.object, (of_number e.property, e.index)));
+  of_fields = λ p. record { class = p.0.class; code = p.0.code; object = p.1.0; property = p.1.1.0.0; index = p.1.1.1 };
   same = λ e. refl;
   split = λ e b s. s;
   joined = λ p b s. s;
@@ -103,8 +118,8 @@ write_error_parts = record {
 
 unfoldable pub notification_parts : (groups : ℕ) → IsRecordOf (Joined (Joined (UnsignedField 0) (Joined (ObjectField 1) (ObjectField 2))) (Joined (UnsignedField 3) (Grouped 4 (Items (SpellsPropertyValue groups))))) (SpellsNotification groups)
 notification_parts groups = record {
-  fields = λ n. ((n.process_identifier, (n.device, n.object)), (n.time_remaining, n.values));
-  of_fields = λ p. record { process_identifier = p.0.0; device = p.0.1.0; object = p.0.1.1; time_remaining = p.1.0; values = p.1.1 };
+  fields = λ n. ((n.process, (n.device, n.object)), (n.remaining, n.values));
+  of_fields = λ p. record { process = p.0.0; device = p.0.1.0; object = p.0.1.1; remaining = p.1.0; values = p.1.1 };
   same = λ n. refl;
   split = λ n b s. s;
   joined = λ p b s. s;
@@ -119,19 +134,19 @@ who_is_parts = record {
   joined = λ p b s. s;
 }
 
-pub i_am_parts : IsRecordOf (Joined ApplicationObject (Joined ApplicationUnsigned (Joined ApplicationEnumerated ApplicationUnsigned16))) SpellsIAm
+pub i_am_parts : IsRecordOf (Joined ApplicationObject (Joined ApplicationUnsigned (Joined ApplicationEnumeratedPart ApplicationUnsigned16))) SpellsIAm
 i_am_parts = record {
-  fields = λ r. (r.device, (r.max_apdu_length, (r.segmentation, r.vendor)));
-  of_fields = λ p. record { device = p.0; max_apdu_length = p.1.0; segmentation = p.1.1.0; vendor = p.1.1.1 };
+  fields = λ r. (r.object, (r.apdu, (of_number r.segmentation, r.vendor)));
+  of_fields = λ p. record { object = p.0; apdu = p.1.0; segmentation = p.1.1.0.0; vendor = p.1.1.1 };
   same = λ r. refl;
   split = λ r b s. s;
   joined = λ p b s. s;
 }
 
-pub error_cause_parts : IsRecordOf (Joined ApplicationEnumerated ApplicationEnumerated) SpellsErrorCause
+pub error_cause_parts : IsRecordOf (Joined ApplicationEnumeratedPart ApplicationEnumeratedPart) SpellsErrorCause
 error_cause_parts = record {
-  fields = λ cause. (cause.class, cause.code);
-  of_fields = λ p. record { class = p.0; code = p.1 };
+  fields = λ cause. (of_number cause.class, of_number cause.code);
+  of_fields = λ p. record { class = p.0.0; code = p.1.0 };
   same = λ cause. refl;
   split = λ cause b s. s;
   joined = λ p b s. s;

@@ -5,13 +5,13 @@ use Rattle.bac_tag.specs.Spelling.{OneOf, Joins, Joined}
 use Rattle.bac_data.specs.OpenValue.{Elements}
 use Rattle.bac_data.specs.Spells.{SpellsOpen}
 use Rattle.bac_value.specs.declared.types.enumeration.Enumerated.{Enumerated}
-use Rattle.bac_value.specs.declared.types.unsigned32.Unsigned32.{Unsigned32}
 use Rattle.bac_service.specs.declared.services.error_cause.ErrorCause.{ErrorCause}
 use Rattle.bac_service.specs.declared.services.property_result.ReadResult.{ReadResult}
 use Rattle.bac_service.specs.declared.services.property_result.ReadResult.TheVariants.{Value, Error}
 use Rattle.bac_service.specs.declared.services.property_result.PropertyResult.{PropertyResult}
 use Rattle.bac_service.specs.Contents.{EnumeratedField, UnsignedField}
 use Rattle.bac_service.specs.ErrorCause.{SpellsErrorCause}
+use Rattle.bac_service.specs.Laws.Parts.{EnumeratedPart, of_number}
 use Rattle.bac_service.specs.Productions.{Optional, Grouped, IsRecordOf}
 use Rattle.bac_service.specs.PropertyResult.{SpellsReadResult, SpellsPropertyResult, read_result_of}
 
@@ -33,19 +33,19 @@ once : (r : ReadResult) → read_result_of (choice_of r) ≡ r
 once (Value value) = refl
 once (Error cause) = refl
 
-abbrev pub property_result_of : Enumerated × (Option Unsigned32 × (Elements ⊎ ErrorCause)) → PropertyResult
-property_result_of p = record { property = p.0; index = p.1.0; result = read_result_of p.1.1 }
+abbrev pub property_result_of : Enumerated × (Option ℕ × (Elements ⊎ ErrorCause)) → PropertyResult
+property_result_of p = record { property = p.0.0; index = p.1.0; result = read_result_of p.1.1 }
 
-pub property_result_alike : (groups : ℕ) (p : Enumerated × (Option Unsigned32 × (Elements ⊎ ErrorCause))) (b : List ℕ)
-    → Joined (EnumeratedField 2) (Joined (Optional (UnsignedField 3)) (OneOf (SpellsOpen groups 4) (Grouped 5 SpellsErrorCause))) p b ↔ SpellsPropertyResult groups (property_result_of p) b
+pub property_result_alike : (groups : ℕ) (p : Enumerated × (Option ℕ × (Elements ⊎ ErrorCause))) (b : List ℕ)
+    → Joined (EnumeratedPart 2) (Joined (Optional (UnsignedField 3)) (OneOf (SpellsOpen groups 4) (Grouped 5 SpellsErrorCause))) p b ↔ SpellsPropertyResult groups (property_result_of p) b
 property_result_alike groups p b = (
-  λ s. subst (λ (P : List ℕ → Type 0). Joins (EnumeratedField 2 p.0) (Joins (Optional (UnsignedField 3) p.1.0) P) b) (told groups p.1.1) s,
-  λ s. subst (λ (P : List ℕ → Type 0). Joins (EnumeratedField 2 p.0) (Joins (Optional (UnsignedField 3) p.1.0) P) b) (sym (told groups p.1.1)) s,
+  λ s. subst (λ (P : List ℕ → Type 0). Joins (EnumeratedField 2 p.0.0) (Joins (Optional (UnsignedField 3) p.1.0) P) b) (told groups p.1.1) s,
+  λ s. subst (λ (P : List ℕ → Type 0). Joins (EnumeratedField 2 p.0.0) (Joins (Optional (UnsignedField 3) p.1.0) P) b) (sym (told groups p.1.1)) s,
 )
 
-pub property_result_parts : (groups : ℕ) → IsRecordOf (Joined (EnumeratedField 2) (Joined (Optional (UnsignedField 3)) (OneOf (SpellsOpen groups 4) (Grouped 5 SpellsErrorCause)))) (SpellsPropertyResult groups)
+pub property_result_parts : (groups : ℕ) → IsRecordOf (Joined (EnumeratedPart 2) (Joined (Optional (UnsignedField 3)) (OneOf (SpellsOpen groups 4) (Grouped 5 SpellsErrorCause)))) (SpellsPropertyResult groups)
 property_result_parts groups = record {
-  fields = λ r. (r.property, (r.index, choice_of r.result));
+  fields = λ r. (of_number r.property, (r.index, choice_of r.result));
   of_fields = property_result_of;
   same = λ r. ap (λ (x : ReadResult). record { property = r.property; index = r.index; result = x }) (once r.result);
   split = λ r b s. subst (λ (P : List ℕ → Type 0). Joins (EnumeratedField 2 r.property) (Joins (Optional (UnsignedField 3) r.index) P) b) (chosen groups r.result) s;

@@ -5,7 +5,6 @@ use Rattle.std.proofs.Common.{ap, subst}
 use Rattle.bac_tag.specs.Spelling.{Joins, Joined, AppendsLeast}
 use Rattle.bac_value.specs.Identifier.{Identifier}
 use Rattle.bac_value.specs.declared.types.boolean_value.Boolean.{Boolean}
-use Rattle.bac_value.specs.declared.types.unsigned32.Unsigned32.{Unsigned32}
 use Rattle.bac_service.specs.declared.services.subscribe_cov.SubscribeCov.{SubscribeCov}
 use Rattle.bac_service.specs.Contents.{UnsignedField, ObjectField, BooleanField}
 use Rattle.bac_service.specs.Productions.{Optional, IsRecordOf}
@@ -50,27 +49,27 @@ third b f j = record {
   octets = j.octets;
 }
 
-abbrev pub SubscribeCovParts : Unsigned32 × (Identifier × (Option Boolean × Option Unsigned32)) → List ℕ → Type 0
+abbrev pub SubscribeCovParts : ℕ × (Identifier × (Option Boolean × Option ℕ)) → List ℕ → Type 0
 SubscribeCovParts = Joined (UnsignedField 0) (Joined (ObjectField 1) (Joined (Optional BitField) (Optional (UnsignedField 3))))
 
-abbrev pub subscribe_cov_of : Unsigned32 × (Identifier × (Option Boolean × Option Unsigned32)) → SubscribeCov
-subscribe_cov_of p = record { process_identifier = p.0; object = p.1.0; confirmed = option_map bit_of p.1.1.0; lifetime = p.1.1.1 }
+abbrev pub subscribe_cov_of : ℕ × (Identifier × (Option Boolean × Option ℕ)) → SubscribeCov
+subscribe_cov_of p = record { process = p.0; object = p.1.0; confirmed = option_map bit_of p.1.1.0; lifetime = p.1.1.1 }
 
-pub subscribe_cov_alike : (p : Unsigned32 × (Identifier × (Option Boolean × Option Unsigned32))) (b : List ℕ) → SubscribeCovParts p b ↔ SpellsSubscribeCov (subscribe_cov_of p) b
+pub subscribe_cov_alike : (p : ℕ × (Identifier × (Option Boolean × Option ℕ))) (b : List ℕ) → SubscribeCovParts p b ↔ SpellsSubscribeCov (subscribe_cov_of p) b
 subscribe_cov_alike p b = (third b (λ c. (bits_alike p.1.1.0 c).0), third b (λ c. (bits_alike p.1.1.0 c).1))
 
 pub subscribe_cov_parts : IsRecordOf SubscribeCovParts SpellsSubscribeCov
 subscribe_cov_parts = record {
-  fields = λ r. (r.process_identifier, (r.object, (option_map boolean_of r.confirmed, r.lifetime)));
+  fields = λ r. (r.process, (r.object, (option_map boolean_of r.confirmed, r.lifetime)));
   of_fields = subscribe_cov_of;
-  same = λ r. ap (λ (c : Option Bool). let s : SubscribeCov = record { process_identifier = r.process_identifier; object = r.object; confirmed = c; lifetime = r.lifetime } in s) (bits_back r.confirmed);
+  same = λ r. ap (λ (c : Option Bool). let s : SubscribeCov = record { process = r.process; object = r.object; confirmed = c; lifetime = r.lifetime } in s) (bits_back r.confirmed);
   split = λ r b. third b (λ c. (booleans_alike r.confirmed c).1);
   joined = λ p b. (subscribe_cov_alike p b).0;
 }
 
 -- its fields are appended with a Boolean for the bit
 pub appends_subscribe_cov : {a b : List ℕ} (r : SubscribeCov) (confirmed : Option Boolean) → option_map bit_of confirmed ≡ r.confirmed
-    → AppendsLeast (SubscribeCovParts (r.process_identifier, (r.object, (confirmed, r.lifetime)))) a b → AppendsLeast (SpellsSubscribeCov r) a b
+    → AppendsLeast (SubscribeCovParts (r.process, (r.object, (confirmed, r.lifetime)))) a b → AppendsLeast (SpellsSubscribeCov r) a b
 appends_subscribe_cov {a} {b} r confirmed e written =
-    subst (λ (c : Option Bool). AppendsLeast (SpellsSubscribeCov (record { process_identifier = r.process_identifier; object = r.object; confirmed = c; lifetime = r.lifetime })) a b) e
-    (appends_alike (subscribe_cov_alike (r.process_identifier, (r.object, (confirmed, r.lifetime)))) written)
+    subst (λ (c : Option Bool). AppendsLeast (SpellsSubscribeCov (record { process = r.process; object = r.object; confirmed = c; lifetime = r.lifetime })) a b) e
+    (appends_alike (subscribe_cov_alike (r.process, (r.object, (confirmed, r.lifetime)))) written)

@@ -10,6 +10,7 @@ ghost use Rattle.bac_service.specs.Laws.HasLeast.{option_least};
 use crate::production::field::Field;
 use crate::production::{Front, Production, ReadFault, Spelling};
 use bac_tag::OutOfMemory;
+use bac_value::layers::Unsigned32;
 use bac_value::{Boolean, Primitive};
 use std::alloc::Global;
 
@@ -94,6 +95,22 @@ pub(crate) fn under<T: Primitive, const N: u8>(value: Option<T>) -> Option<Field
     ensures { option_map (λ field. field.0) result ≡ value }
 {
     Some(Field(value?))
+}
+
+/// Returns the number of a field that may be absent.
+#[inline(always)]
+pub(crate) fn bare_number<const N: u8>(field: Option<Field<Unsigned32, N>>) -> Option<u32>
+    ensures { result ≡ option_map (λ field. field.0) field.entry }
+{
+    Some(field?.0.number())
+}
+
+/// Returns the field of a number that may be absent.
+#[inline(always)]
+pub(crate) fn number_under<const N: u8>(number: Option<u32>) -> Option<Field<Unsigned32, N>>
+    ensures { option_map (λ field. field.0) result ≡ number }
+{
+    Some(Field(Unsigned32::new(number?)))
 }
 
 /// Returns the bit of a Boolean that may be absent.

@@ -9,7 +9,8 @@ use crate::production::group::{Group, write_group};
 use crate::production::record::Record;
 use crate::services::property_value::PropertyValue;
 use bac_tag::OutOfMemory;
-use bac_value::{ObjectId, Unsigned32};
+use bac_value::ObjectId;
+use bac_value::layers::Unsigned32;
 
 /// The values of an object that changed.
 ///
@@ -19,14 +20,14 @@ use bac_value::{ObjectId, Unsigned32};
 pub struct CovNotification {
     /// Whether it is a ConfirmedCOVNotification, which wants an answer, or an UnconfirmedCOVNotification.
     pub confirmed: bool,
-    /// The number of the subscriber's process.
-    pub process_identifier: Unsigned32,
-    /// The device that sends the notification.
+    /// The number of the subscriber's process (subscriberProcessIdentifier).
+    pub process: u32,
+    /// The device that sends the notification (initiatingDeviceIdentifier).
     pub device: ObjectId,
-    /// The object whose values are reported.
+    /// The object whose values are reported (monitoredObjectIdentifier).
     pub object: ObjectId,
-    /// For how many seconds the subscription goes on; 0 is without end.
-    pub time_remaining: Unsigned32,
+    /// For how many seconds the subscription goes on (timeRemaining); 0 is without end.
+    pub remaining: u32,
     /// The values of the object, in their order. There may be none.
     pub values: Vec<PropertyValue>,
 }
@@ -57,24 +58,24 @@ impl Record for CovNotification {
     /// Leaves `confirmed` false, since the octets do not contain it. `decode_notification` sets it by the service
     /// choice.
     fn from_parts(parts: Parts) -> CovNotification {
-        let ((process_identifier, (device, object)), (time_remaining, values)) = parts;
+        let ((process, (device, object)), (remaining, values)) = parts;
         CovNotification {
             confirmed: false,
-            process_identifier: process_identifier.0,
+            process: process.0.number(),
             device: device.0,
             object: object.0,
-            time_remaining: time_remaining.0,
+            remaining: remaining.0.number(),
             values: values.0,
         }
     }
 
     fn write_fields(&self, out: &mut Vec<u8>) -> Result<(), OutOfMemory> {
         let subscription: Subscription = (
-            Field(self.process_identifier),
+            Field(Unsigned32::new(self.process)),
             (Field(self.device), Field(self.object)),
         );
         subscription.write(out)?;
-        Field::<Unsigned32, 3>(self.time_remaining).write(out)?;
+        Field::<Unsigned32, 3>(Unsigned32::new(self.remaining)).write(out)?;
         write_group::<Vec<PropertyValue>, 4>(&self.values, out)
     }
 

@@ -17,10 +17,10 @@ use bac_value::Enumerated;
 /// Causes are ordered by the class, then by the code.
 #[derive(Clone, Copy, Debug, PartialEq, Eq, PartialOrd, Ord, Hash)]
 pub struct ErrorCause {
-    /// What the error concerns, as a device, an object or a property (clause 18). Any number below 2^32 is kept.
-    pub class: Enumerated,
-    /// What went wrong (clause 18). Any number below 2^32 is kept.
-    pub code: Enumerated,
+    /// What the error concerns, as a device, an object or a property (clause 18).
+    pub class: u32,
+    /// What went wrong (clause 18).
+    pub code: u32,
 }
 
 /// Its fields.
@@ -40,13 +40,16 @@ impl Record for ErrorCause {
     fn from_parts(parts: Parts) -> ErrorCause {
         let (class, code) = parts;
         ErrorCause {
-            class: class.0,
-            code: code.0,
+            class: class.0.0,
+            code: code.0.0,
         }
     }
 
     fn write_fields(&self, out: &mut Vec<u8>) -> Result<(), OutOfMemory> {
-        let parts: Parts = (ApplicationField(self.class), ApplicationField(self.code));
+        let parts: Parts = (
+            ApplicationField(Enumerated(self.class)),
+            ApplicationField(Enumerated(self.code)),
+        );
         parts.write(out)
     }
 

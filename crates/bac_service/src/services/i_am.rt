@@ -9,7 +9,8 @@ use crate::production::field::ApplicationField;
 use crate::production::record::{Fields, Record};
 use crate::service::Service;
 use bac_tag::OutOfMemory;
-use bac_value::{Enumerated, ObjectId, Unsigned16, Unsigned32};
+use bac_value::layers::{Unsigned16, Unsigned32};
+use bac_value::{Enumerated, ObjectId};
 
 /// What a device says of itself.
 ///
@@ -17,15 +18,15 @@ use bac_value::{Enumerated, ObjectId, Unsigned16, Unsigned32};
 /// largest APDU (Unsigned), segmentation (Enumerated), vendor identifier (Unsigned below 65,536).
 #[derive(Clone, Copy, Debug, PartialEq, Eq)]
 pub struct IAm {
-    /// The device.
-    pub device: ObjectId,
-    /// The length of the longest APDU that it accepts, in octets.
-    pub max_apdu_length: Unsigned32,
+    /// The device object of the device (iAmDeviceIdentifier).
+    pub object: ObjectId,
+    /// The length of the longest APDU that it accepts, in octets (maxAPDULengthAccepted).
+    pub apdu: u32,
     /// Whether it sends and accepts segmented messages: 0, it does both; 1, it only sends them; 2, it only accepts
-    /// them; 3, it does neither. Other numbers are kept.
-    pub segmentation: Enumerated,
-    /// The number of its vendor.
-    pub vendor: Unsigned16,
+    /// them; 3, it does neither (segmentationSupported). Other numbers are kept.
+    pub segmentation: u32,
+    /// The number of its vendor (vendorIdentifier).
+    pub vendor: u16,
 }
 
 /// Its fields.
@@ -49,23 +50,23 @@ impl Record for IAm {
     ghost spells = { SpellsIAm };
 
     fn from_parts(parts: Parts) -> IAm {
-        let (device, (max_apdu_length, (segmentation, vendor))) = parts;
+        let (object, (apdu, (segmentation, vendor))) = parts;
         IAm {
-            device: device.0,
-            max_apdu_length: max_apdu_length.0,
-            segmentation: segmentation.0,
-            vendor: vendor.0,
+            object: object.0,
+            apdu: apdu.0.number(),
+            segmentation: segmentation.0.0,
+            vendor: vendor.0.number(),
         }
     }
 
     fn write_fields(&self, out: &mut Vec<u8>) -> Result<(), OutOfMemory> {
         let parts: Parts = (
-            ApplicationField(self.device),
+            ApplicationField(self.object),
             (
-                ApplicationField(self.max_apdu_length),
+                ApplicationField(Unsigned32::new(self.apdu)),
                 (
-                    ApplicationField(self.segmentation),
-                    ApplicationField(self.vendor),
+                    ApplicationField(Enumerated(self.segmentation)),
+                    ApplicationField(Unsigned16::new(self.vendor)),
                 ),
             ),
         );

@@ -7,9 +7,10 @@ ghost use Rattle.bac_service.specs.ObjectProperty.{SpellsObjectProperty};
 
 use crate::production::Production;
 use crate::production::field::Field;
-use crate::production::option::under;
+use crate::production::option::number_under;
 use bac_tag::OutOfMemory;
-use bac_value::{Enumerated, ObjectId, Unsigned32};
+use bac_value::layers::Unsigned32;
+use bac_value::{Enumerated, ObjectId};
 
 /// A reference to a property of an object, or to one element of it, as a part of several services.
 ///
@@ -24,13 +25,16 @@ pub(crate) type ObjectProperty = (
 #[inline(always)]
 pub(crate) fn write_object_property(
     object: ObjectId,
-    property: Enumerated,
-    index: Option<Unsigned32>,
+    property: u32,
+    index: Option<u32>,
     out: &mut Vec<u8>,
 ) -> Result<(), OutOfMemory>
     ensures ok { OnOk result (AppendsLeast (SpellsObjectProperty (object, (property, index))) out.old.items out.new.items) }
     ensures kept { Extends out.old.items out.new.items }
 {
-    let part: ObjectProperty = (Field(object), (Field(property), under(index)));
+    let part: ObjectProperty = (
+        Field(object),
+        (Field(Enumerated(property)), number_under(index)),
+    );
     part.write(out)
 }

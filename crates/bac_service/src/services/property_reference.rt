@@ -5,10 +5,11 @@ ghost use Rattle.bac_service.specs.Laws.Parts.{property_reference_parts};
 
 use crate::production::Production;
 use crate::production::field::Field;
-use crate::production::option::{bare, under};
+use crate::production::option::{bare_number, number_under};
 use crate::production::record::Record;
 use bac_tag::OutOfMemory;
-use bac_value::{Enumerated, Unsigned32};
+use bac_value::Enumerated;
+use bac_value::layers::Unsigned32;
 
 /// A property of an object, or one element of it.
 ///
@@ -18,9 +19,9 @@ use bac_value::{Enumerated, Unsigned32};
 #[derive(Clone, Copy, Debug, PartialEq, Eq, PartialOrd, Ord, Hash)]
 pub struct PropertyReference {
     /// The identifier of the property.
-    pub property: Enumerated,
+    pub property: u32,
     /// The index of the element, if the property is an array and one element is meant.
-    pub index: Option<Unsigned32>,
+    pub index: Option<u32>,
 }
 
 /// Its fields.
@@ -40,13 +41,13 @@ impl Record for PropertyReference {
     fn from_parts(parts: Parts) -> PropertyReference {
         let (property, index) = parts;
         PropertyReference {
-            property: property.0,
-            index: bare(index),
+            property: property.0.0,
+            index: bare_number(index),
         }
     }
 
     fn write_fields(&self, out: &mut Vec<u8>) -> Result<(), OutOfMemory> {
-        let parts: Parts = (Field(self.property), under(self.index));
+        let parts: Parts = (Field(Enumerated(self.property)), number_under(self.index));
         parts.write(out)
     }
 

@@ -10,12 +10,13 @@ use crate::production::choice::Choice;
 use crate::production::field::Field;
 use crate::production::group::{Group, write_group};
 use crate::production::open_value::{OpenValue, write_open};
-use crate::production::option::{bare, under};
+use crate::production::option::{bare_number, number_under};
 use crate::production::record::{Fields, Record};
 use crate::services::error_cause::ErrorCause;
 use bac_data::Any;
 use bac_tag::OutOfMemory;
-use bac_value::{Enumerated, Unsigned32};
+use bac_value::Enumerated;
+use bac_value::layers::Unsigned32;
 
 /// The value of a property, or why it could not be read.
 ///
@@ -35,9 +36,9 @@ pub enum ReadResult {
 #[derive(Clone, Debug, PartialEq, Eq, Drop)]
 pub struct PropertyResult {
     /// The identifier of the property.
-    pub property: Enumerated,
+    pub property: u32,
     /// The index of the element, if the property is an array and one element is meant.
-    pub index: Option<Unsigned32>,
+    pub index: Option<u32>,
     /// The value, or the error.
     pub result: ReadResult,
 }
@@ -75,15 +76,15 @@ impl Record for PropertyResult {
     fn from_parts(parts: Parts) -> PropertyResult {
         let (property, (index, result)) = parts;
         PropertyResult {
-            property: property.0,
-            index: bare(index),
+            property: property.0.0,
+            index: bare_number(index),
             result: result_of(result),
         }
     }
 
     fn write_fields(&self, out: &mut Vec<u8>) -> Result<(), OutOfMemory> {
-        Field::<Enumerated, 2>(self.property).write(out)?;
-        under::<Unsigned32, 3>(self.index).write(out)?;
+        Field::<Enumerated, 2>(Enumerated(self.property)).write(out)?;
+        number_under::<3>(self.index).write(out)?;
         match &self.result {
             ReadResult::Value(value) => write_open::<4>(value, out),
             ReadResult::Error(cause) => {

@@ -6,11 +6,12 @@ ghost use Rattle.bac_service.specs.Laws.Parts.{property_value_parts};
 use crate::production::Production;
 use crate::production::field::Field;
 use crate::production::open_value::{OpenValue, write_open};
-use crate::production::option::{bare, under};
+use crate::production::option::{bare, bare_number, number_under, under};
 use crate::production::record::Record;
 use bac_data::Any;
 use bac_tag::OutOfMemory;
-use bac_value::{Enumerated, Priority, Unsigned32};
+use bac_value::layers::Unsigned32;
+use bac_value::{Enumerated, Priority};
 
 /// The value of a property, or of one element of it.
 ///
@@ -19,9 +20,9 @@ use bac_value::{Enumerated, Priority, Unsigned32};
 #[derive(Clone, Debug, PartialEq, Eq, Drop)]
 pub struct PropertyValue {
     /// The identifier of the property.
-    pub property: Enumerated,
+    pub property: u32,
     /// The index of the element, if the property is an array and one element is meant.
-    pub index: Option<Unsigned32>,
+    pub index: Option<u32>,
     /// The value of the property or of its element.
     pub value: Any,
     /// The priority, 1 to 16, if the property is commanded.
@@ -51,16 +52,16 @@ impl Record for PropertyValue {
     fn from_parts(parts: Parts) -> PropertyValue {
         let (property, (index, (value, priority))) = parts;
         PropertyValue {
-            property: property.0,
-            index: bare(index),
+            property: property.0.0,
+            index: bare_number(index),
             value: value.0,
             priority: bare(priority),
         }
     }
 
     fn write_fields(&self, out: &mut Vec<u8>) -> Result<(), OutOfMemory> {
-        Field::<Enumerated, 0>(self.property).write(out)?;
-        under::<Unsigned32, 1>(self.index).write(out)?;
+        Field::<Enumerated, 0>(Enumerated(self.property)).write(out)?;
+        number_under::<1>(self.index).write(out)?;
         write_open::<2>(&self.value, out)?;
         under::<Priority, 3>(self.priority).write(out)
     }

@@ -4,12 +4,12 @@ ghost use Rattle.bac_service.specs.ReadProperty.{SpellsReadProperty};
 ghost use Rattle.bac_service.specs.Laws.Parts.{read_property_parts};
 
 use crate::named::Named;
-use crate::production::option::bare;
+use crate::production::option::bare_number;
 use crate::production::record::{Fields, Record};
 use crate::service::Service;
 use crate::services::object_property::{ObjectProperty, write_object_property};
 use bac_tag::OutOfMemory;
-use bac_value::{Enumerated, ObjectId, Unsigned32};
+use bac_value::ObjectId;
 
 /// A request for one property of an object, or for one element of it.
 ///
@@ -19,9 +19,9 @@ pub struct ReadProperty {
     /// The object that has the property.
     pub object: ObjectId,
     /// The identifier of the property.
-    pub property: Enumerated,
+    pub property: u32,
     /// The index of the element, if the property is an array and one element is meant.
-    pub index: Option<Unsigned32>,
+    pub index: Option<u32>,
 }
 
 impl Record for ReadProperty {
@@ -39,8 +39,8 @@ impl Record for ReadProperty {
         let (object, (property, index)) = parts;
         ReadProperty {
             object: object.0,
-            property: property.0,
-            index: bare(index),
+            property: property.0.0,
+            index: bare_number(index),
         }
     }
 

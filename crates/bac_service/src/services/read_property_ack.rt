@@ -5,13 +5,13 @@ ghost use Rattle.bac_service.specs.Laws.Parts.{read_property_ack_parts};
 
 use crate::named::Named;
 use crate::production::open_value::{OpenValue, write_open};
-use crate::production::option::bare;
+use crate::production::option::bare_number;
 use crate::production::record::{Fields, Record};
 use crate::service::Service;
 use crate::services::object_property::{ObjectProperty, write_object_property};
 use bac_data::Any;
 use bac_tag::OutOfMemory;
-use bac_value::{Enumerated, ObjectId, Unsigned32};
+use bac_value::ObjectId;
 
 /// The value of a property that was asked for, or of one element of it.
 ///
@@ -22,9 +22,9 @@ pub struct ReadPropertyAck {
     /// The object that has the property.
     pub object: ObjectId,
     /// The identifier of the property.
-    pub property: Enumerated,
+    pub property: u32,
     /// The index of the element, if the property is an array and one element is meant.
-    pub index: Option<Unsigned32>,
+    pub index: Option<u32>,
     /// The value that was read.
     pub value: Any,
 }
@@ -47,8 +47,8 @@ impl Record for ReadPropertyAck {
         let ((object, (property, index)), value) = parts;
         ReadPropertyAck {
             object: object.0,
-            property: property.0,
-            index: bare(index),
+            property: property.0.0,
+            index: bare_number(index),
             value: value.0,
         }
     }

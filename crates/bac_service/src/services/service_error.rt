@@ -11,7 +11,6 @@ use crate::kind::has_cause;
 use crate::production::record::Record;
 use crate::services::error_cause::ErrorCause;
 use bac_tag::OutOfMemory;
-use bac_value::Enumerated;
 use std::marker::Model;
 
 /// Why a request with service choice 1, 5, 12, 14 or 15 failed.
@@ -44,15 +43,12 @@ impl ServiceError {
     /// 14 or 15.
     pub fn new(choice: u8, class: u32, code: u32) -> Option<ServiceError>
         ensures some { IsSome result ↔ (production_of true Error choice ≡ Some service_error) }
-        ensures value { IfSome result (λ error. error ≡ record { choice = choice; cause = record { class = record { 0 = class }; code = record { 0 = code } } }) }
+        ensures value { IfSome result (λ error. error ≡ record { choice = choice; cause = record { class = class; code = code } }) }
     {
         if !has_cause(choice) {
             return None;
         }
-        let cause = ErrorCause {
-            class: Enumerated(class),
-            code: Enumerated(code),
-        };
+        let cause = ErrorCause { class, code };
         Some(ServiceError { choice, cause })
     }
 
@@ -74,16 +70,16 @@ impl ServiceError {
 
     /// Returns the class of the error (clause 18).
     pub fn class(&self) -> u32
-        ensures { result ≡ self.now.cause.class.0 }
+        ensures { result ≡ self.now.cause.class }
     {
-        self.cause.class.0
+        self.cause.class
     }
 
     /// Returns the code of the error (clause 18).
     pub fn code(&self) -> u32
-        ensures { result ≡ self.now.cause.code.0 }
+        ensures { result ≡ self.now.cause.code }
     {
-        self.cause.code.0
+        self.cause.code
     }
 
     /// Appends the least spelling of its class and its code. If memory is refused, `out` may hold some of the octets.

@@ -6,11 +6,12 @@ ghost use Rattle.bac_service.specs.Laws.SubscribeCov.{subscribe_cov_parts};
 use crate::named::Named;
 use crate::production::Production;
 use crate::production::field::Field;
-use crate::production::option::{bare, bit_of, boolean_of, under};
+use crate::production::option::{bare, bare_number, bit_of, boolean_of, number_under, under};
 use crate::production::record::{Fields, Record};
 use crate::service::Service;
 use bac_tag::OutOfMemory;
-use bac_value::{Boolean, ObjectId, Unsigned32};
+use bac_value::layers::Unsigned32;
+use bac_value::{Boolean, ObjectId};
 
 /// A request to be notified of changes of an object's values. With neither `confirmed` nor `lifetime`, it is a request
 /// not to be notified any more.
@@ -19,14 +20,14 @@ use bac_value::{Boolean, ObjectId, Unsigned32};
 /// confirmed notifications (optional), `[3]` lifetime (optional).
 #[derive(Clone, Copy, Debug, PartialEq, Eq)]
 pub struct SubscribeCov {
-    /// The number of the subscriber's process.
-    pub process_identifier: Unsigned32,
-    /// The object to watch.
+    /// The number of the subscriber's process (subscriberProcessIdentifier).
+    pub process: u32,
+    /// The object to watch (monitoredObjectIdentifier).
     pub object: ObjectId,
-    /// Whether the notifications are to be confirmed requests.
+    /// Whether the notifications are to be confirmed requests (issueConfirmedNotifications).
     pub confirmed: Option<bool>,
     /// For how many seconds notifications are wanted; 0 is without end.
-    pub lifetime: Option<Unsigned32>,
+    pub lifetime: Option<u32>,
 }
 
 /// Its fields.
@@ -50,20 +51,20 @@ impl Record for SubscribeCov {
     ghost spells = { SpellsSubscribeCov };
 
     fn from_parts(parts: Parts) -> SubscribeCov {
-        let (process_identifier, (object, (confirmed, lifetime))) = parts;
+        let (process, (object, (confirmed, lifetime))) = parts;
         SubscribeCov {
-            process_identifier: process_identifier.0,
+            process: process.0.number(),
             object: object.0,
             confirmed: bit_of(bare(confirmed)),
-            lifetime: bare(lifetime),
+            lifetime: bare_number(lifetime),
         }
     }
 
     fn write_fields(&self, out: &mut Vec<u8>) -> Result<(), OutOfMemory> {
         let confirmed = under(boolean_of(self.confirmed));
-        let lifetime = under(self.lifetime);
+        let lifetime = number_under(self.lifetime);
         let parts: Parts = (
-            Field(self.process_identifier),
+            Field(Unsigned32::new(self.process)),
             (Field(self.object), (confirmed, lifetime)),
         );
         parts.write(out)

@@ -7,13 +7,13 @@ use crate::named::Named;
 use crate::production::Production;
 use crate::production::field::Field;
 use crate::production::open_value::{OpenValue, write_open};
-use crate::production::option::{bare, under};
+use crate::production::option::{bare, bare_number, under};
 use crate::production::record::{Fields, Record};
 use crate::service::Service;
 use crate::services::object_property::{ObjectProperty, write_object_property};
 use bac_data::Any;
 use bac_tag::OutOfMemory;
-use bac_value::{Enumerated, ObjectId, Priority, Unsigned32};
+use bac_value::{ObjectId, Priority};
 
 /// A request to write a property of an object, or one element of it.
 ///
@@ -24,9 +24,9 @@ pub struct WriteProperty {
     /// The object that has the property.
     pub object: ObjectId,
     /// The identifier of the property.
-    pub property: Enumerated,
+    pub property: u32,
     /// The index of the element, if the property is an array and one element is meant.
-    pub index: Option<Unsigned32>,
+    pub index: Option<u32>,
     /// The value to write.
     pub value: Any,
     /// The priority, 1 to 16, if the property is commanded.
@@ -51,8 +51,8 @@ impl Record for WriteProperty {
         let ((object, (property, index)), (value, priority)) = parts;
         WriteProperty {
             object: object.0,
-            property: property.0,
-            index: bare(index),
+            property: property.0.0,
+            index: bare_number(index),
             value: value.0,
             priority: bare(priority),
         }

@@ -7,13 +7,13 @@ use crate::named::Named;
 use crate::production::Production;
 use crate::production::field::Field;
 use crate::production::group::Group;
-use crate::production::option::{bare, under};
+use crate::production::option::{bare_number, number_under};
 use crate::production::record::{Fields, Record};
 use crate::service::Service;
 use crate::services::error_cause::ErrorCause;
 use crate::services::object_property::ObjectProperty;
 use bac_tag::OutOfMemory;
-use bac_value::{Enumerated, ObjectId, Unsigned32};
+use bac_value::{Enumerated, ObjectId};
 
 /// Why a WritePropertyMultiple failed, and the first write that failed.
 ///
@@ -21,16 +21,16 @@ use bac_value::{Enumerated, ObjectId, Unsigned32};
 /// index (optional) `}`.
 #[derive(Clone, Copy, Debug, PartialEq, Eq)]
 pub struct WritePropertyMultipleError {
-    /// What the error concerns, as a device, an object or a property (clause 18). Any number below 2^32 is kept.
-    pub class: Enumerated,
-    /// What went wrong (clause 18). Any number below 2^32 is kept.
-    pub code: Enumerated,
+    /// What the error concerns, as a device, an object or a property (clause 18).
+    pub class: u32,
+    /// What went wrong (clause 18).
+    pub code: u32,
     /// The object that has the property that could not be written.
     pub object: ObjectId,
     /// The identifier of that property.
-    pub property: Enumerated,
+    pub property: u32,
     /// The index of the element, if the property is an array and one element is meant.
-    pub index: Option<Unsigned32>,
+    pub index: Option<u32>,
 }
 
 /// Its fields.
@@ -53,8 +53,8 @@ impl Record for WritePropertyMultipleError {
             class: cause.class,
             code: cause.code,
             object: object.0,
-            property: property.0,
-            index: bare(index),
+            property: property.0.0,
+            index: bare_number(index),
         }
     }
 
@@ -65,7 +65,7 @@ impl Record for WritePropertyMultipleError {
         };
         let place = (
             Field(self.object),
-            (Field(self.property), under(self.index)),
+            (Field(Enumerated(self.property)), number_under(self.index)),
         );
         let parts: Parts = (Group(Fields(cause)), Group(place));
         parts.write(out)

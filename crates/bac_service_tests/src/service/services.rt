@@ -4,11 +4,11 @@ use super::{canonical, is_written, object};
 use crate::expectations::{assert_holds, assert_same};
 use bac_service::{
     CovNotification, ErrorCause, Kind, PropertyReference, ReadAccessSpecification, ReadProperty,
-    ReadPropertyMultiple, Service, Unsigned32, WhoIs, decode_service, laws,
+    ReadPropertyMultiple, Service, WhoIs, decode_service, laws,
 };
 use bac_tables::octets_of;
 use bac_tag::Why;
-use bac_value::{Enumerated, Instance};
+use bac_value::Instance;
 use std::alloc::Global;
 use std::process::Abort;
 
@@ -31,7 +31,7 @@ fn small_services_are_written(rt: HostRuntime) {
     let alloc = rt.alloc();
     let read = Service::ReadProperty(ReadProperty {
         object: object(&rt, 0, 5),
-        property: Enumerated(85),
+        property: 85,
         index: None,
     });
     let octets = "0C 00 00 00 05 19 55";
@@ -44,7 +44,7 @@ fn small_services_are_written(rt: HostRuntime) {
 #[test]
 fn lists_of_references_are_written(rt: HostRuntime) {
     let alloc = rt.alloc();
-    let (object, property) = (object(&rt, 0, 33), Enumerated(85));
+    let (object, property) = (object(&rt, 0, 33), 85);
     let index = None;
     let properties = list(&rt, alloc, PropertyReference { property, index });
     let specs = list(&rt, alloc, ReadAccessSpecification { object, properties });
@@ -57,10 +57,10 @@ fn lists_of_references_are_written(rt: HostRuntime) {
 fn notification_is_written(rt: &impl Abort, alloc: Global, confirmed: bool, service: (Kind, u8)) {
     let notification = Service::CovNotification(CovNotification {
         confirmed,
-        process_identifier: Unsigned32(18),
+        process: 18,
         device: object(rt, 8, 4),
         object: object(rt, 0, 10),
-        time_remaining: Unsigned32(0),
+        remaining: 0,
         values: Vec::new(alloc),
     });
     is_written(rt, alloc, &notification, service, NOTIFICATION);
@@ -137,15 +137,15 @@ fn kinds_are_in_order(rt: HostRuntime) {
 #[test]
 fn property_references_are_in_order(rt: HostRuntime) {
     let whole = PropertyReference {
-        property: Enumerated(85),
+        property: 85,
         index: None,
     };
     let size = PropertyReference {
-        index: Some(Unsigned32(0)),
+        index: Some(0),
         ..whole
     };
     let other = PropertyReference {
-        property: Enumerated(86),
+        property: 86,
         index: None,
     };
     assert_holds(&rt, whole < size, "indices");
@@ -155,18 +155,9 @@ fn property_references_are_in_order(rt: HostRuntime) {
 // By the class, then by the code.
 #[test]
 fn causes_are_in_order(rt: HostRuntime) {
-    let cause = ErrorCause {
-        class: Enumerated(2),
-        code: Enumerated(31),
-    };
-    let of_code = ErrorCause {
-        code: Enumerated(32),
-        ..cause
-    };
-    let of_class = ErrorCause {
-        class: Enumerated(3),
-        code: Enumerated(0),
-    };
+    let cause = ErrorCause { class: 2, code: 31 };
+    let of_code = ErrorCause { code: 32, ..cause };
+    let of_class = ErrorCause { class: 3, code: 0 };
     assert_holds(&rt, cause < of_code, "codes");
     assert_holds(&rt, of_code < of_class, "classes");
 }

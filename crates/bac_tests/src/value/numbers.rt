@@ -6,8 +6,11 @@ use crate::expectations::{assert_same, assert_same_of};
 use bac_tables::octets_of;
 use bac_tag::{Refusal, Why};
 use bac_value::layers::{
-    hopeless_number, mark_number, read_number, write_number, written_number_len,
+    Unsigned16, Unsigned32, hopeless_number, mark_number, read_number, write_number,
+    written_number_len,
 };
+use std::alloc::Global;
+use std::fmt::Debug;
 use std::process::Abort;
 
 /// The octets are this number of the range, or they leave the range.
@@ -45,4 +48,19 @@ fn a_number_has_its_fewest_octets(rt: HostRuntime) {
     write_number(85, &mut out).expect(&rt, "memory");
     write_number(0, &mut out).expect(&rt, "memory");
     assert_same(&rt, out.as_slice(), [0x55, 0].as_slice());
+}
+
+/// The value is printed so.
+fn is_printed<T: Debug + Drop>(rt: &impl Abort, alloc: Global, value: T, text: &str) {
+    let printed = format!(in alloc; "{value:?}").expect(rt, "memory");
+    assert_same(rt, printed.as_str(), text);
+}
+
+#[test]
+fn bounded_numbers_are_made_of_numbers(rt: HostRuntime) {
+    let alloc = rt.alloc();
+    let (small, large) = (Unsigned16::from(u16::MAX), Unsigned32::from(u32::MAX));
+    assert_same(&rt, (small.number(), large.number()), (u16::MAX, u32::MAX));
+    is_printed(&rt, alloc, small, "Unsigned16 { number: 65535 }");
+    is_printed(&rt, alloc, large, "Unsigned32 { number: 4294967295 }");
 }

@@ -1,22 +1,31 @@
 //! The text of answers, and of ends of transactions.
 
-use crate::texts::{HasShortText, HasText, ROOM, put_field};
-use bac_apdu::{Abort, ComplexAck, ErrorPdu, Reject, SimpleAck};
+ghost use Rattle.std.specs.Prelude.{◌≡◌, ◌≤◌, ◌++◌, IfOk, OnErr, length, take};
+ghost use Rattle.bac_tag.specs.Octets.{Extends};
+ghost use Rattle.bac_text.specs.AnswerText.{simple_ack_text, reject_text, abort_text};
+
+use crate::texts::{HasText, ROOM, put_field};
+use bac_apdu::{ComplexAck, ErrorPdu};
 use bac_record::layers::{make_room, put_word};
 use bac_tag::OutOfMemory;
 
-/// `simple id=I choice=C`.
-impl HasShortText for SimpleAck {
-    ghost use Rattle.bac_text.specs.AnswerText.{simple_ack_text};
-
-    ghost text = { λ ack. simple_ack_text ack.invoke ack.choice };
-
-    ghost most = { 38 };
-
-    fn put_text(&self, room: &mut [u8], at: usize) -> usize {
-        let end = put_field(room, at, b"simple id=", &self.invoke);
-        put_field(room, end, b" choice=", &self.choice)
-    }
+/// Writes `simple id=I choice=C`.
+#[inline(always)]
+pub(crate) fn write_simple_ack(
+    out: &mut Vec<u8>,
+    at: usize,
+    invoke: u8,
+    choice: u8,
+) -> Result<usize, OutOfMemory>
+    requires { at ≤ length out.old.items }
+    ensures text { IfOk result (λ end. take end out.new.items ≡ take at out.old.items ++ simple_ack_text invoke choice) }
+    ensures end { IfOk result (λ end. end ≤ length out.new.items) }
+    ensures err { OnErr result (Extends (take at out.old.items) out.new.items) }
+{
+    make_room(out, at, ROOM)?;
+    let room = out.as_mut_slice();
+    let end = put_field(room, at, b"simple id=", &invoke);
+    Ok(put_field(room, end, b" choice=", &choice))
 }
 
 /// `ack id=I` and the service.
@@ -51,31 +60,42 @@ impl HasText for ErrorPdu {
     }
 }
 
-/// `reject id=I reason=N`.
-impl HasShortText for Reject {
-    ghost use Rattle.bac_text.specs.AnswerText.{reject_text};
-
-    ghost text = { λ answer. reject_text answer.invoke answer.reason };
-
-    ghost most = { 38 };
-
-    fn put_text(&self, room: &mut [u8], at: usize) -> usize {
-        let end = put_field(room, at, b"reject id=", &self.invoke);
-        put_field(room, end, b" reason=", &self.reason)
-    }
+/// Writes `reject id=I reason=N`.
+#[inline(always)]
+pub(crate) fn write_reject(
+    out: &mut Vec<u8>,
+    at: usize,
+    invoke: u8,
+    reason: u8,
+) -> Result<usize, OutOfMemory>
+    requires { at ≤ length out.old.items }
+    ensures text { IfOk result (λ end. take end out.new.items ≡ take at out.old.items ++ reject_text invoke reason) }
+    ensures end { IfOk result (λ end. end ≤ length out.new.items) }
+    ensures err { OnErr result (Extends (take at out.old.items) out.new.items) }
+{
+    make_room(out, at, ROOM)?;
+    let room = out.as_mut_slice();
+    let end = put_field(room, at, b"reject id=", &invoke);
+    Ok(put_field(room, end, b" reason=", &reason))
 }
 
-/// `abort id=I srv=V reason=N`.
-impl HasShortText for Abort {
-    ghost use Rattle.bac_text.specs.AnswerText.{abort_text};
-
-    ghost text = { λ answer. abort_text answer.invoke answer.srv answer.reason };
-
-    ghost most = { 43 };
-
-    fn put_text(&self, room: &mut [u8], at: usize) -> usize {
-        let end = put_field(room, at, b"abort id=", &self.invoke);
-        let end = put_field(room, end, b" srv=", &self.srv);
-        put_field(room, end, b" reason=", &self.reason)
-    }
+/// Writes `abort id=I srv=V reason=N`.
+#[inline(always)]
+pub(crate) fn write_abort(
+    out: &mut Vec<u8>,
+    at: usize,
+    invoke: u8,
+    srv: bool,
+    reason: u8,
+) -> Result<usize, OutOfMemory>
+    requires { at ≤ length out.old.items }
+    ensures text { IfOk result (λ end. take end out.new.items ≡ take at out.old.items ++ abort_text invoke srv reason) }
+    ensures end { IfOk result (λ end. end ≤ length out.new.items) }
+    ensures err { OnErr result (Extends (take at out.old.items) out.new.items) }
+{
+    make_room(out, at, ROOM)?;
+    let room = out.as_mut_slice();
+    let end = put_field(room, at, b"abort id=", &invoke);
+    let end = put_field(room, end, b" srv=", &srv);
+    Ok(put_field(room, end, b" reason=", &reason))
 }

@@ -1,9 +1,13 @@
 //! The text of segments, and of acknowledgements of segments.
 
+ghost use Rattle.std.specs.Prelude.{◌≡◌, ◌≤◌, ◌++◌, IfOk, OnErr, length, take};
+ghost use Rattle.bac_tag.specs.Octets.{Extends};
+ghost use Rattle.bac_text.specs.SegmentText.{segment_ack_text};
+
 use crate::pdus::requests::put_request_head;
 use crate::scalars::write_octets;
 use crate::texts::{HasShortText, HasText, ROOM, put_field};
-use bac_apdu::{SegHead, Segment, SegmentAck};
+use bac_apdu::{SegHead, Segment, Window};
 use bac_record::layers::make_room;
 use bac_tag::OutOfMemory;
 
@@ -41,19 +45,27 @@ impl HasText for Segment {
     }
 }
 
-/// `segack id=I nak=N srv=V seq=Q win=W`.
-impl HasShortText for SegmentAck {
-    ghost use Rattle.bac_text.specs.SegmentText.{segment_ack_text};
-
-    ghost text = { λ ack. segment_ack_text ack.invoke ack.nak ack.srv ack.seq ack.window };
-
-    ghost most = { 62 };
-
-    fn put_text(&self, room: &mut [u8], at: usize) -> usize {
-        let end = put_field(room, at, b"segack id=", &self.invoke);
-        let end = put_field(room, end, b" nak=", &self.nak);
-        let end = put_field(room, end, b" srv=", &self.srv);
-        let end = put_field(room, end, b" seq=", &self.seq);
-        put_field(room, end, b" win=", &self.window.number())
-    }
+/// Writes `segack id=I nak=N srv=V seq=Q win=W`.
+#[inline(always)]
+pub(crate) fn write_segment_ack(
+    out: &mut Vec<u8>,
+    at: usize,
+    invoke: u8,
+    nak: bool,
+    srv: bool,
+    seq: u8,
+    window: Window,
+) -> Result<usize, OutOfMemory>
+    requires { at ≤ length out.old.items }
+    ensures text { IfOk result (λ end. take end out.new.items ≡ take at out.old.items ++ segment_ack_text invoke nak srv seq window) }
+    ensures end { IfOk result (λ end. end ≤ length out.new.items) }
+    ensures err { OnErr result (Extends (take at out.old.items) out.new.items) }
+{
+    make_room(out, at, ROOM)?;
+    let room = out.as_mut_slice();
+    let end = put_field(room, at, b"segack id=", &invoke);
+    let end = put_field(room, end, b" nak=", &nak);
+    let end = put_field(room, end, b" srv=", &srv);
+    let end = put_field(room, end, b" seq=", &seq);
+    Ok(put_field(room, end, b" win=", &window.number()))
 }

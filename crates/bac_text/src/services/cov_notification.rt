@@ -38,10 +38,10 @@ impl HasText for CovNotification {
         let end = write_name(out, at, self.confirmed)?;
         make_room(out, end, ROOM)?;
         let room = out.as_mut_slice();
-        let end = put_field(room, end, b" process=", &self.process_identifier);
+        let end = put_field(room, end, b" process=", &self.process);
         let end = put_field(room, end, b" device=", &self.device);
         let end = put_field(room, end, b" object=", &self.object);
-        let end = put_field(room, end, b" remaining=", &self.time_remaining);
+        let end = put_field(room, end, b" remaining=", &self.remaining);
         let end = put_word(room, end, b" values=");
         self.values.write_text(out, end)
     }

@@ -12,8 +12,8 @@ impl HasShortText for IAm {
     ghost most = { 91 };
 
     fn put_text(&self, room: &mut [u8], at: usize) -> usize {
-        let end = put_field(room, at, b"I-Am object=", &self.device);
-        let end = put_field(room, end, b" apdu=", &self.max_apdu_length);
+        let end = put_field(room, at, b"I-Am object=", &self.object);
+        let end = put_field(room, end, b" apdu=", &self.apdu);
         let end = put_field(room, end, b" segmentation=", &self.segmentation);
         put_field(room, end, b" vendor=", &self.vendor)
     }

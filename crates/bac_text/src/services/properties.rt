@@ -9,11 +9,9 @@ use crate::texts::{
     HasShortText, HasText, ROOM, put_field, put_optional, write_field, write_short, write_word,
 };
 use bac_record::layers::{make_room, put_word};
-use bac_service::{
-    ErrorCause, PropertyReference, PropertyResult, PropertyValue, ReadResult, Unsigned32,
-};
+use bac_service::{ErrorCause, PropertyReference, PropertyResult, PropertyValue, ReadResult};
 use bac_tag::OutOfMemory;
-use bac_value::{Enumerated, ObjectId};
+use bac_value::ObjectId;
 
 /// Writes a name, and `N [index=N]` of a property or of one element of it. Returns where they end.
 #[inline(always)]
@@ -21,8 +19,8 @@ pub(crate) fn put_property<const N: usize>(
     room: &mut [u8],
     at: usize,
     name: &[u8; N],
-    property: Enumerated,
-    index: &Option<Unsigned32>,
+    property: u32,
+    index: &Option<u32>,
 ) -> usize
     requires { at + (N + 37) ≤ length room.old }
     ensures text { take result room.new ≡ take at room.old ++ (name.now ++ property_text property index.now) }
@@ -91,12 +89,12 @@ impl HasShortText for ErrorCause {
     ghost use Rattle.bac_text.specs.PropertyText.{cause_text};
     ghost use Rattle.bac_text.specs.Words.{field};
 
-    ghost text = { λ cause. field "error=(class=" (cause_text cause.class.0 cause.code.0) ++ codes ")" };
+    ghost text = { λ cause. field "error=(class=" (cause_text cause.class cause.code) ++ codes ")" };
 
     ghost most = { 40 };
 
     fn put_text(&self, room: &mut [u8], at: usize) -> usize {
-        let end = put_cause(room, at, b"error=(class=", self.class.0, self.code.0);
+        let end = put_cause(room, at, b"error=(class=", self.class, self.code);
         put_word(room, end, b")")
     }
 }

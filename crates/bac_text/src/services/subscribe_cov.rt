@@ -12,7 +12,7 @@ impl HasShortText for SubscribeCov {
     ghost most = { 92 };
 
     fn put_text(&self, room: &mut [u8], at: usize) -> usize {
-        let end = put_field(room, at, b"SubscribeCOV process=", &self.process_identifier);
+        let end = put_field(room, at, b"SubscribeCOV process=", &self.process);
         let end = put_field(room, end, b" object=", &self.object);
         let end = put_optional(room, end, b" confirmed=", &self.confirmed);
         put_optional(room, end, b" lifetime=", &self.lifetime)

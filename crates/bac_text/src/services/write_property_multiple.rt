@@ -41,7 +41,7 @@ impl HasShortText for WritePropertyMultipleError {
     ghost most = { 108 };
 
     fn put_text(&self, room: &mut [u8], at: usize) -> usize {
-        let end = put_cause(room, at, b"choice=16 class=", self.class.0, self.code.0);
+        let end = put_cause(room, at, b"choice=16 class=", self.class, self.code);
         let end = put_field(room, end, b" object=", &self.object);
         put_property(room, end, b" property=", self.property, &self.index)
     }

@@ -1,18 +1,16 @@
 -- The types whose values are the numbers of a range, with the contents of an Unsigned.
 use Rattle.std.proofs.Common.{ℕ, ◌^◌, ◌-◌, refl, lit≤, lit<}
-use Rattle.bac_value.specs.declared.types.unsigned16.Unsigned16.{Unsigned16}
-use Rattle.bac_value.specs.declared.types.unsigned32.Unsigned32.{Unsigned32}
 use Rattle.bac_value.specs.Numbers.{IsBounded}
 
--- a Priority and an Instance are seen as their number
+-- each is seen as its number
 pub priority_bounded : IsBounded 1 16 (λ (n : ℕ). n) (λ n. n)
 priority_bounded = record { number_of_value = λ n. refl; value_of_number = λ value. refl; range = lit≤ tt; room = lit< tt; fits = lit< tt }
 
 pub instance_bounded : IsBounded 0 4194303 (λ (n : ℕ). n) (λ n. n)
 instance_bounded = record { number_of_value = λ n. refl; value_of_number = λ value. refl; range = lit≤ tt; room = lit< tt; fits = lit< tt }
 
-pub unsigned16_bounded : IsBounded 0 (2 ^ 16 - 1) (λ (value : Unsigned16). value.0) (λ n. record { 0 = n })
+pub unsigned16_bounded : IsBounded 0 (2 ^ 16 - 1) (λ (n : ℕ). n) (λ n. n)
 unsigned16_bounded = record { number_of_value = λ n. refl; value_of_number = λ value. refl; range = lit≤ tt; room = lit< tt; fits = lit< tt }
 
-pub unsigned32_bounded : IsBounded 0 (2 ^ 32 - 1) (λ (value : Unsigned32). value.0) (λ n. record { 0 = n })
+pub unsigned32_bounded : IsBounded 0 (2 ^ 32 - 1) (λ (n : ℕ). n) (λ n. n)
 unsigned32_bounded = record { number_of_value = λ n. refl; value_of_number = λ value. refl; range = lit≤ tt; room = lit< tt; fits = lit< tt }

@@ -1,5 +1,7 @@
+use Rattle.std.specs.Prelude.{◌<◌, ℕ, slice_index, refl}
+use Rattle.std.proofs.Common.{arith, inl, inr}
 use Rattle.std.proofs.lemmas.Result.{err_from_is_err_and}
-use Rattle.bac_npdu.proofs.FrameReadLemmas.{normalised}
+use Rattle.bac_npdu.proofs.FrameReadLemmas.{normalised, spelled_memory}
 use Rattle.bac_npdu.proofs.strict.normalise_frame.Goals as goal
 
 pub returns-in-Ok-2-clause-written : goal.returns-in-Ok-2-clause-written
@@ -7,7 +9,13 @@ returns-in-Ok-2-clause-written c =
     let m = c.in_ok-canonical.ensures.made in
     (m.value, m.spelled, normalised m.value c.args.octets.now m.mark c.in-Ok-2.canonical.items m.marked (rw c.in-Ok-2.is at m.made_of))
 
-pub returns-in_err-canonical-clause-versions : goal.returns-in_err-canonical-clause-versions
-returns-in_err-canonical-clause-versions c =
+pub returns-in_err-canonical-clause-memory : goal.returns-in_err-canonical-clause-memory
+returns-in_err-canonical-clause-memory c =
     let p = err_from_is_err_and c.from_residual.result c.from_residual.ensures.1 in
-    rw (p.1, p.2) (λ w. c.in_err-canonical.ensures.versions)
+    rw (p.1, p.2) (λ why. let m = c.in_err-canonical.ensures.memory why in (m.0, inl m.1))
+
+pub returns-in_err-canonical-clause-reasons : goal.returns-in_err-canonical-clause-reasons
+returns-in_err-canonical-clause-reasons c =
+    let p = err_from_is_err_and c.from_residual.result c.from_residual.ensures.1 in
+    let e = c.in_err-canonical.ensures in
+    rw (p.1, p.2) (record { of_version = e.versions; of_address = e.addresses; of_type = e.types; of_window = e.windows; others = e.reasons })

@@ -1,4 +1,4 @@
-use Rattle.bac_segment.proofs.DeskHistoryLemmas.{desk_joined, desk_good}
+use Rattle.bac_segment.proofs.DeskHistoryLemmas.{desk_joined, desk_good, desk_completed}
 use Rattle.bac_segment.proofs.laws.a_desk_joins_what_was_cut.Goals as goal
 
 pub returns-clause-joined : goal.returns-clause-joined
@@ -9,3 +9,6 @@ returns-clause-or_none c = λ plan octets segments key calls desk fine cut among
 
 pub returns-clause-answers : goal.returns-clause-answers
 returns-clause-answers c = desk_good
+
+pub returns-clause-last : goal.returns-clause-last
+returns-clause-last c = desk_completed

@@ -1,6 +1,6 @@
 use Rattle.std.proofs.Common.{rules, ◌≢◌}
 use Rattle.bac_tag.specs.declared.refusals.Why.TheVariants.{OutOfMemory}
-use Rattle.bac_stream.proofs.JudgingLemmas.{hopeless_none, judged_canonical, judged_refused}
+use Rattle.bac_stream.proofs.JudgingLemmas.{hopeless_none, hopeless_refused, judged_canonical, judged_refused, reasoned}
 use Rattle.bac_stream.proofs.judging.judge.Goals as goal
 
 pub returns-in-Ok-clause-canonical : goal.returns-in-Ok-clause-canonical
@@ -17,4 +17,10 @@ pub returns-in-Err-2-clause-refused : goal.returns-in-Err-2-clause-refused
 returns-in-Err-2-clause-refused g c =
     let why : c.in-Err.refusal.why ≢ OutOfMemory = search (rules, c.if-eq.ensures) in
     let e = c.in-Err.ensures in
-    hopeless_none c.args.mode c.args.octets.now c.in-Err.refusal (e.refused why, e.reasons, why)
+    hopeless_none c.args.mode c.args.octets.now c.in-Err.refusal (e.refused why, reasoned e.versions e.addresses e.types e.windows e.reasons, why)
+
+pub returns-in-Err-2-clause-fault : goal.returns-in-Err-2-clause-fault
+returns-in-Err-2-clause-fault g c =
+    let why : c.in-Err.refusal.why ≢ OutOfMemory = search (rules, c.if-eq.ensures) in
+    let e = c.in-Err.ensures in
+    hopeless_refused c.args.mode c.args.octets.now c.in-Err.refusal (e.refused why, reasoned e.versions e.addresses e.types e.windows e.reasons, why)

@@ -5,7 +5,7 @@ use Rattle.bac_service.proofs.services.cov_notification.CovNotificationRecord.wr
 
 pub returns-clause-ok : goal.returns-clause-ok
 returns-clause-ok c =
-    on_ok_weaker c.write_group.result (λ last. appends_joined c.in_ok-write.ensures.ok (appends_joined c.in_ok-write-2.ensures.ok (rw map-id at last))) c.write_group.ensures.ok
+    on_ok_weaker c.write_group.result (λ last. appends_joined (rw c.new.ensures at c.in_ok-write.ensures.ok) (appends_joined (rw c.new-2.ensures at c.in_ok-write-2.ensures.ok) (rw map-id at last))) c.write_group.ensures.ok
 
 pub returns-clause-kept : goal.returns-clause-kept
 returns-clause-kept c = extends_more _ _ _ c.in_ok-write.ensures.kept (extends_more _ _ _ c.in_ok-write-2.ensures.kept c.write_group.ensures.kept)

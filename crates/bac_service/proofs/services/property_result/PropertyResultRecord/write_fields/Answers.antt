@@ -4,11 +4,11 @@ use Rattle.bac_service.proofs.services.property_result.PropertyResultRecord.writ
 
 pub returns-in-Value-clause-ok : goal.returns-in-Value-clause-ok
 returns-in-Value-clause-ok c =
-    on_ok_weaker c.write_open.result (λ last. appends_joined c.in_ok-write.ensures.ok (appends_joined (rw c.under.ensures at c.in_ok-write-2.ensures.ok) (rw c.in-Value.is last))) c.write_open.ensures.ok
+    on_ok_weaker c.write_open.result (λ last. appends_joined c.in_ok-write.ensures.ok (appends_joined (rw c.number_under.ensures at c.in_ok-write-2.ensures.ok) (rw c.in-Value.is last))) c.write_open.ensures.ok
 
 pub returns-in-Error-clause-ok : goal.returns-in-Error-clause-ok
 returns-in-Error-clause-ok c =
-    on_ok_weaker c.write_group.result (λ last. appends_joined c.in_ok-write.ensures.ok (appends_joined (rw c.under.ensures at c.in_ok-write-2.ensures.ok) (rw c.in-Error.is last))) c.write_group.ensures.ok
+    on_ok_weaker c.write_group.result (λ last. appends_joined c.in_ok-write.ensures.ok (appends_joined (rw c.number_under.ensures at c.in_ok-write-2.ensures.ok) (rw c.in-Error.is last))) c.write_group.ensures.ok
 
 pub returns-in-Value-clause-kept : goal.returns-in-Value-clause-kept
 returns-in-Value-clause-kept c = extends_more _ _ _ c.in_ok-write.ensures.kept (extends_more _ _ _ c.in_ok-write-2.ensures.kept c.write_open.ensures.kept)

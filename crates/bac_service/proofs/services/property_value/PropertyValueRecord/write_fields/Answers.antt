@@ -4,7 +4,7 @@ use Rattle.bac_service.proofs.services.property_value.PropertyValueRecord.write_
 
 pub returns-clause-ok : goal.returns-clause-ok
 returns-clause-ok c =
-    on_ok_weaker c.write-3.result (λ last. appends_joined c.in_ok-write.ensures.ok (appends_joined (rw c.under.ensures at c.in_ok-write-2.ensures.ok) (appends_joined c.in_ok-write_open.ensures.ok (rw c.under-2.ensures at last)))) c.write-3.ensures.ok
+    on_ok_weaker c.write-3.result (λ last. appends_joined c.in_ok-write.ensures.ok (appends_joined (rw c.number_under.ensures at c.in_ok-write-2.ensures.ok) (appends_joined c.in_ok-write_open.ensures.ok (rw c.under.ensures at last)))) c.write-3.ensures.ok
 
 pub returns-clause-kept : goal.returns-clause-kept
 returns-clause-kept c = extends_more _ _ _ c.in_ok-write.ensures.kept (extends_more _ _ _ c.in_ok-write-2.ensures.kept (extends_more _ _ _ c.in_ok-write_open.ensures.kept c.write-3.ensures.kept))

@@ -5,5 +5,5 @@ use Rattle.bac_service.proofs.services.subscribe_cov.SubscribeCovRecord.write_fi
 pub returns-clause-ok : goal.returns-clause-ok
 returns-clause-ok c =
     on_ok_weaker c.write.result
-    (λ written. appends_subscribe_cov c.args.self.now c.boolean_of.result c.boolean_of.ensures (rw (c.under-confirmed.ensures, c.under-lifetime.ensures) at written))
+    (λ written. appends_subscribe_cov c.args.self.now c.boolean_of.result c.boolean_of.ensures (rw (c.new.ensures, c.under-confirmed.ensures, c.number_under-lifetime.ensures) at written))
     c.write.ensures.ok

@@ -1,10 +1,9 @@
 -- Whether two services are the same: what `==` answers.
-use Rattle.std.specs.Prelude.{Bool, false, nat_eq, ◌&&◌, Option}
+use Rattle.std.specs.Prelude.{ℕ, Bool, false, nat_eq, ◌&&◌, Option}
 use Rattle.std.specs.Bool.{beq}
 use Rattle.std.specs.Option.{option_eq}
 use Rattle.std.specs.Cmp.Lexicographic.{pointwise}
 use Rattle.bac_value.specs.Identifier.{Identifier}
-use Rattle.bac_value.specs.declared.types.unsigned32.Unsigned32.{Unsigned32}
 use Rattle.bac_data.specs.Same.{same_values}
 use Rattle.bac_service.specs.declared.services.error_cause.ErrorCause.{ErrorCause}
 use Rattle.bac_service.specs.declared.services.property_reference.PropertyReference.{PropertyReference}
@@ -33,20 +32,20 @@ use Rattle.bac_service.specs.Opaques.{same_opaque}
 abbrev pub same_object : Identifier → Identifier → Bool
 same_object a b = nat_eq a.kind b.kind && nat_eq a.instance b.instance
 
-abbrev pub same_index : Option Unsigned32 → Option Unsigned32 → Bool
-same_index = option_eq (λ a b. nat_eq a.0 b.0)
+abbrev pub same_index : Option ℕ → Option ℕ → Bool
+same_index = option_eq nat_eq
 
 abbrev pub same_object_property : ObjectProperty → ObjectProperty → Bool
-same_object_property a b = same_object a.0 b.0 && (nat_eq a.1.0.0 b.1.0.0 && same_index a.1.1 b.1.1)
+same_object_property a b = same_object a.0 b.0 && (nat_eq a.1.0 b.1.0 && same_index a.1.1 b.1.1)
 
 abbrev pub same_cause : ErrorCause → ErrorCause → Bool
-same_cause a b = nat_eq a.class.0 b.class.0 && nat_eq a.code.0 b.code.0
+same_cause a b = nat_eq a.class b.class && nat_eq a.code b.code
 
 abbrev pub same_reference : PropertyReference → PropertyReference → Bool
-same_reference a b = nat_eq a.property.0 b.property.0 && same_index a.index b.index
+same_reference a b = nat_eq a.property b.property && same_index a.index b.index
 
 abbrev pub same_property_value : PropertyValue → PropertyValue → Bool
-same_property_value a b = nat_eq a.property.0 b.property.0 && (same_index a.index b.index && (same_values a.value b.value && option_eq nat_eq a.priority b.priority))
+same_property_value a b = nat_eq a.property b.property && (same_index a.index b.index && (same_values a.value b.value && option_eq nat_eq a.priority b.priority))
 
 abbrev pub same_read_result : ReadResult → ReadResult → Bool
 same_read_result (Value a) (Value b) = same_values a b
@@ -54,7 +53,7 @@ same_read_result (Error a) (Error b) = same_cause a b
 same_read_result _ _ = false
 
 abbrev pub same_property_result : PropertyResult → PropertyResult → Bool
-same_property_result a b = nat_eq a.property.0 b.property.0 && (same_index a.index b.index && same_read_result a.result b.result)
+same_property_result a b = nat_eq a.property b.property && (same_index a.index b.index && same_read_result a.result b.result)
 
 -- ---- services
 
@@ -78,21 +77,21 @@ abbrev pub same_write_specification : WriteAccessSpecification → WriteAccessSp
 same_write_specification a b = same_object a.object b.object && pointwise same_property_value a.values.items b.values.items
 
 abbrev pub same_write_error : WritePropertyMultipleError → WritePropertyMultipleError → Bool
-same_write_error a b = nat_eq a.class.0 b.class.0 && (nat_eq a.code.0 b.code.0 && same_object_property (a.object, (a.property, a.index)) (b.object, (b.property, b.index)))
+same_write_error a b = nat_eq a.class b.class && (nat_eq a.code b.code && same_object_property (a.object, (a.property, a.index)) (b.object, (b.property, b.index)))
 
 abbrev pub same_who_is : WhoIs → WhoIs → Bool
 same_who_is a b = option_eq (λ x y. nat_eq x.0 y.0 && nat_eq x.1 y.1) a.limits b.limits
 
 abbrev pub same_i_am : IAm → IAm → Bool
-same_i_am a b = same_object a.device b.device && (nat_eq a.max_apdu_length.0 b.max_apdu_length.0 && (nat_eq a.segmentation.0 b.segmentation.0 && nat_eq a.vendor.0 b.vendor.0))
+same_i_am a b = same_object a.object b.object && (nat_eq a.apdu b.apdu && (nat_eq a.segmentation b.segmentation && nat_eq a.vendor b.vendor))
 
 abbrev pub same_subscribe_cov : SubscribeCov → SubscribeCov → Bool
 same_subscribe_cov a b =
-    nat_eq a.process_identifier.0 b.process_identifier.0 && (same_object a.object b.object && (option_eq beq a.confirmed b.confirmed && same_index a.lifetime b.lifetime))
+    nat_eq a.process b.process && (same_object a.object b.object && (option_eq beq a.confirmed b.confirmed && same_index a.lifetime b.lifetime))
 
 abbrev pub same_notification : CovNotification → CovNotification → Bool
 same_notification a b =
-    beq a.confirmed b.confirmed && ((nat_eq a.process_identifier.0 b.process_identifier.0 && (same_object a.device b.device && same_object a.object b.object)) && (nat_eq a.time_remaining.0 b.time_remaining.0 && pointwise same_property_value a.values.items b.values.items))
+    beq a.confirmed b.confirmed && ((nat_eq a.process b.process && (same_object a.device b.device && same_object a.object b.object)) && (nat_eq a.remaining b.remaining && pointwise same_property_value a.values.items b.values.items))
 
 abbrev pub same_service : Service → Service → Bool
 same_service (held.ReadProperty a) (held.ReadProperty b) = same_read_property a b

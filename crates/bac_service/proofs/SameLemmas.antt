@@ -5,9 +5,8 @@ use Rattle.std.specs.Option.{option_eq, option_map}
 use Rattle.std.specs.Cmp.{unsigned_Decides, booleans_Decides}
 use Rattle.std.specs.Cmp.Lexicographic.{pointwise, bytes_decides}
 use Rattle.bac_tag.specs.Spelling.{Joined}
+use Rattle.bac_value.specs.Identifier.{Identifier}
 use Rattle.bac_value.specs.declared.types.enumeration.Enumerated.{Enumerated}
-use Rattle.bac_value.specs.declared.types.unsigned16.Unsigned16.{Unsigned16}
-use Rattle.bac_value.specs.declared.types.unsigned32.Unsigned32.{Unsigned32}
 use Rattle.bac_data.specs.OpenValue.{Elements, AreElements}
 use Rattle.bac_data.specs.Spells.{SpellsOpen}
 use Rattle.bac_data.specs.Same.{same_values}
@@ -36,7 +35,7 @@ use Rattle.bac_service.specs.Opaques.{OpaqueValue, kind_number, opaque_key}
 use Rattle.bac_service.specs.ServiceTable.{ServiceProduction, read_property, read_property_ack, read_property_multiple, read_property_multiple_ack, write_property, write_property_multiple, write_property_multiple_error, who_is, i_am, subscribe_cov, cov_notification, service_error}
 use Rattle.bac_service.specs.ServiceValues.{SaidBy, Said, ServiceValue, typed, opaque, notification_kind, notification_choice, value_of}
 use Rattle.bac_service.specs.Services.{SpellsService}
-use Rattle.bac_service.specs.Same.{same_object, same_index, same_object_property, same_cause, same_reference, same_property_value, same_read_result, same_property_result, same_read_property, same_specification, same_access_result, same_write_specification, same_write_error, same_who_is, same_i_am, same_subscribe_cov, same_notification, same_service}
+use Rattle.bac_service.proofs.Same.{same_object, same_index, same_object_property, same_cause, same_reference, same_property_value, same_read_result, same_property_result, same_read_property, same_specification, same_access_result, same_write_specification, same_write_error, same_who_is, same_i_am, same_subscribe_cov, same_notification, same_service}
 use Rattle.bac_service.specs.Laws.Parts.{property_value_parts, read_property_ack_parts, write_property_parts, specification_parts, access_result_parts, write_specification_parts, notification_parts}
 
 -- ---- tests that decide whether any two values are the same
@@ -63,26 +62,24 @@ pairs {test = test} {other = other} d f p q = by_parts (test p.0 q.0 && other p.
 enumerated : Decided (λ (v w : Enumerated). nat_eq v.0 w.0)
 enumerated v w = by_parts (nat_eq v.0 w.0) (unsigned_Decides v.0 w.0) (λ e. λ i. record { 0 = e i }) (λ e. λ i. (e i).0)
 
-unsigned16 : Decided (λ (v w : Unsigned16). nat_eq v.0 w.0)
-unsigned16 v w = by_parts (nat_eq v.0 w.0) (unsigned_Decides v.0 w.0) (λ e. λ i. record { 0 = e i }) (λ e. λ i. (e i).0)
-
-unsigned32 : Decided (λ (v w : Unsigned32). nat_eq v.0 w.0)
-unsigned32 v w = by_parts (nat_eq v.0 w.0) (unsigned_Decides v.0 w.0) (λ e. λ i. record { 0 = e i }) (λ e. λ i. (e i).0)
-
 objects : Decided same_object
 objects v w = by_parts (same_object v w) (pairs unsigned_Decides unsigned_Decides (v.kind, v.instance) (w.kind, w.instance)) (λ e. λ i. record { kind = (e i).0; instance = (e i).1 }) (λ e. λ i. ((e i).kind, (e i).instance))
 
 indices : Decided same_index
-indices = options unsigned32
+indices = options unsigned_Decides
 
 object_properties : Decided same_object_property
-object_properties = pairs objects (pairs enumerated indices)
+object_properties = pairs objects (pairs unsigned_Decides indices)
+
+-- the parts of a reference to a property of an object
+object_parts : Decided (λ (v w : Identifier × (Enumerated × Option ℕ)). same_object v.0 w.0 && (nat_eq v.1.0.0 w.1.0.0 && same_index v.1.1 w.1.1))
+object_parts = pairs objects (pairs enumerated indices)
 
 causes : Decided same_cause
-causes v w = by_parts (same_cause v w) (pairs enumerated enumerated (v.class, v.code) (w.class, w.code)) (λ e. λ i. record { class = (e i).0; code = (e i).1 }) (λ e. λ i. ((e i).class, (e i).code))
+causes v w = by_parts (same_cause v w) (pairs unsigned_Decides unsigned_Decides (v.class, v.code) (w.class, w.code)) (λ e. λ i. record { class = (e i).0; code = (e i).1 }) (λ e. λ i. ((e i).class, (e i).code))
 
 references : Decided same_reference
-references v w = by_parts (same_reference v w) (pairs enumerated indices (v.property, v.index) (w.property, w.index)) (λ e. λ i. record { property = (e i).0; index = (e i).1 }) (λ e. λ i. ((e i).property, (e i).index))
+references v w = by_parts (same_reference v w) (pairs unsigned_Decides indices (v.property, v.index) (w.property, w.index)) (λ e. λ i. record { property = (e i).0; index = (e i).1 }) (λ e. λ i. ((e i).property, (e i).index))
 
 reads : Decided same_read_property
 reads v w =
@@ -92,7 +89,7 @@ reads v w =
 write_errors : Decided same_write_error
 write_errors v w =
     by_parts (same_write_error v w)
-    (pairs enumerated (pairs enumerated object_properties) (v.class, (v.code, (v.object, (v.property, v.index)))) (w.class, (w.code, (w.object, (w.property, w.index)))))
+    (pairs unsigned_Decides (pairs unsigned_Decides object_properties) (v.class, (v.code, (v.object, (v.property, v.index)))) (w.class, (w.code, (w.object, (w.property, w.index)))))
     (λ e. λ i. record { class = (e i).0; code = (e i).1.0; object = (e i).1.1.0; property = (e i).1.1.1.0; index = (e i).1.1.1.1 })
     (λ e. λ i. ((e i).class, ((e i).code, ((e i).object, ((e i).property, (e i).index)))))
 
@@ -102,16 +99,16 @@ who_ises v w = by_parts (same_who_is v w) (options (pairs unsigned_Decides unsig
 i_ams : Decided same_i_am
 i_ams v w =
     by_parts (same_i_am v w)
-    (pairs objects (pairs unsigned32 (pairs enumerated unsigned16)) (v.device, (v.max_apdu_length, (v.segmentation, v.vendor))) (w.device, (w.max_apdu_length, (w.segmentation, w.vendor))))
-    (λ e. λ i. record { device = (e i).0; max_apdu_length = (e i).1.0; segmentation = (e i).1.1.0; vendor = (e i).1.1.1 })
-    (λ e. λ i. ((e i).device, ((e i).max_apdu_length, ((e i).segmentation, (e i).vendor))))
+    (pairs objects (pairs unsigned_Decides (pairs unsigned_Decides unsigned_Decides)) (v.object, (v.apdu, (v.segmentation, v.vendor))) (w.object, (w.apdu, (w.segmentation, w.vendor))))
+    (λ e. λ i. record { object = (e i).0; apdu = (e i).1.0; segmentation = (e i).1.1.0; vendor = (e i).1.1.1 })
+    (λ e. λ i. ((e i).object, ((e i).apdu, ((e i).segmentation, (e i).vendor))))
 
 subscriptions : Decided same_subscribe_cov
 subscriptions v w =
     by_parts (same_subscribe_cov v w)
-    (pairs unsigned32 (pairs objects (pairs (options booleans_Decides) indices)) (v.process_identifier, (v.object, (v.confirmed, v.lifetime))) (w.process_identifier, (w.object, (w.confirmed, w.lifetime))))
-    (λ e. λ i. record { process_identifier = (e i).0; object = (e i).1.0; confirmed = (e i).1.1.0; lifetime = (e i).1.1.1 })
-    (λ e. λ i. ((e i).process_identifier, ((e i).object, ((e i).confirmed, (e i).lifetime))))
+    (pairs unsigned_Decides (pairs objects (pairs (options booleans_Decides) indices)) (v.process, (v.object, (v.confirmed, v.lifetime))) (w.process, (w.object, (w.confirmed, w.lifetime))))
+    (λ e. λ i. record { process = (e i).0; object = (e i).1.0; confirmed = (e i).1.1.0; lifetime = (e i).1.1.1 })
+    (λ e. λ i. ((e i).process, ((e i).object, ((e i).confirmed, (e i).lifetime))))
 
 -- ---- tests that decide it of values that are spelled
 
@@ -233,7 +230,7 @@ module _ (open_only : (number : ℕ) (v : Elements) (b : List ℕ) → SpellsOpe
 
   tells_property_value : Tells (SpellsPropertyValue 32) same_property_value
   unfolding property_value_parts
-  tells_property_value = tells_record (property_value_parts 32) (tells_joined (tells_plain _ enumerated) (tells_joined (tells_optional (tells_plain _ unsigned32)) (tells_joined (tells_open 2) (tells_optional (tells_plain _ unsigned_Decides)))))
+  tells_property_value = tells_record (property_value_parts 32) (tells_joined (tells_plain _ enumerated) (tells_joined (tells_optional (tells_plain _ unsigned_Decides)) (tells_joined (tells_open 2) (tells_optional (tells_plain _ unsigned_Decides)))))
 
   tells_read_result : Tells (SpellsReadResult 32) same_read_result
   tells_read_result (Value v) (Value w) b c s t = by_parts (same_values v w) (tells_open 4 v w b c s t) (λ e. ap Value e) (λ e. cc)
@@ -251,15 +248,15 @@ module _ (open_only : (number : ℕ) (v : Elements) (b : List ℕ) → SpellsOpe
   }
 
   tells_property_result : Tells (SpellsPropertyResult 32) same_property_result
-  tells_property_result = tells_record property_result_fields (tells_joined (tells_plain _ enumerated) (tells_joined (tells_optional (tells_plain _ unsigned32)) tells_read_result))
+  tells_property_result = tells_record property_result_fields (tells_joined (tells_plain _ unsigned_Decides) (tells_joined (tells_optional (tells_plain _ unsigned_Decides)) tells_read_result))
 
   tells_read_property_ack : Tells (SpellsReadPropertyAck 32) (λ v w. same_service (held.ReadPropertyAck v) (held.ReadPropertyAck w))
   unfolding read_property_ack_parts
-  tells_read_property_ack = tells_record (read_property_ack_parts 32) (tells_joined (tells_plain _ object_properties) (tells_open 3))
+  tells_read_property_ack = tells_record (read_property_ack_parts 32) (tells_joined (tells_plain _ object_parts) (tells_open 3))
 
   tells_write_property : Tells (SpellsWriteProperty 32) (λ v w. same_service (held.WriteProperty v) (held.WriteProperty w))
   unfolding write_property_parts
-  tells_write_property = tells_record (write_property_parts 32) (tells_joined (tells_plain _ object_properties) (tells_joined (tells_open 3) (tells_optional (tells_plain _ unsigned_Decides))))
+  tells_write_property = tells_record (write_property_parts 32) (tells_joined (tells_plain _ object_parts) (tells_joined (tells_open 3) (tells_optional (tells_plain _ unsigned_Decides))))
 
   abbrev specification_test : Specification → Specification → Bool
   specification_test v w = same_object v.object w.object && pointwise same_reference v.properties w.properties
@@ -285,11 +282,11 @@ module _ (open_only : (number : ℕ) (v : Elements) (b : List ℕ) → SpellsOpe
   unfolding write_specification_parts
   tells_write_specification = tells_record (write_specification_parts 32) (tells_joined (tells_plain _ objects) (tells_grouped 1 (tells_items tells_property_value)))
 
-  tells_notification : Tells (SpellsNotification 32) (λ v w. (nat_eq v.process_identifier.0 w.process_identifier.0 && (same_object v.device w.device && same_object v.object w.object)) && (nat_eq v.time_remaining.0 w.time_remaining.0 && pointwise same_property_value v.values w.values))
+  tells_notification : Tells (SpellsNotification 32) (λ v w. (nat_eq v.process w.process && (same_object v.device w.device && same_object v.object w.object)) && (nat_eq v.remaining w.remaining && pointwise same_property_value v.values w.values))
   unfolding notification_parts
   tells_notification =
       tells_record (notification_parts 32)
-      (tells_joined (tells_joined (tells_plain _ unsigned32) (tells_joined (tells_plain _ objects) (tells_plain _ objects))) (tells_joined (tells_plain _ unsigned32) (tells_grouped 4 (tells_items tells_property_value))))
+      (tells_joined (tells_joined (tells_plain _ unsigned_Decides) (tells_joined (tells_plain _ objects) (tells_plain _ objects))) (tells_joined (tells_plain _ unsigned_Decides) (tells_grouped 4 (tells_items tells_property_value))))
 
   tells_specifications : (v w : List ReadAccessSpecification) (s t : List ℕ) → Items SpellsSpecification (map specification_of v) s → Items SpellsSpecification (map specification_of w) t
       → Decides (pointwise same_specification v w) (typed kind.Confirmed 14 read_property_multiple (map specification_of v) ≡ typed kind.Confirmed 14 read_property_multiple (map specification_of w))
