@@ -1,10 +1,11 @@
 -- What the program does with its words, its input and its output.
-use Rattle.std.specs.Prelude.{◌≡◌, ◌⊎◌, ℕ, Bool, true, List, Option, Result, Ok, Err, MatchResult, codes, nat_eq, if◌then◌else◌}
+use Rattle.std.specs.Prelude.{◌≡◌, ◌⊎◌, ℕ, Bool, true, List, Option, Result, Ok, Err, MatchResult, [], nat_eq, if◌then◌else◌}
 use Rattle.std.specs.Io.KnownBytes.{Appends}
 use Rattle.clap.specs.Words.{IsAmong, Kinds, Row, Text}
 use Rattle.clap.specs.declared.error.ErrorKind.{ErrorKind}
 use Rattle.clap.specs.declared.error.ErrorKind.TheVariants.{DisplayHelp, DisplayVersion, OutOfMemory}
 use Rattle.bac_tool.specs.CommandLine.{NamesJob}
+use Rattle.bac_tool.specs.ErrorLines.{error_line, fault_text, memory_text, write_text}
 use Rattle.bac_stream.specs.Judging.{IsCanonical, IsRefused, Refuses}
 use Rattle.bac_stream.specs.declared.modes.Mode.{Mode}
 use Rattle.bac_stream.specs.Lines.{ShowsAs, ChecksAs, NormalisesTo}
@@ -58,20 +59,6 @@ pub record Sink : Type 0 where
   pub taken : Option (List ℕ)
   pub failures : ℕ
 
--- The job that the words name was run, and the status is that of its answer.
-pub record HasRun (named : Option (Text × List Row)) (input input' : Source) (output output' : Sink) (status : ℕ) : Type 0 where
-  pub job : Job
-  pub answer : Result ℕ JobFault
-  pub names : NamesJob named job
-  pub runs : RunsAs job input.left input'.left output.taken output'.taken answer
-  pub counted : MatchResult answer (λ _. (input'.failures ≡ input.failures) × (output'.failures ≡ output.failures))
-      (Counts input.failures input'.failures output.failures output'.failures)
-  pub status_is : status ≡ status_of answer
-
--- the line that tells want of memory
-abbrev pub out_of_memory : List ℕ
-out_of_memory = codes "bactool: out of memory\n"
-
 -- A part of the octets, which is not all of them, was taken, and the output failed.
 abbrev pub TakesPart : Sink → Sink → List ℕ → Type 0
 TakesPart old new octets = (count : ℕ) × TakesFront old.taken new.taken octets count × HasRisen old.failures new.failures
@@ -80,17 +67,36 @@ TakesPart old new octets = (count : ℕ) × TakesFront old.taken new.taken octet
 abbrev pub Receives : Sink → Sink → List ℕ → Type 0
 Receives old new octets = (Appends old.taken new.taken octets × (new.failures ≡ old.failures)) ⊎ TakesPart old new octets
 
+-- The words have no fault, the job that they name was run, the errors received the line of its fault, or nothing, and the status is
+-- that of its answer.
+pub record HasRun (named : Option (Text × List Row)) (faults : Kinds) (input input' : Source) (output output' errors errors' : Sink) (status : ℕ) : Type 0 where
+  pub job : Job
+  pub answer : Result ℕ JobFault
+  pub names : NamesJob named job
+  pub faultless : faults ≡ []
+  pub runs : RunsAs job input.left input'.left output.taken output'.taken answer
+  pub counted : MatchResult answer (λ _. (input'.failures ≡ input.failures) × (output'.failures ≡ output.failures))
+      (Counts input.failures input'.failures output.failures output'.failures)
+  pub told : MatchResult answer (λ _. errors' ≡ errors) (λ stopped. Receives errors errors' (error_line (fault_text stopped)))
+  pub status_is : status ≡ status_of answer
+
+-- the line that tells want of memory
+abbrev pub out_of_memory : List ℕ
+out_of_memory = error_line memory_text
+
 -- Nothing was written to the output, and the errors received this text. That is failure.
 pub record Tells (output output' errors errors' : Sink) (text : List ℕ) (status : ℕ) : Type 0 where
   pub unwritten : output' ≡ output
   pub told : Receives errors errors' text
   pub status_is : status ≡ 2
 
--- The text was written to the output. Where the output took it whole the errors took nothing, and all went well.
+-- The text was written to the output. Where the output took it whole the errors took nothing, and all went well. Where it took a
+-- part and failed, the errors received the line of a write fault.
 abbrev pub Gives : List ℕ → Sink → Sink → Sink → Sink → ℕ → Type 0
 Gives text output output' errors errors' status =
     (Appends output.taken output'.taken text × (output'.failures ≡ output.failures) × (errors' ≡ errors) × (status ≡ 0))
-    ⊎ (TakesPart output output' text × (status ≡ 2))
+    ⊎ ((count : ℕ) × TakesFront output.taken output'.taken text count × HasRisen output.failures output'.failures
+    × Receives errors errors' (error_line (write_text count)) × (status ≡ 2))
 
 -- Some text was.
 abbrev pub Writes : Sink → Sink → Sink → Sink → ℕ → Type 0

@@ -7,16 +7,19 @@
 #![tactic(auto)]
 
 mod command_line;
+mod error_lines;
 mod job_faults;
 mod tool;
 #[cfg(test)]
 mod tool_tests;
 mod words;
 
+use arrayvec::ArrayString;
 pub use bac_pack::{PackFault, run_pack};
-use bac_stream::Counted;
+use bac_stream::{Counted, Output};
 pub use command_line::Job;
 pub use job_faults::JobFault;
+use std::fmt::Write;
 use std::io;
 use std::process::ExitCode;
 pub use tool::run_tool;
@@ -29,9 +32,20 @@ fn main(rt: HostRuntime) -> ExitCode {
     match run_process(&rt) {
         Ok(status) => ExitCode::from(status),
         Err(error) => {
-            tool::tell(&error, &mut Counted::new(rt.stderr()));
+            tell_error(&error, &mut Counted::new(rt.stderr()));
             ExitCode::from(FAILED)
         }
+    }
+}
+
+/// The octets of the longest line that [`tell_error`] writes.
+const LINE: usize = 128;
+
+/// Writes a line with an error of the system behind the program's name. No memory is taken. A longer line is left out.
+fn tell_error<E: Output>(error: &io::Error, errors: &mut E) {
+    let mut line = ArrayString::<LINE>::new();
+    if writeln!(line, "bactool: {error}").is_ok() {
+        error_lines::tell_text(line.as_bytes(), errors);
     }
 }
 

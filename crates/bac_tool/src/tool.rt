@@ -3,17 +3,16 @@
 ghost use Rattle.std.specs.Prelude.{◌≡◌, ◌⊎◌, MatchResult, map};
 ghost use Rattle.clap.specs.Words.{fault_of, kind_of, subcommand_of, takes};
 ghost use Rattle.bac_tool.specs.CommandLine.{bactool};
-ghost use Rattle.bac_tool.specs.Tool.{Answers, Counts, Gives, HasNotRun, HasRun, Receives, RunsAs, status_of as status_of_answer};
+ghost use Rattle.bac_tool.specs.Tool.{Answers, Counts, Gives, HasNotRun, HasRun, RunsAs, status_of as status_of_answer};
 
+use crate::error_lines::{tell_fault, tell_text, tell_write_fault};
 use crate::{Job, JobFault, job};
-use arrayvec::ArrayString;
 use bac_pack::run_pack;
 use bac_record::layers::write_whole;
-use bac_stream::{Input, Output, RunFault, StreamFault, run_check, run_normalise, run_show};
+use bac_stream::{Input, Output, RunFault, run_check, run_normalise, run_show};
 use clap::Error;
 use clap::error::ErrorKind;
 use std::alloc::Global;
-use std::fmt::{Display, Write};
 
 /// All went well.
 const WELL: u8 = 0;
@@ -27,24 +26,6 @@ const FAILED: u8 = 2;
 /// The line that reports that memory was refused. It is a constant, since there may be no memory to make it.
 const OUT_OF_MEMORY: &[u8] = b"bactool: out of memory\n";
 
-/// The longest line on standard error, with room to spare.
-const LINE: usize = 128;
-
-/// Writes the program's name and `what` as one line. No memory is taken.
-pub(crate) fn tell<E: Output, T: Display>(what: &T, errors: &mut E) {
-    let mut line = ArrayString::<LINE>::new();
-    if writeln!(line, "bactool: {what}").is_ok() {
-        let _ = write_whole(errors, line.as_bytes());
-    }
-}
-
-/// Writes a text, or as much of it as `errors` takes.
-fn tell_text<E: Output>(text: &[u8], errors: &mut E)
-    ensures { Receives (record { taken = E.taken errors.old; failures = E.failures errors.old }) (record { taken = E.taken errors.new; failures = E.failures errors.new }) text.now }
-{
-    let _ = write_whole(errors, text);
-}
-
 /// Writes a text that was asked for, and returns the status.
 fn write_text<W: Output, E: Output>(text: &[u8], output: &mut W, errors: &mut E) -> u8
     ensures { Gives text.now (record { taken = W.taken output.old; failures = W.failures output.old }) (record { taken = W.taken output.new; failures = W.failures output.new })
@@ -53,7 +34,7 @@ fn write_text<W: Output, E: Output>(text: &[u8], output: &mut W, errors: &mut E)
     match write_whole(output, text) {
         Ok(()) => WELL,
         Err(count) => {
-            tell(&StreamFault::WriteFault(count as u128), errors);
+            tell_write_fault(count as u128, errors);
             FAILED
         }
     }
@@ -125,7 +106,7 @@ fn status_of(answer: &Result<u32, JobFault>) -> u8
 }
 
 /// Runs the program: does what the words ask for, from the input to the output, with one line on `errors` if it fails.
-/// What `errors` does not take is dropped.
+/// What `errors` does not take of it is dropped.
 ///
 /// Returns the exit status: 0 if all went well, or if help or the version was asked for and written; 1 if a frame was
 /// refused and nothing worse happened; 2 if the words have a fault, or a device, the framing or memory failed.
@@ -136,9 +117,10 @@ pub fn run_tool<R: Input, W: Output, E: Output>(
     output: &mut W,
     errors: &mut E,
 ) -> u8
-    ensures { HasRun (subcommand_of bactool (map (λ word. word.now) words.entry.now))
+    ensures { HasRun (subcommand_of bactool (map (λ word. word.now) words.entry.now)) (fault_of bactool (map (λ word. word.now) words.entry.now))
         (record { left = R.left input.old; failures = R.failures input.old }) (record { left = R.left input.new; failures = R.failures input.new })
-        (record { taken = W.taken output.old; failures = W.failures output.old }) (record { taken = W.taken output.new; failures = W.failures output.new }) result
+        (record { taken = W.taken output.old; failures = W.failures output.old }) (record { taken = W.taken output.new; failures = W.failures output.new })
+        (record { taken = E.taken errors.old; failures = E.failures errors.old }) (record { taken = E.taken errors.new; failures = E.failures errors.new }) result
         ⊎ HasNotRun (takes bactool (map (λ word. word.now) words.entry.now)) (fault_of bactool (map (λ word. word.now) words.entry.now))
         (record { left = R.left input.old; failures = R.failures input.old }) (record { left = R.left input.new; failures = R.failures input.new })
         (record { taken = W.taken output.old; failures = W.failures output.old }) (record { taken = W.taken output.new; failures = W.failures output.new })
@@ -149,8 +131,8 @@ pub fn run_tool<R: Input, W: Output, E: Output>(
         Err(error) => return answer_words(alloc, &error, output, errors),
     };
     let answer = run_job(alloc, job, input, output);
-    if let Err(fault) = &answer {
-        tell(fault, errors);
+    if let Err(fault) = answer {
+        tell_fault(fault, errors);
     }
     status_of(&answer)
 }

@@ -1,7 +1,9 @@
 //! The program over readers and writers in memory: worked examples of docs/EXAMPLES.md.
 
+use crate::error_lines::tell_fault;
 use crate::{Job, JobFault, PackFault, job, run_tool};
 use bac_stream::{Counted, Input, Mode, Output, RunFault, StreamFault};
+use bac_tag::{Refusal, Why};
 use std::alloc::Global;
 use std::fmt::Debug;
 use std::io::{self, ErrorKind, Read};
@@ -196,36 +198,83 @@ fn a_writer_that_fails_is_told(rt: HostRuntime) {
     }
 }
 
-/// Stops the test unless this is how the fault is shown.
-fn is_shown(rt: &impl Abort, alloc: Global, fault: JobFault, text: &str) {
-    let shown = format!(in alloc; "{fault}").expect(rt, "memory");
-    assert_same(rt, shown.as_str(), text, fault);
+/// Stops the test unless the line of the fault has this text.
+fn is_told(rt: &impl Abort, alloc: Global, fault: JobFault, text: &str) {
+    let mut errors = Counted::new(Vec::new(alloc));
+    tell_fault(fault, &mut errors);
+    let line = format!(in alloc; "bactool: {text}\n").expect(rt, "memory");
+    assert_same(rt, errors.device.as_slice(), line.as_bytes(), fault);
 }
 
-/// Stops the test unless this is how a fault of the stream at the third record is shown.
-fn is_shown_of_stream(rt: &impl Abort, alloc: Global, fault: StreamFault, text: &str) {
-    let fault = JobFault::Run(RunFault::Stream { at: 3, fault });
-    is_shown(rt, alloc, fault, text);
-}
-
-// That a frame is refused is reported for records that are normalised.
+// A fault of the library is shown as the program tells it, where the line has the number of the record too.
 #[test]
-fn faults_are_shown(rt: HostRuntime) {
+fn faults_are_told(rt: HostRuntime) {
     let alloc = rt.alloc();
-    let fault = StreamFault::Truncated;
-    is_shown_of_stream(&rt, alloc, fault, "record 3: truncated");
-    let fault = StreamFault::RecordTooLong;
-    is_shown_of_stream(&rt, alloc, fault, "record 3: too long");
-    let fault = StreamFault::ReadFault;
-    is_shown_of_stream(&rt, alloc, fault, "record 3: read fault");
-    let fault = StreamFault::WriteFault(9);
-    is_shown_of_stream(&rt, alloc, fault, "write fault after 9 octets");
-    let fault = StreamFault::TooManyFrames;
-    is_shown_of_stream(&rt, alloc, fault, "more than 1000000 records");
-    let fault = StreamFault::OutOfMemory;
-    is_shown_of_stream(&rt, alloc, fault, "out of memory");
-    let fault = JobFault::Pack(PackFault::NotHex(2));
-    is_shown(&rt, alloc, fault, "line 2: not hexadecimal");
+    let (at, place, why) = (u32::MAX, usize::MAX, Why::NotCanonical);
+    let refusal = Refusal { place, why };
+    let text = "record 4294967295: refused NotCanonical at 18446744073709551615";
+    is_told(
+        &rt,
+        alloc,
+        JobFault::Run(RunFault::Frame { at, refusal }),
+        text,
+    );
+    let faults = [
+        (StreamFault::Truncated, "record 3: truncated"),
+        (StreamFault::RecordTooLong, "record 3: too long"),
+        (StreamFault::ReadFault, "record 3: read fault"),
+        (StreamFault::TooManyFrames, "more than 1000000 records"),
+        (StreamFault::OutOfMemory, "out of memory"),
+    ];
+    for (fault, text) in faults {
+        is_told(
+            &rt,
+            alloc,
+            JobFault::Run(RunFault::Stream { at: 3, fault }),
+            text,
+        );
+    }
+    let faults = [
+        (PackFault::LineTooLong(2), "line 2: too long"),
+        (PackFault::NotHex(2), "line 2: not hexadecimal"),
+        (PackFault::RecordTooLong(2), "line 2: too long"),
+        (PackFault::ReadFault(2), "line 2: read fault"),
+        (PackFault::TooManyLines, "more than 1000000 records"),
+        (PackFault::OutOfMemory(2), "out of memory"),
+    ];
+    for (fault, text) in faults {
+        is_told(&rt, alloc, JobFault::Pack(fault), text);
+    }
+}
+
+// 2^64 and the largest number have more digits than a number of 64 bits.
+#[test]
+fn write_faults_are_told(rt: HostRuntime) {
+    let alloc = rt.alloc();
+    let counts = [
+        0,
+        9,
+        10,
+        u128::from(u64::MAX),
+        u128::from(u64::MAX) + 1,
+        u128::MAX,
+    ];
+    for count in counts {
+        let text = format!(in alloc; "write fault after {count} octets").expect(&rt, "memory");
+        let fault = StreamFault::WriteFault(count);
+        is_told(
+            &rt,
+            alloc,
+            JobFault::Run(RunFault::Stream { at: 1, fault }),
+            &text,
+        );
+        is_told(
+            &rt,
+            alloc,
+            JobFault::Pack(PackFault::WriteFault(count)),
+            &text,
+        );
+    }
 }
 
 /// A reader that gives these octets, one in each call, and then fails.
