@@ -2,20 +2,25 @@
 #   make look    builds the program without any proof, and runs it on a file of examples (a minute or two)
 #   make         proves and builds the program, and leaves it in bin/bactool
 #   make test    the checks of the documents, then the merge gate: every proof from nothing, every test, the program on
-#                the files of examples, and the examples in C, Python and Rust on the library of what was proved
+#                the files of examples and the commands that the documents show, and the examples in C, Python and Rust on
+#                the library of what was proved
 #   make check   proves what changed since the last check, while editing
 #   make bench   measures the program on a million records, the calls from C on the same, and values, services, APDUs
 #                and frames of the library
 #   make memory  runs tests of the library with each of the first twelve allocations refused in turn, and the program
 #                with each of the first sixty (by hand: it takes an hour)
 #   make wrong-bodies  tries the wrong bodies that the gate leaves out (by hand: it takes an hour and more)
+#   make try-helpers  runs the tests of the helpers in Python (by hand: it takes a minute)
 #   make lib     proves and builds the library for C, and leaves it in lib/libbactool.a and lib/libbactool.so
 #   make try-library  runs it from C, Python and Rust on the examples, and then tries hostile use of it (some seconds)
-#   make install, make uninstall  put the program, the library, its header and the man page below PREFIX, or take them
-#                away; PREFIX is /usr/local, and DESTDIR stands in front of it
+#   make install, make uninstall  put the program, the library, its header, the man page, the helpers, the Python module
+#                and completions below PREFIX, or take them away; PREFIX is /usr/local, and DESTDIR is put before it
+#   make dist    packs what make and make lib left as a tar file and a Debian package, into dist/
+#   make try-dist  unpacks both where nothing else is, and tries what is in them
 #   make clean   removes what the others made
+#   make help    prints these lines
 
-.PHONY: build look test check bench memory wrong-bodies lib try-library install uninstall clean need-rt
+.PHONY: build look test check bench memory wrong-bodies try-helpers lib try-library install uninstall dist try-dist clean help need-rt
 
 build: need-rt
 	@echo "bactool: proving and building it into bin/bactool (long the first time, seconds after that)"
@@ -51,11 +56,17 @@ memory: need-rt
 wrong-bodies: need-rt
 	@scripts/wrong-bodies
 
-# Where make install puts what it installs; DESTDIR stands in front of all.
+try-helpers:
+	@scripts/try-npdus-from-capture
+	@scripts/try-with-names
+
+# Where make install puts what it installs; DESTDIR is put before it.
 PREFIX ?= /usr/local
 TO = $(DESTDIR)$(PREFIX)
 INSTALLED = bin/bactool include/bactool.h lib/libbactool.a lib/libbactool.so lib/libbactool.so.0 \
-	lib/pkgconfig/bactool.pc share/man/man1/bactool.1
+	lib/pkgconfig/bactool.pc share/man/man1/bactool.1 share/bactool/npdus-from-capture share/bactool/with-names \
+	share/bactool/bactool.py share/bash-completion/completions/bactool share/zsh/site-functions/_bactool
+VERSION := $(shell cat VERSION)
 
 lib: need-rt
 	@echo "bactool: proving and building the library into lib/ (long the first time, seconds after that)"
@@ -73,14 +84,31 @@ install:
 	@install -m 644 lib/libbactool.a $(TO)/lib/libbactool.a
 	@install -m 755 lib/libbactool.so.0 $(TO)/lib/libbactool.so.0
 	@ln -sf libbactool.so.0 $(TO)/lib/libbactool.so
-	@sed 's|@PREFIX@|$(PREFIX)|' include/bactool.pc.in > $(TO)/lib/pkgconfig/bactool.pc
+	@sed 's|@PREFIX@|$(PREFIX)|; s|@VERSION@|$(VERSION)|' include/bactool.pc.in > $(TO)/lib/pkgconfig/bactool.pc
+	@chmod 644 $(TO)/lib/pkgconfig/bactool.pc
 	@install -m 644 docs/bactool.1 $(TO)/share/man/man1/bactool.1
+	@install -m 755 scripts/npdus-from-capture scripts/with-names $(TO)/share/bactool
+	@install -m 644 examples/python/bactool.py $(TO)/share/bactool
+	@install -m 644 completions/bactool.bash $(TO)/share/bash-completion/completions/bactool
+	@install -m 644 completions/_bactool $(TO)/share/zsh/site-functions/_bactool
 
+# Python leaves its own folder beside the module.
 uninstall:
 	@rm -f $(addprefix $(TO)/,$(INSTALLED))
+	@rm -rf $(TO)/share/bactool/__pycache__
+	@rmdir $(TO)/share/bactool 2> /dev/null || true
+
+dist:
+	@scripts/dist
+
+try-dist:
+	@scripts/try-dist
 
 clean:
-	@rm -rf bin lib crates/*/out
+	@rm -rf bin lib dist crates/*/out
+
+help:
+	@sed -n '2,/^$$/s/^#   //p' Makefile
 
 need-rt:
 	@command -v rt > /dev/null || { echo "bactool: the toolchain's command rt is not on the PATH; README.md says which kit is wanted" >&2; exit 1; }
