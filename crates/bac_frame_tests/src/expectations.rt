@@ -24,7 +24,7 @@ pub fn assert_holds<C: Debug + Drop>(rt: &impl Abort, holds: bool, case: C) {
     assert!(rt; holds, "of {case:?}");
 }
 
-/// Stops the test unless these are the octets in front and those behind them. It tells how many there are, since there
+/// Stops the test unless these are the octets in front and those after them. A failure shows how many there are: there
 /// may be a mebibyte of them.
 pub fn assert_joined(rt: &impl Abort, found: &[u8], front: &[u8], behind: &[u8]) {
     assert_same(rt, Some(found.len()), front.len().checked_add(behind.len()));

@@ -1,4 +1,5 @@
-//! What is appended to a mebibyte of text stands behind it, and the text stays: no clause says that memory is there.
+//! What is appended to a mebibyte of text comes after it, and the text is unchanged. This is a test, since no clause says
+//! that memory is there.
 
 use crate::expectations::assert_joined;
 use bac_apdu::{append_apdu, decode_apdu};

@@ -103,7 +103,7 @@ fn parts_are_those_of_the_octets(rt: HostRuntime) {
     assert_same(&rt, (*reason, *network), (1, 9));
 }
 
-// As they stand in their enums, from 1 on.
+// In the order of their enums, from 1 on.
 #[test]
 fn faults_have_numbers_and_texts(rt: HostRuntime) {
     let alloc = rt.alloc();

@@ -7,7 +7,7 @@ use bac_tag::{Refusal, Why};
 use std::alloc::Global;
 use std::process::Abort;
 
-/// What `same_meaning` tells, at the latest when memory is asked for again.
+/// What `same_meaning` returns, at the latest when memory is asked for again.
 fn told(rt: &impl Abort, alloc: Global, left: &str, right: &str) -> Result<bool, (Side, Refusal)> {
     let left = octets_of(left).expect(rt, "octets");
     let right = octets_of(right).expect(rt, "octets");
