@@ -12,7 +12,7 @@ use Rattle.bac_service.specs.ServiceValues.{ServiceValue}
 use Rattle.bac_service.specs.Services.{SpellsService}
 use Rattle.bac_apdu.specs.declared.segment.SegHead.{SegHead}
 use Rattle.bac_apdu.specs.declared.segment.SegHead.TheVariants.{Request, Ack}
-use Rattle.bac_tag.specs.HeadOctets.{Part, Headed, least_head}
+use Rattle.bac_tag.specs.HeadOctets.{least_head}
 use Rattle.bac_apdu.specs.FirstOctet.{type_at, seg_at}
 use Rattle.bac_apdu.specs.Segment.{segment_head, segment_head_size}
 use Rattle.bac_apdu.specs.Apdus.{ApduValue, confirmed_request, unconfirmed_request, simple_ack, complex_ack, segment_ack, error, reject, abort, segment, head_of, SpellsBody, SpellsApdu, IsSegment}
@@ -22,7 +22,7 @@ use Rattle.bac_apdu.proofs.TypeLemmas.{named, nothing_spells}
 
 -- what stands behind a head
 -- the only list
-one_least : (B : List ℕ → Type 0) (piece : List ℕ) → B piece → ((c : List ℕ) → B c → c ≡ piece) → IsLeast B piece
+pub one_least : (B : List ℕ → Type 0) (piece : List ℕ) → B piece → ((c : List ℕ) → B c → c ≡ piece) → IsLeast B piece
 one_least B piece h only = record { member = h; least = λ c k. NoGreater-same piece c (sym (only c k)) }
 
 module _ (services : (k : Kind) (c : ℕ) (v : ServiceValue) (b : List ℕ) → SpellsService true 32 k c v b → (d : List ℕ) × IsLeast (SpellsService true 32 k c v) d) where

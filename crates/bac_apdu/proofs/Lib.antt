@@ -14,6 +14,9 @@ mod AbortLemmas
 mod SegmentLemmas
 mod OnceLemmas
 mod LawLemmas
+pub mod CaseLemmas
+mod HeldLemmas
+pub mod SameLemmas
 mod AppendingLemmas
 mod VisitLemmas
 pub mod FormerLemmas

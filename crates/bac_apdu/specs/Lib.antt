@@ -10,5 +10,6 @@ pub mod Reject
 pub mod Abort
 pub mod Segment
 pub mod Apdus
+pub mod Cases
 pub mod Decoded
 pub mod FormerApdus

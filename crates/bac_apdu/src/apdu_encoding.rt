@@ -1,11 +1,12 @@
 //! Encoding an APDU.
 
-ghost use Rattle.std.specs.Prelude.{◌≡◌, IfOk, OnOk, OnErr};
+ghost use Rattle.std.specs.Prelude.{◌≡◌, ℕ, List, IfOk, OnOk, OnErr};
 ghost use Rattle.bac_tag.specs.Spelling.{IsLeast, AppendsLeast};
 ghost use Rattle.bac_apdu.specs.Apdus.{SpellsApdu, value_of};
 
 use crate::abort::append_abort;
 use crate::apdu::Apdu;
+use crate::laws::held_apdus_have_canonical_octets;
 use crate::reject::append_reject;
 use crate::segment_ack::append_segment_ack;
 use crate::simple_ack::append_simple_ack;
@@ -21,8 +22,10 @@ const FIRST_ROOM: usize = 64;
 /// `OutOfMemory` if memory is refused. `out` then stays as it was.
 pub fn append_apdu(apdu: &Apdu, out: &mut Vec<u8>) -> Result<(), OutOfMemory>
     ensures written { OnOk result (AppendsLeast (SpellsApdu (value_of apdu.now)) out.old.items out.new.items) }
+    ensures spelled { (b : List ℕ) × IsLeast (SpellsApdu (value_of apdu.now)) b }
     ensures unchanged { OnErr result (out.new.items ≡ out.old.items) }
 {
+    held_apdus_have_canonical_octets(apdu);
     match apdu {
         Apdu::Confirmed(request) => request.append(out),
         Apdu::Unconfirmed(request) => request.append(out),

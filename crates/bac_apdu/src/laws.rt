@@ -1,13 +1,21 @@
 //! Laws of the definitions.
 
-ghost use Rattle.std.specs.Prelude.{◌≡◌, ◌↔◌, ℕ, Bool, List, ◌∷◌, ◌++◌, length};
-ghost use Rattle.bac_tag.specs.Spelling.{IsLeast};
+ghost use Rattle.std.specs.Prelude.{◌≡◌, ◌<◌, ◌↔◌, ◌⊎◌, ℕ, Bool, IsTrue, List, ◌∷◌, ◌++◌, length};
+ghost use Rattle.bac_tag.specs.Octets.{IsOctets};
+ghost use Rattle.bac_tag.specs.Spelling.{IsLeast, IsViable, IsPartway};
 ghost use Rattle.bac_apdu.specs.declared.segment.SegHead.{SegHead};
+ghost use Rattle.bac_apdu.specs.declared.apdu.Apdu.TheVariants.{Segment as HeldSegment};
 ghost use Rattle.bac_apdu.specs.FirstOctet.{type_at, seg_at};
 ghost use Rattle.bac_apdu.specs.Segment.{segment_head_size};
-ghost use Rattle.bac_apdu.specs.Apdus.{ApduValue, segment, SpellsApdu, IsSegment};
+ghost use Rattle.bac_apdu.specs.Apdus.{ApduValue, segment, SpellsApdu, IsSegment, value_of};
+ghost use Rattle.bac_apdu.specs.Cases.{SpellsConfirmed, SpellsUnconfirmed, SpellsSimpleAck, SpellsComplexAck, SpellsSegmentAck, SpellsError, SpellsReject, SpellsAbort, SpellsSegment, SpellsHead, SpellsAfter};
 ghost use Rattle.bac_apdu.specs.Decoded.{is_small, begins_small};
 ghost use Rattle.bac_apdu.specs.FormerApdus.{SpellsFormerApdu, IsKept};
+
+use crate::apdu::Apdu;
+use crate::confirmed_request::RequestHead;
+use crate::segment::{SegHead, Segment};
+use bac_service::laws::held_services_have_canonical_octets;
 
 /// No list of octets spells two APDUs.
 pub fn apdus_have_one_value()
@@ -21,6 +29,112 @@ pub fn canonical_octets_tell_the_apdu()
     ensures { (v w : ApduValue) (c d : List ℕ) → IsLeast (SpellsApdu v) c → IsLeast (SpellsApdu w) d → (v ≡ w) ↔ (c ≡ d) }
 {
     apdus_have_one_value();
+}
+
+/// Returns `a == b`: two APDUs that are spelled are equal exactly where they are the same APDU.
+pub fn equal_apdus_are_the_same(a: &Apdu, b: &Apdu) -> bool
+    ensures { (c d : List ℕ) → SpellsApdu (value_of a.now) c → SpellsApdu (value_of b.now) d → IsTrue result ↔ (value_of a.now ≡ value_of b.now) }
+{
+    bac_data::laws::only_open_values_are_spelled();
+    a == b
+}
+
+/// An octet is below 256.
+#[inline(always)]
+fn is_octet(number: u8)
+    ensures { number < 256 }
+{}
+
+/// The items of a list of octets are below 256.
+#[inline(always)]
+fn are_octets(octets: &[u8])
+    ensures { IsOctets octets.now }
+{}
+
+/// The numbers in the head of a request are in their ranges.
+#[inline(always)]
+fn is_request_head(head: RequestHead)
+    ensures { (head.segs < 8) × (head.resp < 16) × (head.invoke < 256) }
+{
+    let _ = head.segs.number();
+    let _ = head.resp.number();
+    is_octet(head.invoke);
+}
+
+/// A segment that a program holds has canonical octets.
+#[inline(always)]
+fn held_segments_have_canonical_octets(segment: &Segment)
+    ensures { (b : List ℕ) × IsLeast (SpellsApdu (value_of (HeldSegment segment.now))) b }
+{
+    is_octet(segment.seq);
+    let _ = segment.window.number();
+    is_octet(segment.choice);
+    are_octets(&segment.piece);
+    match segment.head {
+        SegHead::Request(head) => is_request_head(head),
+        SegHead::Ack { invoke } => is_octet(invoke),
+    }
+}
+
+/// Each APDU that a program holds has canonical octets.
+#[inline(always)]
+pub fn held_apdus_have_canonical_octets(apdu: &Apdu)
+    ensures { (b : List ℕ) × IsLeast (SpellsApdu (value_of apdu.now)) b }
+{
+    match apdu {
+        Apdu::Confirmed(request) => {
+            is_request_head(request.head());
+            held_services_have_canonical_octets(request.service());
+        }
+        Apdu::Unconfirmed(request) => held_services_have_canonical_octets(request.service()),
+        Apdu::SimpleAck { invoke, choice } => {
+            is_octet(*invoke);
+            is_octet(*choice);
+        }
+        Apdu::ComplexAck(ack) => {
+            is_octet(ack.invoke());
+            held_services_have_canonical_octets(ack.service());
+        }
+        Apdu::SegmentAck {
+            invoke,
+            seq,
+            window,
+            ..
+        } => {
+            is_octet(*invoke);
+            is_octet(*seq);
+            let _ = window.number();
+        }
+        Apdu::Error(answer) => {
+            is_octet(answer.invoke());
+            held_services_have_canonical_octets(answer.service());
+        }
+        Apdu::Reject { invoke, reason } => {
+            is_octet(*invoke);
+            is_octet(*reason);
+        }
+        Apdu::Abort { invoke, reason, .. } => {
+            is_octet(*invoke);
+            is_octet(*reason);
+        }
+        Apdu::Segment(segment) => held_segments_have_canonical_octets(segment),
+    }
+}
+
+/// A list begins an APDU exactly where it begins one of a type: a Confirmed-Request, an Unconfirmed-Request, a
+/// SimpleACK, a ComplexACK, a SegmentACK, an Error, a Reject, an Abort or a segment.
+pub fn apdus_are_viable_in_a_case()
+    ensures { (b : List ℕ) → IsViable SpellsApdu b
+        ↔ (IsViable SpellsConfirmed b ⊎ (IsViable SpellsUnconfirmed b ⊎ (IsViable SpellsSimpleAck b ⊎ (IsViable SpellsComplexAck b
+        ⊎ (IsViable SpellsSegmentAck b ⊎ (IsViable SpellsError b ⊎ (IsViable SpellsReject b ⊎ (IsViable SpellsAbort b ⊎ IsViable SpellsSegment b)))))))) }
+{}
+
+/// A list begins an APDU exactly where it begins the head of one, or is the head of one with the beginning of what can
+/// come after this head.
+pub fn heads_and_bodies_are_viable_in_turn()
+    ensures { (b : List ℕ) → IsViable SpellsApdu b ↔ (IsViable SpellsHead b ⊎ IsPartway SpellsHead SpellsAfter b) }
+{
+    bac_service::laws::each_choice_has_a_service();
 }
 
 /// Each APDU that some octets spell has canonical octets.

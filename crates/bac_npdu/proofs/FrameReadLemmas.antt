@@ -31,7 +31,7 @@ use Rattle.bac_npdu.proofs.WrittenLemmas.{least_octets_then}
 use Rattle.bac_npdu.proofs.HeadLemmas.{addresses_agree, flag_once, flag_told}
 use Rattle.bac_npdu.proofs.PlaceLemmas.{addresses, at_body, length_at, as_address}
 use Rattle.bac_npdu.proofs.FrameLemmas.{frame_least}
-use Rattle.bac_npdu.proofs.HeadRefusedLemmas.{HasParts, frame_of, frame_every, parts_of, head_then}
+use Rattle.bac_npdu.proofs.HeadRefusedLemmas.{frame_of, frame_every, parts_of, head_then}
 
 -- ---- the octets in front of the body
 

@@ -1,16 +1,16 @@
 -- Laws of frames.
-use Rattle.std.specs.Prelude.{◌≡◌, ℕ, ◌≤◌, List, [], ◌∷◌, ◌++◌, length, refl}
-use Rattle.std.proofs.Common.{inl, inr, sym, arith}
+use Rattle.std.specs.Prelude.{◌≡◌, ℕ, ◌≤◌, List, [], ◌∷◌, ◌++◌, length}
+use Rattle.std.proofs.Common.{inl, inr, arith}
 use Rattle.bac_tag.specs.Octets.{NoGreater}
 use Rattle.bac_tag.specs.Spelling.{IsLeast}
 use Rattle.bac_tag.specs.HeadOctets.{least_head}
-use Rattle.bac_tag.specs.Laws.Octets.{NoGreater-same}
-use Rattle.bac_tag.proofs.HeadOctetLemmas.{parts_are, headed_rest, headed_least}
+use Rattle.bac_tag.proofs.HeadOctetLemmas.{parts_are, headed_rest}
 use Rattle.bac_apdu.specs.Apdus.{ApduValue, SpellsApdu}
 use Rattle.bac_npdu.specs.Messages.{MessageValue, octets_of, SpellsMessage}
 use Rattle.bac_npdu.specs.Control.{least_of}
 use Rattle.bac_npdu.specs.Frames.{BodyValue, apdu, message, FrameValue, control_of, addresses_of, SpellsBody, SpellsFrame}
 use Rattle.bac_npdu.proofs.FrameLemmas.{frame_least}
+use Rattle.bac_npdu.proofs.HeldLemmas.{message_held}
 
 no_longer : (c b : List ℕ) → NoGreater c b → length c ≤ length b
 no_longer c b (inl lt) = omega (arith, lt)
@@ -19,14 +19,8 @@ no_longer c b (inr same) = omega (arith, same.0)
 pub frame_no_longer : (f : FrameValue) (b c : List ℕ) → IsLeast (SpellsFrame f) c → SpellsFrame f b → length c ≤ length b
 frame_no_longer f b c L s = no_longer c b (L.least b s)
 
--- what stands behind a head
-nothing_least : IsLeast (λ (rest : List ℕ). rest ≡ []) []
-nothing_least = record { member = refl; least = λ c e. NoGreater-same [] c (sym e) }
-
 message_canonical : (m : MessageValue) (b : List ℕ) → SpellsMessage m b → (c : List ℕ) × IsLeast (SpellsMessage m) c
-message_canonical m b p =
-    let all = headed_least (octets_of m) (λ rest. rest ≡ []) [] (parts_are (octets_of m) (λ rest. rest ≡ []) b p.1) nothing_least in
-    (least_head (octets_of m) ++ [], record { member = (p.0, all.member); least = λ c k. all.least c k.1 })
+message_canonical m b p = message_held m p.0 (parts_are (octets_of m) (λ rest. rest ≡ []) b p.1)
 
 module _ (apdus : (v : ApduValue) (b : List ℕ) → SpellsApdu v b → (c : List ℕ) × IsLeast (SpellsApdu v) c) where
   body_canonical : (x : BodyValue) (b : List ℕ) → SpellsBody x b → (c : List ℕ) × IsLeast (SpellsBody x) c

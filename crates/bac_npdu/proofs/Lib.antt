@@ -9,6 +9,8 @@ mod TablesLemmas
 mod UntypedLemmas
 mod WhoIsRouterLemmas
 mod LawLemmas
+mod CaseLemmas
+mod SameLemmas
 mod HeadLemmas
 mod PlaceLemmas
 mod HeadRefusedLemmas
@@ -19,3 +21,4 @@ mod OnceLemmas
 mod FormerLemmas
 mod SmallLemmas
 mod MemoryLemmas
+mod HeldLemmas

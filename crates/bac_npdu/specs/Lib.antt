@@ -8,6 +8,8 @@ pub mod FrameHeads
 pub mod Heads
 pub mod Decoded
 pub mod HeadsRead
+pub mod Cases
 pub mod Refused
 pub mod Meanings
 pub mod FormerFrames
+pub mod Laws

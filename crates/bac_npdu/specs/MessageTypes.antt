@@ -1,5 +1,7 @@
 -- The types of network messages (clauses 6.2.3 and 6.4).
-use Rattle.std.specs.Prelude.{ℕ, ◌<◌, ◌≤◌, nat_lt, nat_eq, ◌||◌, Bool, Option, Some, None, List, refl}
+use Rattle.std.specs.Prelude.{ℕ, ◌<◌, ◌≤◌, nat_lt, nat_eq, ◌||◌, ◌&&◌, Bool, Option, Some, None, List, refl}
+use Rattle.std.specs.Option.{option_eq}
+use Rattle.std.specs.Cmp.Lexicographic.{pointwise}
 use Rattle.std.specs.Coded.{Coded, code_by, coded×, coded_ℕ, coded_list, coded_option}
 
 -- the types that have a layout: 0 to 9, 18 and 19
@@ -22,3 +24,7 @@ abbrev pub opaque_net_code : Coded OpaqueNetValue
 opaque_net_code =
     code_by (ℕ × (Option ℕ × List ℕ)) (coded× coded_ℕ (coded× (coded_option coded_ℕ) (coded_list coded_ℕ))) (λ m. (m.kind, (m.vendor, m.octets))) (λ p. record { kind = p.0; vendor = p.1.0; octets = p.1.1 })
     (λ m. refl)
+
+-- two messages have the same type, vendor and octets
+abbrev pub same_opaque_net : OpaqueNetValue → OpaqueNetValue → Bool
+same_opaque_net a b = nat_eq a.kind b.kind && (option_eq nat_eq a.vendor b.vendor && pointwise nat_eq a.octets b.octets)

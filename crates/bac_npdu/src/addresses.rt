@@ -1,6 +1,8 @@
 //! Addresses on a network (clause 6.2.2.1).
 
-ghost use Rattle.std.specs.Prelude.{◌≡◌, ◌≤◌, ◌<◌, ◌↔◌, length, IsOk, IfOk, IsErrOf};
+ghost use Rattle.std.specs.Prelude.{◌≡◌, ◌≤◌, ◌<◌, ◌↔◌, nat_eq, length, IsTrue, IsOk, IfOk, IsErrOf};
+ghost use Rattle.std.specs.Cmp.{partial_equiv_from_equiv};
+ghost use Rattle.std.specs.Cmp.Lexicographic.{pointwise, nat_list_eq_equiv};
 
 use smallvec::SmallVec;
 use std::alloc::Global;
@@ -51,6 +53,25 @@ impl Model for Mac {
     ghost view = { λ mac. mac.octets.items };
 
     ghost invariant = { λ mac. length mac.octets.items < 256 };
+}
+
+/// Two addresses are equal exactly where their octets are.
+impl PartialEq for Mac {
+    ghost eq = { pointwise nat_eq };
+
+    ghost laws = { partial_equiv_from_equiv nat_list_eq_equiv };
+
+    #[inline]
+    fn eq(&self, other: &Mac) -> bool
+        ensures answer { result ≡ pointwise nat_eq self.now other.now }
+        ensures same { IsTrue result ↔ (self.now ≡ other.now) }
+    {
+        self.octets.as_slice() == other.octets.as_slice()
+    }
+}
+
+impl Eq for Mac {
+    ghost laws = { nat_list_eq_equiv };
 }
 
 impl Mac {

@@ -6,7 +6,7 @@ use crate::addresses::Mac;
 ///
 /// Octets: the network (2), the number of octets of the address (1), the address; and the hop count (1), which stands
 /// behind the octets of the source. An address without octets is that of every device on the network.
-#[derive(Debug, Drop)]
+#[derive(Debug, PartialEq, Eq, Drop)]
 pub struct Dest {
     /// The network. 65,535 stands for all networks.
     pub network: u16,

@@ -7,7 +7,7 @@ use crate::source::Source;
 use bac_apdu::Apdu;
 
 /// What stands behind the head of a frame.
-#[derive(Debug, Drop)]
+#[derive(Debug, PartialEq, Eq, Drop)]
 pub enum Body {
     /// An APDU (clause 20.1).
     Apdu(Apdu),
@@ -24,7 +24,7 @@ pub enum Body {
 /// The control octet: bit 7 says that there is a network message, bit 5 that there is a destination, bit 3 that there
 /// is a source, bit 2 that a reply is expected; bits 1 and 0 are the priority. Bits 6 and 4 are ignored, and 0 in
 /// canonical form.
-#[derive(Debug, Drop)]
+#[derive(Debug, PartialEq, Eq, Drop)]
 pub struct Frame {
     /// Whether a reply is expected.
     pub reply: bool,

@@ -1,6 +1,6 @@
 //! Encoding a frame.
 
-ghost use Rattle.std.specs.Prelude.{◌≡◌, ◌<◌, ◌∷◌, ◌++◌, IfOk, OnOk, OnErr};
+ghost use Rattle.std.specs.Prelude.{◌≡◌, ℕ, ◌<◌, List, ◌∷◌, ◌++◌, IfOk, OnOk, OnErr};
 ghost use Rattle.bac_tag.specs.HeadOctets.{least_head};
 ghost use Rattle.bac_tag.specs.Spelling.{IsLeast, AppendsLeast};
 ghost use Rattle.bac_tag.specs.Octets.{Extends};
@@ -13,6 +13,7 @@ use crate::control::Control;
 use crate::frame::{Body, Frame};
 use crate::frame_head::FrameHead;
 use crate::frame_heads::append_address;
+use crate::laws::held_frames_have_canonical_octets;
 use crate::message_encoding::append_message;
 use bac_apdu::append_apdu;
 use bac_tag::OutOfMemory;
@@ -101,8 +102,13 @@ impl FrameHead<'_> {
 pub fn append_frame(frame: &Frame, out: &mut Vec<u8>) -> Result<(), OutOfMemory>
     ensures written { OnOk result (AppendsLeast (SpellsFrame (value_of frame.now)) out.old.items out.new.items) }
     ensures unchanged { OnErr result (out.new.items ≡ out.old.items) }
+    ensures spelled { (b : List ℕ) × IsLeast (SpellsFrame (value_of frame.now)) b }
 {
-    frame.head().append_frame(&frame.body, out)
+    let written = frame.head().append_frame(&frame.body, out);
+    if written.is_err() {
+        held_frames_have_canonical_octets(frame);
+    }
+    written
 }
 
 /// Returns the canonical octets of a frame: its least spelling.

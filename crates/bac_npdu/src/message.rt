@@ -4,7 +4,7 @@ use crate::messages::opaque_net::OpaqueNet;
 use crate::messages::ports::Ports;
 
 /// A network message (clause 6.4). Its first octet is its type; numbers of networks have two octets.
-#[derive(Debug, Drop)]
+#[derive(Debug, PartialEq, Eq, Drop)]
 pub enum NetMessage {
     /// Type 0: nothing, or the network to which a router is sought.
     WhoIsRouter(Option<u16>),

@@ -8,7 +8,7 @@ use std::marker::Model;
 /// Where a frame comes from (clause 6.2.2).
 ///
 /// Octets: the network (2), the number of octets of the address (1), which is not 0, and the address.
-#[derive(Debug, Drop)]
+#[derive(Debug, PartialEq, Eq, Drop)]
 pub struct Source {
     network: u16,
     address: Mac,
@@ -25,6 +25,8 @@ impl Model for Source {
     ghost view = { λ source. record { network = source.network; address = source.address } };
 
     ghost invariant = { λ source. 1 ≤ length source.address };
+
+    ghost inverse = { λ value. record { network = value.network; address = value.address } };
 }
 
 impl Source {

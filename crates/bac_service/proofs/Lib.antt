@@ -1,4 +1,9 @@
 mod WideningLemmas
 pub mod LongHeadLemmas
-mod Same
-mod SameLemmas
+pub mod Same
+pub mod SameLemmas
+pub mod DerivedLemmas
+pub mod Held
+pub mod HeldValueLemmas
+pub mod HeldFieldLemmas
+pub mod SpellingLemmas

@@ -40,23 +40,23 @@ use Rattle.bac_service.specs.Laws.Parts.{property_value_parts, read_property_ack
 
 -- ---- tests that decide whether any two values are the same
 
-abbrev Decided : {V : Type 0} → (V → V → Bool) → Type 0
+abbrev pub Decided : {V : Type 0} → (V → V → Bool) → Type 0
 Decided {V} test = (v w : V) → Decides (test v w) (v ≡ w)
 
-by_parts : {P V : Type 0} {v w : V} (r : Bool) → Decides r P → (P → v ≡ w) → (v ≡ w → P) → Decides r (v ≡ w)
+pub by_parts : {P V : Type 0} {v w : V} (r : Bool) → Decides r P → (P → v ≡ w) → (v ≡ w → P) → Decides r (v ≡ w)
 by_parts r d join split = (λ h. join (d.0 h), λ e. d.1 (split e))
 
-both : {P Q : Type 0} (r s : Bool) → Decides r P → Decides s Q → Decides (r && s) (P × Q)
+pub both : {P Q : Type 0} (r s : Bool) → Decides r P → Decides s Q → Decides (r && s) (P × Q)
 both true s d f = (λ h. (d.0 refl, f.0 h), λ p. f.1 p.1)
 both false s d f = (λ h. absurd (cc h), λ p. d.1 p.0)
 
-options : {V : Type 0} {test : V → V → Bool} → Decided test → Decided (option_eq test)
+pub options : {V : Type 0} {test : V → V → Bool} → Decided test → Decided (option_eq test)
 options d None None = (λ h. refl, λ e. refl)
 options d None (Some w) = (λ h. absurd (cc h), λ e. absurd (cc e))
 options d (Some v) None = (λ h. absurd (cc h), λ e. absurd (cc e))
 options {test = test} d (Some v) (Some w) = by_parts (test v w) (d v w) (λ e. ap Some e) (λ e. cc)
 
-pairs : {V W : Type 0} {test : V → V → Bool} {other : W → W → Bool} → Decided test → Decided other → Decided (λ (p q : V × W). test p.0 q.0 && other p.1 q.1)
+pub pairs : {V W : Type 0} {test : V → V → Bool} {other : W → W → Bool} → Decided test → Decided other → Decided (λ (p q : V × W). test p.0 q.0 && other p.1 q.1)
 pairs {test = test} {other = other} d f p q = by_parts (test p.0 q.0 && other p.1 q.1) (both (test p.0 q.0) (other p.1 q.1) (d p.0 q.0) (f p.1 q.1)) (λ e. λ i. (e.0 i, e.1 i)) (λ e. (λ i. (e i).0, λ i. (e i).1))
 
 enumerated : Decided (λ (v w : Enumerated). nat_eq v.0 w.0)

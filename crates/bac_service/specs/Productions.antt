@@ -67,8 +67,9 @@ pub record IsInhabited {V : Type 0} (spells : V → List ℕ → Type 0) : Type 
 abbrev pub HasLeast : {V : Type 0} → (V → List ℕ → Type 0) → Type 0
 HasLeast {V} spells = (v : V) (b : List ℕ) → spells v b → (c : List ℕ) × IsLeast (spells v) c
 
--- No list spells two values, and each value that is spelled has a least spelling.
+-- Some value is spelled, no list spells two values, and each value that is spelled has a least spelling.
 pub record IsWellSpelled {V : Type 0} (spells : V → List ℕ → Type 0) : Type 0 where
+  pub inhabited : IsInhabited spells
   pub once : (v w : V) (b : List ℕ) → spells v b → spells w b → v ≡ w
   pub least : HasLeast spells
 

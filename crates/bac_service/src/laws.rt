@@ -1,6 +1,6 @@
 //! Laws of the definitions.
 
-ghost use Rattle.std.specs.Prelude.{◌≡◌, ◌↔◌, ◌⊎◌, ℕ, List, true, false, IsTrue, IsNone};
+ghost use Rattle.std.specs.Prelude.{◌≡◌, ◌↔◌, ◌⊎◌, ◌<◌, ℕ, List, [], true, false, IsTrue, IsNone};
 ghost use Rattle.bac_tag.specs.Octets.{IsOctets};
 ghost use Rattle.bac_tag.specs.Spelling.{IsLeast, IsViable, IsPartway, OneOf, Joined};
 ghost use Rattle.bac_data.specs.Spells.{SpellsOpen};
@@ -31,14 +31,14 @@ use crate::services::write_property_multiple::WriteAccessSpecification;
 use crate::services::write_property_multiple_error::WritePropertyMultipleError;
 use bac_value::Enumerated;
 
-/// No list spells two values of a part, and each value that is spelled has a least spelling.
+/// Some value of a part is spelled, no list spells two, and each value that is spelled has a least spelling.
 fn parts_are_well_spelled<P: Production>()
     requires { IsTrue P.is_sound }
     ensures { IsWellSpelled P.spells }
 {}
 
-/// The same holds for each production of the table: no list spells two values, and each value that is spelled has a
-/// least spelling.
+/// The same holds for each production of the table: some value is spelled, no list spells two, and each value that is
+/// spelled has a least spelling.
 fn productions_are_well_spelled()
     ensures { (production : ServiceProduction) → IsWellSpelled (SpellsBy 32 production) }
 {
@@ -61,6 +61,28 @@ pub fn services_have_canonical_octets()
     ensures { (kind : Kind) (choice : ℕ) (v : ServiceValue) (b : List ℕ) → SpellsService true 32 kind choice v b → (c : List ℕ) × IsLeast (SpellsService true 32 kind choice v) c }
 {
     productions_are_well_spelled();
+}
+
+/// Some list spells a service of each kind and of each choice below 256.
+pub fn each_choice_has_a_service()
+    ensures { (kind : Kind) (choice : ℕ) → choice < 256 → IsViable (SpellsService true 32 kind choice) [] }
+{
+    productions_are_well_spelled();
+}
+
+/// Each service that a program holds is spelled. Nothing is done for it: this is known of a service by its type alone.
+#[inline(always)]
+fn held_services_are_spelled(service: &Service)
+    ensures { (b : List ℕ) × SpellsService true 32 (value_of service.now).kind (value_of service.now).choice (value_of service.now) b }
+{}
+
+/// Each service that a program holds has canonical octets.
+#[inline(always)]
+pub fn held_services_have_canonical_octets(service: &Service)
+    ensures { (b : List ℕ) × IsLeast (SpellsService true 32 (value_of service.now).kind (value_of service.now).choice (value_of service.now)) b }
+{
+    held_services_are_spelled(service);
+    services_have_canonical_octets();
 }
 
 /// Only services are spelled. What is spelled has this kind and this choice, which is an octet, and the production that

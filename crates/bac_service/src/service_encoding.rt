@@ -1,11 +1,12 @@
 //! Encoding a service.
 
-ghost use Rattle.std.specs.Prelude.{◌≡◌, true, IfOk, OnOk, OnErr};
+ghost use Rattle.std.specs.Prelude.{◌≡◌, ℕ, List, true, IfOk, OnOk, OnErr};
 ghost use Rattle.bac_tag.specs.Spelling.{IsLeast, AppendsLeast};
 ghost use Rattle.bac_tag.specs.Octets.{Extends};
 ghost use Rattle.bac_service.specs.ServiceValues.{value_of};
 ghost use Rattle.bac_service.specs.Services.{SpellsSaid, SpellsService, IsPlaced};
 
+use crate::laws::held_services_have_canonical_octets;
 use crate::production::Production;
 use crate::production::record::Record;
 use crate::service::Service;
@@ -59,7 +60,9 @@ fn append_production(service: &Service, out: &mut Vec<u8>) -> Result<(), OutOfMe
 pub fn append_service(service: &Service, out: &mut Vec<u8>) -> Result<(), OutOfMemory>
     ensures written { OnOk result (AppendsLeast (SpellsService true 32 (value_of service.now).kind (value_of service.now).choice (value_of service.now)) out.old.items out.new.items) }
     ensures unchanged { OnErr result (out.new.items ≡ out.old.items) }
+    ensures spelled { (b : List ℕ) × IsLeast (SpellsService true 32 (value_of service.now).kind (value_of service.now).choice (value_of service.now)) b }
 {
+    held_services_have_canonical_octets(service);
     let start = out.len();
     let written = append_production(service, out);
     if written.is_err() {

@@ -1,7 +1,9 @@
 //! Network messages without a layout.
 
-ghost use Rattle.std.specs.Prelude.{◌≡◌, ◌↔◌, true, false, IsErrOf, IfOk};
-ghost use Rattle.bac_npdu.specs.MessageTypes.{is_typed, IsVendored};
+ghost use Rattle.std.specs.Prelude.{◌≡◌, ◌↔◌, true, false, IsTrue, IsErrOf, IfOk};
+ghost use Rattle.std.specs.Cmp.{partial_equiv_from_equiv};
+ghost use Rattle.bac_npdu.specs.MessageTypes.{is_typed, IsVendored, same_opaque_net};
+ghost use Rattle.bac_npdu.specs.Laws.Same.{opaque_net_equiv};
 
 use std::alloc::Global;
 use std::error::Error;
@@ -61,6 +63,24 @@ impl Model for OpaqueNet {
     ghost view = { λ message. record { kind = message.kind; vendor = message.vendor; octets = message.octets.items } };
 
     ghost invariant = { λ message. (is_typed message.kind ≡ false) × IsVendored message.kind message.vendor };
+}
+
+/// Two messages are equal exactly where their types, vendors and octets are.
+impl PartialEq for OpaqueNet {
+    ghost eq = { same_opaque_net };
+
+    ghost laws = { partial_equiv_from_equiv opaque_net_equiv };
+
+    fn eq(&self, other: &OpaqueNet) -> bool
+        ensures answer { result ≡ same_opaque_net self.now other.now }
+        ensures same { IsTrue result ↔ (self.now ≡ other.now) }
+    {
+        self.kind == other.kind && self.vendor == other.vendor && self.octets == other.octets
+    }
+}
+
+impl Eq for OpaqueNet {
+    ghost laws = { opaque_net_equiv };
 }
 
 impl OpaqueNet {

@@ -5,7 +5,7 @@ use crate::addresses::Mac;
 /// A port of a routing table (clause 6.4.7).
 ///
 /// Octets: the network (2), the port's number (1), the number of octets of its information (1), the information.
-#[derive(Debug, Drop)]
+#[derive(Debug, PartialEq, Eq, Drop)]
 pub struct Port {
     /// The network to which the port leads.
     pub network: u16,

@@ -1,6 +1,9 @@
 //! Routing tables.
 
-ghost use Rattle.std.specs.Prelude.{◌≡◌, ◌<◌, ◌↔◌, length, IsOk, IfOk, IfErr};
+ghost use Rattle.std.specs.Prelude.{◌≡◌, ◌<◌, ◌↔◌, length, IsTrue, IsOk, IfOk, IfErr};
+ghost use Rattle.std.specs.Cmp.{partial_equiv_from_equiv};
+ghost use Rattle.bac_npdu.specs.Ports.{same_ports};
+ghost use Rattle.bac_npdu.specs.Laws.Same.{ports_equiv};
 
 use crate::messages::port::Port;
 use std::marker::Model;
@@ -25,6 +28,24 @@ impl Model for Ports {
     ghost view = { λ ports. ports.list.items };
 
     ghost invariant = { λ ports. length ports.list.items < 256 };
+}
+
+/// Two tables are equal exactly where they have the same ports in the same order.
+impl PartialEq for Ports {
+    ghost eq = { same_ports };
+
+    ghost laws = { partial_equiv_from_equiv ports_equiv };
+
+    fn eq(&self, other: &Ports) -> bool
+        ensures answer { result ≡ same_ports self.now other.now }
+        ensures same { IsTrue result ↔ (self.now ≡ other.now) }
+    {
+        self.list == other.list
+    }
+}
+
+impl Eq for Ports {
+    ghost laws = { ports_equiv };
 }
 
 impl Ports {

@@ -4,4 +4,8 @@ use Rattle.bac_service.proofs.laws.parts_are_well_spelled.Goals as goal
 pub returns : goal.returns
 returns g c =
     let part = g.P.Production in
-    record { once = unique part.spells part.openers part.continuers part.may_be_empty (g.met.P.Production.lawful c.requires); least = g.met.P.Production.has_least }
+    record {
+      inhabited = g.met.P.Production.inhabited c.requires;
+      once = unique part.spells part.openers part.continuers part.may_be_empty (g.met.P.Production.lawful c.requires);
+      least = g.met.P.Production.has_least;
+    }
