@@ -1,5 +1,5 @@
 -- Laws over the calls of a desk.
-use Rattle.std.specs.Prelude.{Some, None, is_some, is_none}
+use Rattle.std.specs.Prelude.{Some, None, is_some, is_none, is_ok}
 use Rattle.std.proofs.Common.{◌≡◌, ◌≢◌, ◌↔◌, ◌⊎◌, ◌≤◌, ◌<◌, ℕ, suc, Bool, true, false, cond, leb, ◌&&◌, Option, Ok, Err, List, [], ◌∷◌, ◌++◌, length, refl, sym, ap, ◌∙◌, subst, arith}
 use Rattle.std.specs.List.{AllByRecursion}
 use Rattle.std.specs.Option.{unwrap_or}
@@ -17,7 +17,7 @@ use Rattle.bac_segment.specs.Pieces.{IsCutOf, cut_fault}
 use Rattle.bac_segment.specs.Cuts.{IsOneOf, AreAmong, IsGood}
 use Rattle.bac_segment.specs.Reassembled.{Reassembled}
 use Rattle.bac_segment.specs.Desks.{same_key, table_of_key, is_open, held_of, is_full_for, put, closed, AreApart, IsDesk, AreUsed, DeskTakes}
-use Rattle.bac_segment.specs.DeskHistories.{DeskCall, taken, closing, DeskRuns, part_from, part, is_held, AreDistinct, EightOthers, IsDeskAnswer}
+use Rattle.bac_segment.specs.DeskHistories.{DeskCall, taken, closing, DeskRuns, part_from, part, counts_after, since_opened_from, since_opened, is_held, AreDistinct, EightOthers, IsDeskAnswer}
 use Rattle.bac_segment.proofs.JudgeLemmas.{kept_where}
 use Rattle.bac_segment.proofs.JoinLemmas.{held_more, cut_gives, cut_answered, cut_completed, good_by}
 use Rattle.bac_segment.proofs.DeskLemmas.{key_same, same_self, put_same, put_other, closed_same, closed_other, used_closed, used_takes, desk_takes, desk_closes, open_used}
@@ -45,6 +45,20 @@ desk_step old mid peer s (Err Conflict) q h = same_after old mid (key_of peer s)
 desk_step old mid peer s (Err PastEnd) q h = same_after old mid (key_of peer s) q s h.2 h.1.1 (same_key (key_of peer s) q) refl
 desk_step old mid peer s (Err TooLarge) q h = same_after old mid (key_of peer s) q s h.2 h.1.1 (same_key (key_of peer s) q) refl
 
+-- a fault changes nothing
+kept_step : (old mid : List Reassembled) (peer : ℕ) (s : Delivery) (a : Answer) (q : Key) → DeskTakes old peer s a mid → held_of mid q ≡ cond (same_key (key_of peer s) q && is_ok a) (with_next (held_of old q) s) (held_of old q)
+kept_step old mid peer s (Ok t) q h = desk_step old mid peer s (Ok t) q h
+kept_step old mid peer s (Err DeskFull) q h = desk_step old mid peer s (Err DeskFull) q h
+kept_step old mid peer s (Err OutOfMemory) q h = desk_step old mid peer s (Err OutOfMemory) q h
+kept_step old mid peer s (Err OtherKey) q h = absurd h
+kept_step old mid peer s (Err Conflict) q h = ap (λ (d : List Reassembled). held_of d q) h.2 ∙ stays (same_key (key_of peer s) q) (with_next (held_of old q) s) (held_of old q)
+kept_step old mid peer s (Err PastEnd) q h = ap (λ (d : List Reassembled). held_of d q) h.2 ∙ stays (same_key (key_of peer s) q) (with_next (held_of old q) s) (held_of old q)
+kept_step old mid peer s (Err TooLarge) q h = ap (λ (d : List Reassembled). held_of d q) h.2 ∙ stays (same_key (key_of peer s) q) (with_next (held_of old q) s) (held_of old q)
+
+opened_step : (old mid : List Reassembled) (peer : ℕ) (l : List Delivery) (s : Delivery) (a : Answer) (q : Key) → DeskTakes old peer s a mid → held_of mid q ≡ cond (same_key (key_of peer s) q && counts_after l a) (with_next (held_of old q) s) (held_of old q)
+opened_step old mid peer [] s a q h = kept_step old mid peer s a q h
+opened_step old mid peer (x ∷ l) s a q h = desk_step old mid peer s a q h
+
 -- ---- all calls
 
 pub held_runs : (old new : List Reassembled) (k : Key) (l : List Delivery) (calls : List DeskCall) → held_of old k ≡ held l → DeskRuns old calls new → held_of new k ≡ held (part_from k l calls)
@@ -59,6 +73,22 @@ held_runs old new k l (closing q was_open ∷ calls) e h = by_same (same_key q k
     by_same : (b : Bool) → same_key q k ≡ b → ((m : List Delivery) → held_of (closed old q) k ≡ held m → held_of new k ≡ held (part_from k m calls)) → held_of new k ≡ held (cond b (part_from k [] calls) (part_from k l calls))
     by_same true i rec = rec [] (ap (λ (x : Key). held_of (closed old x) k) (key_same q k i) ∙ ap (λ (t : Option Table). unwrap_or t empty_table) (closed_same old k))
     by_same false i rec = rec l (ap (λ (t : Option Table). unwrap_or t empty_table) (closed_other old q k i) ∙ e)
+
+opened_runs : (old new : List Reassembled) (k : Key) (l : List Delivery) (calls : List DeskCall) → held_of old k ≡ held l → DeskRuns old calls new → held_of new k ≡ held (since_opened_from k l calls)
+opened_runs old new k l [] e h = ap (λ (d : List Reassembled). held_of d k) h ∙ e
+opened_runs old new k l (taken peer s a ∷ calls) e h = by_count (same_key (key_of peer s) k && counts_after l a) (opened_step old h.1.0 peer l s a k h.1.1) (λ m i. opened_runs h.1.0 new k m calls i h.1.2)
+  where
+    by_count : (b : Bool) → held_of h.1.0 k ≡ cond b (with_next (held_of old k) s) (held_of old k) → ((m : List Delivery) → held_of h.1.0 k ≡ held m → held_of new k ≡ held (since_opened_from k m calls)) → held_of new k ≡ held (cond b (since_opened_from k (l ++ s ∷ []) calls) (since_opened_from k l calls))
+    by_count true i rec = rec (l ++ s ∷ []) (i ∙ ap (λ (m : Table). with_next m s) e ∙ sym (held_more l s))
+    by_count false i rec = rec l (i ∙ e)
+opened_runs old new k l (closing q was_open ∷ calls) e h = by_same (same_key q k) refl (λ m i. opened_runs (closed old q) new k m calls i h.1)
+  where
+    by_same : (b : Bool) → same_key q k ≡ b → ((m : List Delivery) → held_of (closed old q) k ≡ held m → held_of new k ≡ held (since_opened_from k m calls)) → held_of new k ≡ held (cond b (since_opened_from k [] calls) (since_opened_from k l calls))
+    by_same true i rec = rec [] (ap (λ (x : Key). held_of (closed old x) k) (key_same q k i) ∙ ap (λ (t : Option Table). unwrap_or t empty_table) (closed_same old k))
+    by_same false i rec = rec l (ap (λ (t : Option Table). unwrap_or t empty_table) (closed_other old q k i) ∙ e)
+
+pub opened_held : (calls : List DeskCall) (desk : List Reassembled) (key : Key) → DeskRuns [] calls desk → held_of desk key ≡ held (since_opened key calls)
+opened_held calls desk key h = opened_runs [] desk key [] calls refl h
 
 pub part_held : (calls : List DeskCall) (desk : List Reassembled) (key : Key) → DeskRuns [] calls desk → held_of desk key ≡ held (part key calls)
 part_held calls desk key h = held_runs [] desk key [] calls refl h
@@ -248,14 +278,20 @@ desk_answered before after desk peer s a h =
 
 -- ---- one cut
 
-pub desk_joined : (plan : CutPlan) (octets : List ℕ) (segments : List Delivery) (key : Key) (calls : List DeskCall) (desk : List Reassembled) → cut_fault plan octets ≡ None → IsCutOf plan octets segments → AreAmong segments (part key calls) → DeskRuns [] calls desk → ((whole (held_of desk key) ≡ Some octets) ↔ AreAmong (part key calls) segments) × ((whole (held_of desk key) ≡ Some octets) ⊎ (whole (held_of desk key) ≡ None))
+pub desk_joined : (plan : CutPlan) (octets : List ℕ) (segments : List Delivery) (key : Key) (calls : List DeskCall) (desk : List Reassembled) → cut_fault plan octets ≡ None → IsCutOf plan octets segments → AreAmong segments (since_opened key calls) → DeskRuns [] calls desk → ((whole (held_of desk key) ≡ Some octets) ↔ AreAmong (since_opened key calls) segments) × ((whole (held_of desk key) ≡ Some octets) ⊎ (whole (held_of desk key) ≡ None))
 desk_joined plan octets segments key calls desk fine cut among h =
-    subst (λ (m : Table). ((whole m ≡ Some octets) ↔ AreAmong (part key calls) segments) × ((whole m ≡ Some octets) ⊎ (whole m ≡ None))) (sym (part_held calls desk key h))
-    (cut_gives plan octets segments (part key calls) fine cut among)
+    subst (λ (m : Table). ((whole m ≡ Some octets) ↔ AreAmong (since_opened key calls) segments) × ((whole m ≡ Some octets) ⊎ (whole m ≡ None))) (sym (opened_held calls desk key h))
+    (cut_gives plan octets segments (since_opened key calls) fine cut among)
 
-pub desk_good : (plan : CutPlan) (octets : List ℕ) (segments : List Delivery) (before after : List DeskCall) (desk : List Reassembled) (peer : ℕ) (s : Delivery) (a : Answer) → cut_fault plan octets ≡ None → IsCutOf plan octets segments → AreAmong segments (part (key_of peer s) before) → IsOneOf segments s → DeskRuns [] (before ++ taken peer s a ∷ after) desk → IsGood a
+-- an answer goes by the segments since the key was opened
+opened_answer : (before after : List DeskCall) (desk : List Reassembled) (peer : ℕ) (s : Delivery) (a : Answer) → DeskRuns [] (before ++ taken peer s a ∷ after) desk → counts a ≡ true → a ≡ answer (held (since_opened (key_of peer s) before)) s
+opened_answer before after desk peer s a h counted =
+    let p = desk_parted [] desk before (taken peer s a ∷ after) h in
+    (stepped p.0 p.2.1.0 peer s a p.2.1.1).by_table counted ∙ ap (λ (m : Table). answer m s) (opened_held before p.0 (key_of peer s) p.1)
+
+pub desk_good : (plan : CutPlan) (octets : List ℕ) (segments : List Delivery) (before after : List DeskCall) (desk : List Reassembled) (peer : ℕ) (s : Delivery) (a : Answer) → cut_fault plan octets ≡ None → IsCutOf plan octets segments → AreAmong segments (since_opened (key_of peer s) before) → IsOneOf segments s → DeskRuns [] (before ++ taken peer s a ∷ after) desk → IsGood a
 desk_good plan octets segments before after desk peer s a fine cut among one h =
-    good_by a (answer (held (part (key_of peer s) before)) s) (cut_answered plan octets segments (part (key_of peer s) before) s fine cut among one) (desk_answered before after desk peer s a h).by_table
+    good_by a (answer (held (since_opened (key_of peer s) before)) s) (cut_answered plan octets segments (since_opened (key_of peer s) before) s fine cut among one) (opened_answer before after desk peer s a h)
 
 -- calls behind others
 pub runs_on : (old mid new : List Reassembled) (calls more : List DeskCall) → DeskRuns old calls mid → DeskRuns mid more new → DeskRuns old (calls ++ more) new
@@ -265,7 +301,7 @@ runs_on old mid new (closing q was_open ∷ calls) more h k = (h.0, runs_on (clo
 
 -- the last segment of a cut that is answered by what is held
 pub desk_completed : (plan : CutPlan) (octets : List ℕ) (segments : List Delivery) (before after : List DeskCall) (desk : List Reassembled) (peer : ℕ) (s : Delivery) (a : Answer) → cut_fault plan octets ≡ None → IsCutOf plan octets segments
-    → AreAmong segments (part (key_of peer s) before) → IsOneOf segments s → AreAmong (part (key_of peer s) before ++ s ∷ []) segments → (AreAmong (part (key_of peer s) before) segments → ⊥)
+    → AreAmong segments (since_opened (key_of peer s) before) → IsOneOf segments s → AreAmong (since_opened (key_of peer s) before ++ s ∷ []) segments → (AreAmong (since_opened (key_of peer s) before) segments → ⊥)
     → DeskRuns [] (before ++ taken peer s a ∷ after) desk → counts a ≡ true → a ≡ Ok Complete
 desk_completed plan octets segments before after desk peer s a fine cut among one all missing h counted =
-    (desk_answered before after desk peer s a h).by_table counted ∙ cut_completed plan octets segments (part (key_of peer s) before) s fine cut among one all missing
+    opened_answer before after desk peer s a h counted ∙ cut_completed plan octets segments (since_opened (key_of peer s) before) s fine cut among one all missing

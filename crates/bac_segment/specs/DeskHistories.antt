@@ -1,5 +1,5 @@
 -- What a desk goes through, call by call.
-use Rattle.std.specs.Prelude.{◌≡◌, ◌≢◌, ◌↔◌, ◌<◌, ◌&&◌, ℕ, Bool, true, false, if◌then◌else◌, Err, List, [], ◌∷◌, ◌++◌, length}
+use Rattle.std.specs.Prelude.{◌≡◌, ◌≢◌, ◌↔◌, ◌<◌, ◌&&◌, ℕ, Bool, true, false, if◌then◌else◌, is_ok, Err, List, [], ◌∷◌, ◌++◌, length}
 use Rattle.std.specs.List.{AllByRecursion}
 use Rattle.bac_segment.specs.declared.keys.Key.{Key}
 use Rattle.bac_segment.specs.declared.faults.TakeFault.TheVariants.{OtherKey, OutOfMemory, DeskFull}
@@ -29,6 +29,21 @@ part_from k l (closing q was_open ∷ calls) = if same_key q k then part_from k 
 
 abbrev pub part : Key → List DeskCall → List Delivery
 part k calls = part_from k [] calls
+
+-- a segment with this answer counts, after these of its key: a first one only where it is kept, since it opens the key then
+abbrev pub counts_after : List Delivery → Answer → Bool
+counts_after [] a = is_ok a
+counts_after (x ∷ l) a = counts a
+
+-- the segments of a key that were answered by what was held, since it was opened, after those before
+abbrev pub since_opened_from : Key → List Delivery → List DeskCall → List Delivery
+since_opened_from k l [] = l
+since_opened_from k l (taken peer s a ∷ calls) = if same_key (key_of peer s) k && counts_after l a then since_opened_from k (l ++ s ∷ []) calls else since_opened_from k l calls
+since_opened_from k l (closing q was_open ∷ calls) = if same_key q k then since_opened_from k [] calls else since_opened_from k l calls
+
+-- the segments between the opening of a key and its closing
+abbrev pub since_opened : Key → List DeskCall → List Delivery
+since_opened k calls = since_opened_from k [] calls
 
 -- of the key something is held after these calls
 abbrev pub is_held : List DeskCall → Key → Bool

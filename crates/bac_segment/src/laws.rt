@@ -13,7 +13,7 @@ ghost use Rattle.bac_segment.specs.Cuts.{IsOneOf, AreAmong, AreOf, IsGood};
 ghost use Rattle.bac_segment.specs.Reassembled.{Reassembled, opened};
 ghost use Rattle.bac_segment.specs.Histories.{Delivers, counted, IsAnswer};
 ghost use Rattle.bac_segment.specs.Desks.{held_of, IsDesk, AreUsed};
-ghost use Rattle.bac_segment.specs.DeskHistories.{DeskCall, taken, closing, DeskRuns, part, is_held, IsDeskAnswer};
+ghost use Rattle.bac_segment.specs.DeskHistories.{DeskCall, taken, closing, DeskRuns, part, since_opened, is_held, IsDeskAnswer};
 
 /// A message has exactly one list of pieces of each size. It has more than 256 pieces of a size exactly where it has
 /// more octets than 256 times that size.
@@ -94,12 +94,13 @@ pub fn closing_tells_what_was_held()
     ensures { (before after : List DeskCall) (desk : List Reassembled) (key : Key) (was_open : Bool) → DeskRuns [] (before ++ closing key was_open ∷ after) desk → was_open ≡ is_held before key }
 {}
 
-/// If all segments of a key since it was closed come from one cut, a desk has of it what was cut exactly where each
+/// If all segments of a key since it was opened come from one cut, a desk has of it what was cut exactly where each
 /// segment of the cut was answered by what was held, and otherwise nothing. Each answer to one more segment of the cut
 /// is a good one, and to the last missing one it is `Complete`, unless memory is refused or eight other keys are open.
+/// A segment that is refused while nothing is held of its key does not open it, so it may come from anywhere.
 pub fn a_desk_joins_what_was_cut()
-    ensures joined { (plan : CutPlan) (octets : List ℕ) (segments : List Delivery) (key : Key) (calls : List DeskCall) (desk : List Reassembled) → cut_fault plan octets ≡ None → IsCutOf plan octets segments → AreAmong segments (part key calls) → DeskRuns [] calls desk → (whole (held_of desk key) ≡ Some octets) ↔ AreAmong (part key calls) segments }
-    ensures or_none { (plan : CutPlan) (octets : List ℕ) (segments : List Delivery) (key : Key) (calls : List DeskCall) (desk : List Reassembled) → cut_fault plan octets ≡ None → IsCutOf plan octets segments → AreAmong segments (part key calls) → DeskRuns [] calls desk → (whole (held_of desk key) ≡ Some octets) ⊎ (whole (held_of desk key) ≡ None) }
-    ensures answers { (plan : CutPlan) (octets : List ℕ) (segments : List Delivery) (before after : List DeskCall) (desk : List Reassembled) (peer : ℕ) (s : Delivery) (a : Answer) → cut_fault plan octets ≡ None → IsCutOf plan octets segments → AreAmong segments (part (key_of peer s) before) → IsOneOf segments s → DeskRuns [] (before ++ taken peer s a ∷ after) desk → IsGood a }
-    ensures last { (plan : CutPlan) (octets : List ℕ) (segments : List Delivery) (before after : List DeskCall) (desk : List Reassembled) (peer : ℕ) (s : Delivery) (a : Answer) → cut_fault plan octets ≡ None → IsCutOf plan octets segments → AreAmong segments (part (key_of peer s) before) → IsOneOf segments s → AreAmong (part (key_of peer s) before ++ s ∷ []) segments → (AreAmong (part (key_of peer s) before) segments → ⊥) → DeskRuns [] (before ++ taken peer s a ∷ after) desk → counts a ≡ true → a ≡ Ok Complete }
+    ensures joined { (plan : CutPlan) (octets : List ℕ) (segments : List Delivery) (key : Key) (calls : List DeskCall) (desk : List Reassembled) → cut_fault plan octets ≡ None → IsCutOf plan octets segments → AreAmong segments (since_opened key calls) → DeskRuns [] calls desk → (whole (held_of desk key) ≡ Some octets) ↔ AreAmong (since_opened key calls) segments }
+    ensures or_none { (plan : CutPlan) (octets : List ℕ) (segments : List Delivery) (key : Key) (calls : List DeskCall) (desk : List Reassembled) → cut_fault plan octets ≡ None → IsCutOf plan octets segments → AreAmong segments (since_opened key calls) → DeskRuns [] calls desk → (whole (held_of desk key) ≡ Some octets) ⊎ (whole (held_of desk key) ≡ None) }
+    ensures answers { (plan : CutPlan) (octets : List ℕ) (segments : List Delivery) (before after : List DeskCall) (desk : List Reassembled) (peer : ℕ) (s : Delivery) (a : Answer) → cut_fault plan octets ≡ None → IsCutOf plan octets segments → AreAmong segments (since_opened (key_of peer s) before) → IsOneOf segments s → DeskRuns [] (before ++ taken peer s a ∷ after) desk → IsGood a }
+    ensures last { (plan : CutPlan) (octets : List ℕ) (segments : List Delivery) (before after : List DeskCall) (desk : List Reassembled) (peer : ℕ) (s : Delivery) (a : Answer) → cut_fault plan octets ≡ None → IsCutOf plan octets segments → AreAmong segments (since_opened (key_of peer s) before) → IsOneOf segments s → AreAmong (since_opened (key_of peer s) before ++ s ∷ []) segments → (AreAmong (since_opened (key_of peer s) before) segments → ⊥) → DeskRuns [] (before ++ taken peer s a ∷ after) desk → counts a ≡ true → a ≡ Ok Complete }
 {}

@@ -23,7 +23,7 @@ use Rattle.bac_segment.specs.Cuts.{IsOneOf, AreAmong, IsGood}
 use Rattle.bac_segment.specs.Reassembled.{Reassembled}
 use Rattle.bac_segment.specs.Desks.{same_key, held_of, DeskTakes}
 use Rattle.bac_segment.specs.DeskHistories as history
-use Rattle.bac_segment.specs.DeskHistories.{DeskCall, DeskRuns, part_from, part}
+use Rattle.bac_segment.specs.DeskHistories.{DeskCall, DeskRuns, counts_after, since_opened_from, since_opened}
 use Rattle.bac_segment.proofs.DeskHistoryLemmas.{desk_answered, desk_good, desk_joined, desk_completed}
 use Rattle.bac_segment.proofs.DeskLemmas.{put_same}
 use Rattle.bac_segment.proofs.JoinLemmas.{among_append}
@@ -70,26 +70,26 @@ no_message s octets refusal kind is refused memory reasons = record {
 
 -- ---- one more segment of a cut
 
-part_more : (segments : List Delivery) (key : Key) (l : List Delivery) (calls : List DeskCall) (peer : ℕ) (s : Delivery) (a : Answer) → AreAmong segments (part_from key l calls) → IsOneOf segments s → AreAmong segments (part_from key l (calls ++ history.taken peer s a ∷ []))
-part_more segments key l [] peer s a among one = by_key (same_key (key_of peer s) key && counts a)
+opened_more : (segments : List Delivery) (key : Key) (l : List Delivery) (calls : List DeskCall) (peer : ℕ) (s : Delivery) (a : Answer) → AreAmong segments (since_opened_from key l calls) → IsOneOf segments s → AreAmong segments (since_opened_from key l (calls ++ history.taken peer s a ∷ []))
+opened_more segments key l [] peer s a among one = by_key (same_key (key_of peer s) key && counts_after l a)
   where
     by_key : (b : Bool) → AreAmong segments (cond b (l ++ s ∷ []) l)
     by_key true = among_append segments l s among one
     by_key false = among
-part_more segments key l (history.taken p q b ∷ calls) peer s a among one =
-    by_key (same_key (key_of p q) key && counts b) among (λ k i. part_more segments key k calls peer s a i one)
+opened_more segments key l (history.taken p q b ∷ calls) peer s a among one =
+    by_key (same_key (key_of p q) key && counts_after l b) among (λ k i. opened_more segments key k calls peer s a i one)
   where
-    by_key : (t : Bool) → AreAmong segments (cond t (part_from key (l ++ q ∷ []) calls) (part_from key l calls))
-        → ((k : List Delivery) → AreAmong segments (part_from key k calls) → AreAmong segments (part_from key k (calls ++ history.taken peer s a ∷ [])))
-        → AreAmong segments (cond t (part_from key (l ++ q ∷ []) (calls ++ history.taken peer s a ∷ [])) (part_from key l (calls ++ history.taken peer s a ∷ [])))
+    by_key : (t : Bool) → AreAmong segments (cond t (since_opened_from key (l ++ q ∷ []) calls) (since_opened_from key l calls))
+        → ((k : List Delivery) → AreAmong segments (since_opened_from key k calls) → AreAmong segments (since_opened_from key k (calls ++ history.taken peer s a ∷ [])))
+        → AreAmong segments (cond t (since_opened_from key (l ++ q ∷ []) (calls ++ history.taken peer s a ∷ [])) (since_opened_from key l (calls ++ history.taken peer s a ∷ [])))
     by_key true i more = more (l ++ q ∷ []) i
     by_key false i more = more l i
-part_more segments key l (history.closing q was_open ∷ calls) peer s a among one =
-    by_key (same_key q key) among (λ k i. part_more segments key k calls peer s a i one)
+opened_more segments key l (history.closing q was_open ∷ calls) peer s a among one =
+    by_key (same_key q key) among (λ k i. opened_more segments key k calls peer s a i one)
   where
-    by_key : (t : Bool) → AreAmong segments (cond t (part_from key [] calls) (part_from key l calls))
-        → ((k : List Delivery) → AreAmong segments (part_from key k calls) → AreAmong segments (part_from key k (calls ++ history.taken peer s a ∷ [])))
-        → AreAmong segments (cond t (part_from key [] (calls ++ history.taken peer s a ∷ [])) (part_from key l (calls ++ history.taken peer s a ∷ [])))
+    by_key : (t : Bool) → AreAmong segments (cond t (since_opened_from key [] calls) (since_opened_from key l calls))
+        → ((k : List Delivery) → AreAmong segments (since_opened_from key k calls) → AreAmong segments (since_opened_from key k (calls ++ history.taken peer s a ∷ [])))
+        → AreAmong segments (cond t (since_opened_from key [] (calls ++ history.taken peer s a ∷ [])) (since_opened_from key l (calls ++ history.taken peer s a ∷ [])))
     by_key true i more = more [] i
     by_key false i more = more l i
 
@@ -130,12 +130,12 @@ module _ (services : (kind : Kind) (choice : ℕ) (v w : ServiceValue) (b : List
 
   pub joined_good : (plan : CutPlan) (octets : List ℕ) (segments : List Delivery) (service : ServiceValue) (before : List DeskCall) (desk : List Reassembled) (peer : ℕ) (s : Delivery) (a : Answer) (result : Result Joined JoinFault)
       → cut_fault plan octets ≡ None → IsCutOf plan octets segments → SpellsService true 32 (kind_of plan.head) plan.choice service octets
-      → AreAmong segments (part (key_of peer s) before) → IsOneOf segments s → DeskRuns [] (before ++ history.taken peer s a ∷ []) desk
+      → AreAmong segments (since_opened (key_of peer s) before) → IsOneOf segments s → DeskRuns [] (before ++ history.taken peer s a ∷ []) desk
       → IsJoined s a (whole (held_of desk (key_of peer s))) result → IsGoodJoin service result
   joined_good plan octets segments service before desk peer s a result fine cut spells among one runs h =
       let of = of_plan plan 0 cut.0 s (subst (λ (l : List Delivery). IsOneOf l s) cut.2 one) in
       let spells : SpellsMessage s service octets = rw (of.0, of.1) spells in
-      let more = part_more segments (key_of peer s) [] before peer s a among one in
+      let more = opened_more segments (key_of peer s) [] before peer s a among one in
       joined_by s service octets a (whole (held_of desk (key_of peer s))) result spells
       (desk_answered before [] desk peer s a runs).other_key (desk_good plan octets segments before [] desk peer s a fine cut among one runs)
       (desk_joined plan octets segments (key_of peer s) (before ++ history.taken peer s a ∷ []) desk fine cut more runs).1 h
@@ -162,7 +162,7 @@ module _ (services : (kind : Kind) (choice : ℕ) (v w : ServiceValue) (b : List
 
   pub joined_last : (plan : CutPlan) (octets : List ℕ) (segments : List Delivery) (service : ServiceValue) (before : List DeskCall) (desk : List Reassembled) (peer : ℕ) (s : Delivery) (a : Answer) (result : Result Joined JoinFault)
       → cut_fault plan octets ≡ None → IsCutOf plan octets segments → SpellsService true 32 (kind_of plan.head) plan.choice service octets
-      → AreAmong segments (part (key_of peer s) before) → IsOneOf segments s → AreAmong (part (key_of peer s) before ++ s ∷ []) segments → (AreAmong (part (key_of peer s) before) segments → ⊥)
+      → AreAmong segments (since_opened (key_of peer s) before) → IsOneOf segments s → AreAmong (since_opened (key_of peer s) before ++ s ∷ []) segments → (AreAmong (since_opened (key_of peer s) before) segments → ⊥)
       → DeskRuns [] (before ++ history.taken peer s a ∷ []) desk → IsJoined s a (whole (held_of desk (key_of peer s))) result → IsLastJoin service result
   joined_last plan octets segments service before desk peer s a result fine cut spells among one all missing runs joins =
       last_by s service a (whole (held_of desk (key_of peer s))) result (desk_completed plan octets segments before [] desk peer s a fine cut among one all missing runs) joins

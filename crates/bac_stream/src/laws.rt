@@ -12,7 +12,7 @@ ghost use Rattle.bac_segment.specs.declared.cutting.CutPlan.{CutPlan};
 ghost use Rattle.bac_segment.specs.declared.keys.Key.{Key};
 ghost use Rattle.bac_segment.specs.Cuts.{AreAmong, IsOneOf};
 ghost use Rattle.bac_segment.specs.Deliveries.{Delivery, key_of};
-ghost use Rattle.bac_segment.specs.DeskHistories.{DeskCall, DeskRuns, part, taken};
+ghost use Rattle.bac_segment.specs.DeskHistories.{DeskCall, DeskRuns, since_opened, taken};
 ghost use Rattle.bac_segment.specs.Desks.{held_of};
 ghost use Rattle.bac_segment.specs.Pieces.{IsCutOf, cut_fault};
 ghost use Rattle.bac_segment.specs.Reassembled.{Reassembled};
@@ -55,8 +55,8 @@ pub fn headline()
     // Segments cut from the octets of a service, lost, repeated or reordered, give those octets exactly where none is
     // missing, and otherwise none.
     ensures segments { (plan : CutPlan) (octets : List ℕ) (segments : List Delivery) (key : Key) (calls : List DeskCall) (desk : List Reassembled)
-        → cut_fault plan octets ≡ None → IsCutOf plan octets segments → AreAmong segments (part key calls) → DeskRuns [] calls desk
-        → ((whole (held_of desk key) ≡ Some octets) ↔ AreAmong (part key calls) segments)
+        → cut_fault plan octets ≡ None → IsCutOf plan octets segments → AreAmong segments (since_opened key calls) → DeskRuns [] calls desk
+        → ((whole (held_of desk key) ≡ Some octets) ↔ AreAmong (since_opened key calls) segments)
         × ((whole (held_of desk key) ≡ Some octets) ⊎ (whole (held_of desk key) ≡ None)) }
 {
     frames_have_one_value();
@@ -98,14 +98,14 @@ pub fn items_want_no_memory()
     ensures { (mode : Mode) (octets : List ℕ) (refusal : Refusal) → IsItem mode octets (Err refusal) → refusal.why ≢ OutOfMemory }
 {}
 
-/// If all segments of a message since its key was closed come from one cut of a service's octets, with its kind and its
+/// If all segments of a message since its key was opened come from one cut of a service's octets, with its kind and its
 /// choice, each segment of this cut that is joined is kept, is held already, or completes this service. The exceptions:
 /// memory is refused, or eight other keys are open.
 pub fn joined_segments_give_the_service()
     ensures { (plan : CutPlan) (octets : List ℕ) (segments : List Delivery) (service : ServiceValue) (before : List DeskCall) (desk : List Reassembled)
         (peer : ℕ) (s : Delivery) (a : Answer) (result : Result Joined JoinFault)
         → cut_fault plan octets ≡ None → IsCutOf plan octets segments → SpellsService true 32 (kind_of plan.head) plan.choice service octets
-        → AreAmong segments (part (key_of peer s) before) → IsOneOf segments s → DeskRuns [] (before ++ taken peer s a ∷ []) desk
+        → AreAmong segments (since_opened (key_of peer s) before) → IsOneOf segments s → DeskRuns [] (before ++ taken peer s a ∷ []) desk
         → IsJoined s a (whole (held_of desk (key_of peer s))) result → IsGoodJoin service result }
 {
     services_have_one_value();
@@ -117,8 +117,8 @@ pub fn the_last_segment_gives_the_service()
     ensures { (plan : CutPlan) (octets : List ℕ) (segments : List Delivery) (service : ServiceValue) (before : List DeskCall) (desk : List Reassembled)
         (peer : ℕ) (s : Delivery) (a : Answer) (result : Result Joined JoinFault)
         → cut_fault plan octets ≡ None → IsCutOf plan octets segments → SpellsService true 32 (kind_of plan.head) plan.choice service octets
-        → AreAmong segments (part (key_of peer s) before) → IsOneOf segments s
-        → AreAmong (part (key_of peer s) before ++ s ∷ []) segments → (AreAmong (part (key_of peer s) before) segments → ⊥)
+        → AreAmong segments (since_opened (key_of peer s) before) → IsOneOf segments s
+        → AreAmong (since_opened (key_of peer s) before ++ s ∷ []) segments → (AreAmong (since_opened (key_of peer s) before) segments → ⊥)
         → DeskRuns [] (before ++ taken peer s a ∷ []) desk → IsJoined s a (whole (held_of desk (key_of peer s))) result → IsLastJoin service result }
 {
     services_have_one_value();
