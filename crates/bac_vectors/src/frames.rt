@@ -40,8 +40,8 @@ fn dissenting(
     if !is_appended(alloc, frame, written)? {
         return Ok(Some("append_frame"));
     }
-    if !is_plain(alloc, octets, written)? {
-        return Ok(Some("decode_frame"));
+    if !is_plain(alloc, octets, frame, written)? {
+        return Ok(Some("decode_frame, or =="));
     }
     let flaw = mark.map(|place| Why::NotCanonical.at(place));
     if decode_strict(alloc, octets).err() != flaw {
@@ -63,10 +63,15 @@ fn is_appended(alloc: Global, frame: &Frame, written: &[u8]) -> Result<bool, Out
     Ok(out.split_first() == Some((&0xAA, written)))
 }
 
-/// Returns true if the frame of the octets, decoded without their mark, has these canonical octets.
-fn is_plain(alloc: Global, octets: &[u8], written: &[u8]) -> Result<bool, OutOfMemory> {
+/// Returns true if the octets, decoded without their mark, are this frame, and it has these canonical octets.
+fn is_plain(
+    alloc: Global,
+    octets: &[u8],
+    frame: &Frame,
+    written: &[u8],
+) -> Result<bool, OutOfMemory> {
     match decode_frame(alloc, octets) {
-        Ok(frame) => Ok(encode_frame(alloc, &frame)?.as_slice() == written),
+        Ok(plain) => Ok(plain == *frame && encode_frame(alloc, &plain)?.as_slice() == written),
         Err(_) => Ok(false),
     }
 }

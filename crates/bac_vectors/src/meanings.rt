@@ -2,7 +2,7 @@
 
 use crate::faults::RowFault;
 use crate::octets::octets_of;
-use bac_npdu::{Side, same_meaning};
+use bac_npdu::{Side, decode_frame, same_meaning};
 use std::alloc::Global;
 
 /// Returns what is told of `LEFT ~ RIGHT`: `same`, `different`, or `left REASON at PLACE` or `right REASON at PLACE`.
@@ -10,10 +10,21 @@ pub fn found(alloc: Global, inputs: &str) -> Result<String, RowFault> {
     let (left, right) = inputs.split_once(" ~ ").ok_or(RowFault::Mistake)?;
     let (left, right) = (octets_of(alloc, left)?, octets_of(alloc, right)?);
     let words = match same_meaning(alloc, &left, &right) {
+        Ok(same) if are_equal(alloc, &left, &right) != same => {
+            String::from_str(alloc, "== answers otherwise")?
+        }
         Ok(true) => String::from_str(alloc, "same")?,
         Ok(false) => String::from_str(alloc, "different")?,
         Err((Side::Left, refusal)) => format!(in alloc; "left {refusal}")?,
         Err((Side::Right, refusal)) => format!(in alloc; "right {refusal}")?,
     };
     Ok(words)
+}
+
+/// Returns true if both inputs spell frames that are equal.
+fn are_equal(alloc: Global, left: &[u8], right: &[u8]) -> bool {
+    let Ok(one) = decode_frame(alloc, left) else {
+        return false;
+    };
+    matches!(decode_frame(alloc, right), Ok(other) if other == one)
 }
