@@ -1,9 +1,13 @@
 # Completion of bactool for bash. The program reads standard input alone, so no file names are offered.
 _bactool() {
-    local words='show check normalise pack --help --version'
+    local words='show check normalise pack help --help --version'
     case ${COMP_WORDS[1]} in
         show | check | normalise) [ "$COMP_CWORD" -eq 1 ] || words='--strict --help' ;;
         pack) [ "$COMP_CWORD" -eq 1 ] || words='--help' ;;
+        help)
+            [ "$COMP_CWORD" -ne 2 ] || words='show check normalise pack'
+            [ "$COMP_CWORD" -le 2 ] || words=''
+            ;;
         *) [ "$COMP_CWORD" -eq 1 ] || words='' ;;
     esac
     mapfile -t COMPREPLY < <(compgen -W "$words" -- "${COMP_WORDS[COMP_CWORD]}")

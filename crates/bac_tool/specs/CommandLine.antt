@@ -15,9 +15,9 @@ strict = record (new_rule (codes "strict")) { long = Some (codes "strict"); acti
 abbrev pub moded : Text → App
 moded name = with_rule (new_app name) strict
 
--- the program before its subcommands, of which one is required, with a version
+-- the program before its subcommands, of which one is required, with a version; clap adds the subcommand help, which has no job
 abbrev pub bare : App
-bare = record (new_app (codes "bactool")) { top = record (new_app (codes "bactool")).top { subcommand_required = true; disable_help_subcommand = true; has_version = true } }
+bare = record (new_app (codes "bactool")) { top = record (new_app (codes "bactool")).top { subcommand_required = true; has_version = true } }
 
 -- the program
 abbrev pub bactool : App

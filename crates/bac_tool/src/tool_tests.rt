@@ -4,6 +4,7 @@ use crate::error_lines::tell_fault;
 use crate::{Job, JobFault, PackFault, job, run_tool};
 use bac_stream::{Counted, Input, Mode, Output, RunFault, StreamFault};
 use bac_tag::{Refusal, Why};
+use clap::error;
 use std::alloc::Global;
 use std::fmt::Debug;
 use std::io::{self, ErrorKind, Read};
@@ -501,7 +502,10 @@ const OTHER_WORDS: &str = "bactool
 bactool|
 bactool|pack|--strict
 bactool|pack|file
-bactool|help
+bactool|help|nonsense
+bactool|help|show|nonsense
+bactool|help|--help
+bactool|show|help
 bactool|--strict
 bactool|--strict|show
 bactool|show|--version
@@ -570,4 +574,58 @@ fn help_is_written(rt: HostRuntime) {
     is_helped(&rt, alloc, "bactool|normalise|-h");
     is_helped(&rt, alloc, "bactool|check|--strict|--help");
     is_helped(&rt, alloc, "bactool|pack|--help");
+    is_helped(&rt, alloc, "bactool|help");
+    is_helped(&rt, alloc, "bactool|help|show");
+    is_helped(&rt, alloc, "bactool|help|check");
+    is_helped(&rt, alloc, "bactool|help|normalise");
+    is_helped(&rt, alloc, "bactool|help|pack");
+}
+
+/// Stops the test unless the words name no job, and the error is of this kind and its text has this part.
+fn is_no_job(rt: &impl Abort, alloc: Global, line: &str, kind: error::ErrorKind, part: &str) {
+    let words = words_of(rt, alloc, line);
+    let error = job(alloc, &words).err().expect(rt, "an error");
+    assert_same(rt, error.kind(), kind, line);
+    let text = format!(in alloc; "{error}").expect(rt, "memory");
+    assert_holds(rt, text.contains(part), line);
+}
+
+// The help of the program has the exit statuses and the words for records, and that of a command how a file is given.
+#[test]
+fn words_for_help_are_answered_with_it(rt: HostRuntime) {
+    let alloc = rt.alloc();
+    let help = error::ErrorKind::DisplayHelp;
+    for line in ["bactool|help", "bactool|--help"] {
+        is_no_job(&rt, alloc, line, help, "\nStatus:\n");
+        is_no_job(&rt, alloc, line, help, "A record is canonical ");
+    }
+    let usage = "\nUsage: bactool show [--strict] < FILE\n";
+    is_no_job(&rt, alloc, "bactool|help|show", help, usage);
+    is_no_job(&rt, alloc, "bactool|show|--help", help, usage);
+    let usage = "\nUsage: bactool pack < FILE\n";
+    is_no_job(&rt, alloc, "bactool|help|pack", help, usage);
+    let other = error::ErrorKind::InvalidSubcommand;
+    let text = "unrecognized subcommand 'nonsense'";
+    is_no_job(&rt, alloc, "bactool|help|nonsense", other, text);
+}
+
+// A file is given on standard input, and the error for one that is named says so.
+#[test]
+fn a_named_file_is_refused(rt: HostRuntime) {
+    let alloc = rt.alloc();
+    let unknown = error::ErrorKind::UnknownArgument;
+    let usage = "\nUsage: bactool show [--strict] < FILE\n";
+    is_no_job(&rt, alloc, "bactool|show|a.frames", unknown, usage);
+    let usage = "\nUsage: bactool check [--strict] < FILE\n";
+    is_no_job(&rt, alloc, "bactool|check|a.frames", unknown, usage);
+    let usage = "\nUsage: bactool normalise [--strict] < FILE\n";
+    is_no_job(
+        &rt,
+        alloc,
+        "bactool|normalise|--strict|a.frames",
+        unknown,
+        usage,
+    );
+    let usage = "\nUsage: bactool pack < FILE\n";
+    is_no_job(&rt, alloc, "bactool|pack|a.lines", unknown, usage);
 }

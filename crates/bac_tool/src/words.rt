@@ -12,6 +12,17 @@ use clap::error::ErrorKind;
 use clap::{Arg, ArgAction, ArgMatches, Command, Error};
 use std::alloc::{AllocError, Global};
 
+/// What the program's help ends with: what the three words for a record mean, and the exit statuses.
+const MEANINGS: &str =
+    "A record is canonical (it has the one spelling that normalise writes), tolerated
+(it has another spelling that is accepted) or refused.
+
+Status:
+  0  no record was refused, and all went well; or help or the version was written
+  1  a record was refused, and nothing worse happened
+  2  the words are no command, the input ends within a record or has too many of
+     them, a line of pack is no record, or a read, a write or memory failed";
+
 /// Returns the flag for the strict mode.
 fn strict_flag<'a>(alloc: Global) -> Arg<'a>
     ensures rule { rule_of result ≡ strict }
@@ -28,6 +39,7 @@ fn moded_command<'a>(
     alloc: Global,
     name: &'a str,
     about: &'a str,
+    usage: &'a str,
     example: &'a str,
 ) -> Result<Command<'a>, AllocError>
     ensures shape { IfOk result (λ c. app_of c ≡ moded name.now) }
@@ -35,6 +47,7 @@ fn moded_command<'a>(
 {
     Command::new(alloc, name)
         .about(about)
+        .override_usage(usage)
         .after_help(example)
         .arg(strict_flag(alloc))
 }
@@ -46,6 +59,7 @@ fn pack_command<'a>(alloc: Global) -> Command<'a>
 {
     Command::new(alloc, "pack")
         .about("Write a record for each line of hexadecimal digits")
+        .override_usage("bactool pack < FILE")
         .after_help("Example: echo 0104 0005010C 0C00000005 1955 | bactool pack | bactool show")
 }
 
@@ -59,7 +73,7 @@ fn bare_command<'a>(alloc: Global) -> Command<'a>
         )
         .version("0.1.0")
         .subcommand_required(true)
-        .disable_help_subcommand(true)
+        .after_help(MEANINGS)
 }
 
 /// Returns the program with its subcommands.
@@ -70,18 +84,21 @@ fn command<'a>(alloc: Global) -> Result<Command<'a>, AllocError>
         alloc,
         "show",
         "Write a line for each record: what it says, or why it is refused and at which octet",
+        "bactool show [--strict] < FILE",
         "Example: bactool show < site.frames | grep refused",
     )?;
     let check = moded_command(
         alloc,
         "check",
         "Write a line for each record: whether it is canonical, tolerated or refused",
+        "bactool check [--strict] < FILE",
         "Example: bactool check --strict < site.frames || echo not all canonical",
     )?;
     let normalise = moded_command(
         alloc,
         "normalise",
         "Write each record in its canonical octets",
+        "bactool normalise [--strict] < FILE",
         "Example: bactool normalise < site.frames > canonical.frames",
     )?;
     let one = bare_command(alloc).subcommand(show)?;

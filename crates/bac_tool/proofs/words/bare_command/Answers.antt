@@ -7,5 +7,5 @@ pub returns : goal.returns
 returns c =
     let about_is = ap app_of_fields c.about.ensures ∙ c.new.ensures.app in
     let version_is = ap app_of_fields c.version.ensures ∙ ap (λ (a : App). record a { top = record a.top { has_version = true } }) about_is in
-    ap app_of_fields c.disable_help_subcommand.ensures ∙ ap (λ f. app_of_fields (record f { disable_help_subcommand = true })) c.subcommand_required.ensures
-    ∙ ap (λ (a : App). record a { top = record a.top { subcommand_required = true; disable_help_subcommand = true } }) version_is
+    ap app_of_fields c.after_help.ensures ∙ ap app_of_fields c.subcommand_required.ensures
+    ∙ ap (λ (a : App). record a { top = record a.top { subcommand_required = true } }) version_is

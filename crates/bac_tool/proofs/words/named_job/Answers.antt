@@ -60,8 +60,9 @@ returns-clause-named c =
     let mode_is = subst (λ (t : Option (List ℕ)). HasMode t c.mode_of-mode.result) (one_text-rows (found_of c.in-Some.matches.now) (codes "strict")) c.mode_of-mode.ensures in
     let not_show : c.in-Some.name.now ≡ codes "show" → ⊥ = search rules in
     let not_check : c.in-Some.name.now ≡ codes "check" → ⊥ = search rules in
+    let none = faultless _ _ c.in_ok-command.ensures c.in_ok-matches.ensures.kinds in
     let not_pack : c.in-Some.name.now ≡ codes "pack" → ⊥ = search rules in
-    names_job texts c.in-Some.name.now (rows_of (found_of c.in-Some.matches.now)) (job.Normalise c.mode_of-mode.result) found (elim (program_names texts c.in-Some.name.now (rows_of (found_of c.in-Some.matches.now)) found) [
+    names_job texts c.in-Some.name.now (rows_of (found_of c.in-Some.matches.now)) (job.Normalise c.mode_of-mode.result) found (elim (program_names texts c.in-Some.name.now (rows_of (found_of c.in-Some.matches.now)) none found) [
       | inl show ↦ absurd (not_show show)
       | inr rest ↦ elim rest [ inl check ↦ absurd (not_check check) | inr later ↦ elim later [ inl normalise ↦ (normalise, mode_is) | inr last ↦ elim last [ inl pack ↦ absurd (not_pack pack) | inr none ↦ absurd none ] ] ]
     ])
