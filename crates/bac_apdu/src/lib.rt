@@ -1,9 +1,29 @@
-//! APDUs (clause 20.1): the head of each of the eight, and behind it a service, a segment's piece or nothing.
+//! APDUs (clause 20.1): the head of each of the eight, and after it a service, a segment's piece or nothing.
 //!
 //! [`decode_apdu`] reads an APDU, and [`encode_apdu`] and [`append_apdu`] write one. The calls that only the layers
-//! above need stand in [`layers`].
+//! above need are in [`layers`].
 //!
 //! In the examples `rt` is the program's `HostRuntime`.
+//!
+//! # How it works
+//!
+//! `visit_apdu` (`apdu_decoding.rt`) finds the reader by bits 7 to 4 of the first octet, and in types 0 and 3 also by
+//! bit 3. The file of a reader has the standard's name for the APDU (`confirmed_request.rt`, `segment_ack.rt`). A head
+//! has a fixed number of octets. The reader takes it by a slice pattern, and makes the canonical octets of the head
+//! from what it read. After the head comes a service (`decode_behind` in `services.rt`, which moves a refusal and a
+//! mark of the service by the octets of the head), nothing (`ended` in `heads.rt`), or the piece of a segment.
+//!
+//! The reader passes the APDU with its mark to an `ApduVisitor` (`visiting.rt`), and returns what the visitor made of
+//! it. The visitor is a type parameter, so each use has a decoder of its own, in which an APDU is moved no further than
+//! the use needs. [`decode_apdu_marked`] keeps both; bac_npdu has a visitor of its own. `is_canonical_apdu`
+//! (`canonical.rt`) finds that the octets of an APDU in one piece are canonical, by its head and by what bac_service
+//! says of the service, and decodes neither. [`append_apdu`] writes the same canonical head, and appends the service or
+//! the piece to the same vector.
+//!
+//! In `specs` an APDU is a table: `head_of` (`Apdus.antt`) lists its octets, each a number, or flags without their free
+//! bits; `SpellsBody` says what follows them; `SpellsApdu` is both. The words of the table (`Part`, `Headed`) and those
+//! for what follows a head (`Behind`) are in bac_tag with their lemmas, since they say nothing of APDUs. One lemma over
+//! the table serves all APDUs: for the least octets, for the mark, and that two heads of one list agree.
 #![tactic(auto)]
 
 mod abort;

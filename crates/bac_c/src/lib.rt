@@ -1,10 +1,30 @@
 //! The library for C. `include/bactool.h` declares these calls and says for a C program what they do.
 //!
 //! Each call uses one call of the library, and [`bactool_show`] uses two. It repeats the contract of that call for what
-//! C hands in and gets back: octets as a pointer and a length, an [`Outcome`] behind a pointer, and one of the codes
+//! C passes and gets back: octets as a pointer and a length, an [`Outcome`] through a pointer, and one of the codes
 //! below as the result. A frame is one NPDU (clause 6 of the standard), with an APDU or a network message in it. No
 //! call keeps a pointer, has a state, or keeps memory after it returns, so any calls may run in any threads at the same
 //! time.
+//!
+//! # How it works
+//!
+//! A `&[u8]` is a pointer and a length in C, and a `&mut Outcome` is a pointer to `struct bactool_outcome`. The
+//! allocator is an argument of no octets, so C passes none. A code is a number, since an enum of Rattle does not cross
+//! to C; `codes.rt` has the numbers under the names of the header.
+//!
+//! `make lib` joins the archive of the crate with the kit's C (an allocator over malloc) to one object in which only
+//! the exports are visible (`scripts/link-library`), and makes `lib/libbactool.a` and `lib/libbactool.so` from it.
+//! `rt lib` needs every crate below this one proved, which takes minutes after `rt ci` on a new clone. So the gate
+//! builds the archive with the arguments of `rt lib` over the libraries that `rt ci` left (`scripts/gate-library`), and
+//! only this crate is proved once more.
+//!
+//! No crate can depend on a static library, so it is tried from outside. `scripts/try-library` runs the programs in
+//! `examples/c`, `examples/python` and `examples/rust` on the frames of `examples/every-kind.frames`, on files at
+//! fault, and on the rows of frames and texts in `crates/bac_vectors/data`, and compares what they write with what the
+//! program writes. `scripts/try-library.c` then uses the calls as a hostile caller may: every room up to the one that
+//! is needed, lengths 0 and 65,535, allocations that fail, random inputs in four threads, octets before a page that
+//! must not be touched, and fewer inputs under valgrind. The gate runs this with 4,000 random inputs, and
+//! `make try-library` with a million.
 #![tactic(auto)]
 
 mod checking;

@@ -1,6 +1,6 @@
 //! Tests of bac_apdu, bac_segment, bac_npdu and bac_text: what no clause says, values from outside, that the calls
-//! succeed, and the lines of the worked examples. They stand in a crate of their own, over public calls alone, since a
-//! crate with tests is proved twice.
+//! succeed, and the lines of the worked examples. They are a crate of their own, with public calls alone, since a
+//! crate with tests is proved twice. The comment at the top of bac_tests says how the tests work.
 #![tactic(auto)]
 
 #[cfg(test)]

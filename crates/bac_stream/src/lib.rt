@@ -8,6 +8,21 @@
 //! record, or why the record is refused.
 //!
 //! In the examples `rt` is the program's `HostRuntime`.
+//!
+//! # How it works
+//!
+//! `judge` (`judging.rt`) decides on a record for all three runs: bac_npdu decodes the frame (`visit_frame`), mode
+//! Strict refuses a frame with a mark, and otherwise something is appended for it where it was decoded, so the frame is
+//! neither put together nor moved. `show` and `check` are one job (`reporting.rt`), and each adds only what its lines
+//! say. `normalise` is a job of its own: it copies a record without a mark, and writes any other from head and body.
+//!
+//! An [`Intake`] holds the mode, the number of records so far, and less than a record, with room for the longest.
+//! `feed` first completes a record that is held in part, reads every further one from the piece itself, and holds what
+//! is left. Each record gives an item (`items.rt`). If anything fails, items and octets are cut back. The laws over
+//! every list of pieces (`specs/Feeds.antt`) use the step that `feed` names in its contract (`TakesIn`).
+//!
+//! [`join`] passes the segment of a frame to a desk of bac_segment. If this makes the message whole, it reads the
+//! service from the octets that the desk holds. It closes no key.
 #![tactic(auto)]
 
 mod checking;

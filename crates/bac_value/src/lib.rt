@@ -1,6 +1,6 @@
 //! Values of the primitive types of BACnet (ANSI/ASHRAE 135, clauses 20.2.2 to 20.2.14), and the octets
-//! that spell them: their contents, without the tag head in front. [`Primitive`] is what each type can do, and [`Prim`]
-//! a value of any of the thirteen. What only the layers above call stands in [`layers`].
+//! that spell them: their contents, without the tag head. [`Primitive`] is what each type can do, and [`Prim`]
+//! a value of any of the thirteen. What only the layers above call is in [`layers`].
 //!
 //! In the examples `rt` is the program's `HostRuntime`.
 //!
@@ -28,6 +28,37 @@
 //! let prim = Prim::read(rt.alloc(), 1, &[0x01])?;
 //! assert_eq!(rt; prim.as_prim_ref(), PrimRef::Boolean(Boolean(true)));
 //! ```
+//!
+//! # How it works
+//!
+//! Each type has a file in `types`. The definition of its contents, which contracts cite, is in `specs`; the lemmas for
+//! its laws, which only proofs need, are in `specs/Laws`.
+//!
+//! | No. | Type | In `types` | In `specs` | In `specs/Laws` |
+//! |---|---|---|---|---|
+//! | 0 | `Null` | `null_value.rt` | `NullContents.antt` | `Null.antt` |
+//! | 1 | `Boolean` | `boolean_value.rt` | `BooleanContents.antt` | `Boolean.antt` |
+//! | 2 | `Unsigned` | `unsigned_integer.rt` | `Numbers.antt` | `Numbers.antt`, `Unsigned.antt` |
+//! | 3 | `Signed` | `signed_integer.rt` | `SignedContents.antt` | `Signed.antt`, `SignedValues.antt` |
+//! | 4 | `RealBits` | `real.rt` | `RealContents.antt` | `Real.antt` |
+//! | 5 | `DoubleBits` | `double.rt` | `DoubleContents.antt` | `Double.antt` |
+//! | 6 | `Octets` | `octet_string.rt` | `OctetStringContents.antt` | `OctetString.antt` |
+//! | 7 | `Text` | `character_string.rt` | `TextContents.antt` | `Text.antt` |
+//! | 8 | `Bits` | `bit_string.rt` | `BitsContents.antt` | `Bits.antt` |
+//! | 9 | `Enumerated` | `enumeration.rt` | `Numbers.antt` | `Numbers.antt`, `Enumerated.antt` |
+//! | 10 | `Date` | `date_value.rt` | `DateContents.antt` | `Date.antt` |
+//! | 11 | `Time` | `time_value.rt` | `TimeContents.antt` | `Time.antt` |
+//! | 12 | `ObjectId` | `object_identifier.rt` | `Identifier.antt` | `Identifier.antt` |
+//!
+//! `Priority`, `Instance`, `Unsigned16` and `Unsigned32` are numbers in a range (`Bounded` in `bounded.rt`). They
+//! implement `Primitive` with contents from `Numbers.antt`. Their laws follow from `IsBounded` (`Laws/Numbers.antt`),
+//! which `Laws/Bounded.antt` proves for each.
+//!
+//! The calls of `Prim` go by the private trait `Variant` (`variants.rt`), which says of each type which of the thirteen
+//! it is. `PrimContents.antt` has the contents of a `Prim` by the number of the application tag, a line for each type,
+//! and `PrimOfContents.antt` has the way back. The calls of `contents.rt` write, count and mark contents in place,
+//! without a value. They go by the trait `Rewritten`, beside `Variant`. The contents of nine types are always those
+//! that are written (`Kept`), and one implementation serves these nine.
 #![tactic(auto)]
 
 mod bounded;

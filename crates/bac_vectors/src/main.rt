@@ -1,8 +1,15 @@
 //! The program `bac_vectors`: reads files of test vectors, calls the library for each of their rows, and prints each row
-//! that the library tells otherwise, with what it tells, and how many rows there are. docs/EXAMPLES.md says what a file has,
+//! that does not hold, with what the library returns, and how many rows there are. docs/EXAMPLES.md says what a file has,
 //! so that another implementation can be held against the same rows.
 //!
 //! The words of the command line are the names of the files. The status is 0 if each row holds.
+//!
+//! # How it works
+//!
+//! The files in `data` have a row for each case, and the program makes the calls that are about a row: plain, marked
+//! and strict decoding, encoding, appending, copies and `==`, the fast ways of the layers, and the runs. Values of
+//! 1,497, 65,535 and 1,048,576 octets and lists of 10,000 items are rows too. `rt ci` runs the program, and compares
+//! its last line, which counts the rows. A row costs the gate no proof.
 #![tactic(auto)]
 
 mod apdus;
