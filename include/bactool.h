@@ -7,9 +7,9 @@
  *
  *     const uint8_t octets[] = {0x01, 0x04, 0x00, 0x05, 0x01, 0x0C, 0x0C, 0x00, 0x00, 0x00, 0x05, 0x19, 0x55};
  *     char line[256];
- *     struct bactool_outcome told;
- *     if (bactool_show(octets, sizeof octets, line, sizeof line, &told) == BACTOOL_OK)
- *         printf("%.*s\n", (int)told.count, line);
+ *     struct bactool_outcome outcome;
+ *     if (bactool_show(octets, sizeof octets, line, sizeof line, &outcome) == BACTOOL_OK)
+ *         printf("%.*s\n", (int)outcome.count, line);
  *
  * prints `prio=0 reply=1 conf id=1 sa=0 segs=0 resp=5 ReadProperty object=0:5 property=85`.
  *
@@ -22,10 +22,10 @@
  *   - A pointer and a length are that many octets. The call reads them, and nobody may change them meanwhile. A pointer
  *     and a room are that many octets, which the call may write. NULL with length or room 0 is taken as no octets. No
  *     other pointer may be NULL.
- *   - What a call writes, `out` and `outcome`, must not overlap anything else that is handed to it. What it reads may
+ *   - What a call writes, `out` and `outcome`, must not overlap anything else that is passed to it. What it reads may
  *     overlap, and is never written.
  *   - Each call except bactool_reason and bactool_version returns one of the codes below and fills in the whole of
- *     `outcome`. If the code is not BACTOOL_OK, `out` is as it was. If it is, the octets behind those written are as
+ *     `outcome`. If the code is not BACTOOL_OK, `out` is as it was. If it is, the octets after those written are as
  *     they were. No text ends in a NUL.
  *
  * Link with -lbactool; `pkg-config --cflags --libs bactool` prints the flags.
@@ -65,8 +65,8 @@ enum bactool_why {
     BACTOOL_ADDRESS = 4,        /* a source address of length 0 */
     BACTOOL_PDU_TYPE = 5,       /* a PDU type that is not used */
     BACTOOL_WINDOW = 6,         /* a window size that is not 1 to 127 */
-    BACTOOL_TAG = 7,            /* a tag that cannot stand here */
-    BACTOOL_LENGTH = 8,         /* a length that cannot stand here */
+    BACTOOL_TAG = 7,            /* a tag that cannot be here */
+    BACTOOL_LENGTH = 8,         /* a length that cannot be here */
     BACTOOL_CONTENT = 9,        /* contents that no value has */
     BACTOOL_DEPTH = 10,         /* a group inside too many others: at most 32 nest */
     BACTOOL_NOT_CANONICAL = 11, /* a tolerated spelling, and canonical octets were asked for */
@@ -76,7 +76,7 @@ enum bactool_why {
 /* What a call reports beside its code. A field of which the code says nothing is 0. */
 struct bactool_outcome {
     uint32_t why;  /* an enum bactool_why: the reason of a refusal */
-    size_t place;  /* the offset, counted from 0, of the first octet with which no frame goes on, or of the first one
+    size_t place;  /* the offset, counted from 0, of the first octet that no frame can have there, or of the first one
                       that differs from the canonical octets; the length if the octets are only too short */
     size_t count;  /* the number of octets that are written, or that would be written if the room were not too small */
 };
@@ -91,24 +91,24 @@ struct bactool_outcome {
  *                       are refused too: `why` is BACTOOL_NOT_CANONICAL, and `place` is that first place
  *   BACTOOL_NO_MEMORY   memory was refused
  *
- *     struct bactool_outcome told;
- *     if (bactool_check(octets, length, false, &told) == BACTOOL_REFUSED)
- *         fprintf(stderr, "refused at %zu\n", told.place);
+ *     struct bactool_outcome outcome;
+ *     if (bactool_check(octets, length, false, &outcome) == BACTOOL_REFUSED)
+ *         fprintf(stderr, "refused at %zu\n", outcome.place);
  */
 uint32_t bactool_check(const uint8_t *octets, size_t length, bool strict, struct bactool_outcome *outcome);
 
 /*
  * Writes, at the front of `out`, the canonical octets of the frame that the octets spell. There are at most as many of
- * them as octets handed in, so a room of `length` is always enough.
+ * them as octets passed, so a room of `length` is always enough.
  *
  *   BACTOOL_OK          they are written: `count` is their number
  *   BACTOOL_NO_ROOM     `room` is too small for them: nothing is written, and `count` is their number
- *   BACTOOL_REFUSED     the octets handed in are refused: `why` and `place`
+ *   BACTOOL_REFUSED     the octets passed are refused: `why` and `place`
  *   BACTOOL_NO_MEMORY   memory was refused
  *
  *     uint8_t canonical[1497];
- *     if (length <= sizeof canonical && bactool_normalise(octets, length, canonical, sizeof canonical, &told) == BACTOOL_OK)
- *         send(socket, canonical, told.count, 0);
+ *     if (length <= sizeof canonical && bactool_normalise(octets, length, canonical, sizeof canonical, &outcome) == BACTOOL_OK)
+ *         send(socket, canonical, outcome.count, 0);
  */
 uint32_t bactool_normalise(const uint8_t *octets, size_t length, uint8_t *out, size_t room,
                            struct bactool_outcome *outcome);
@@ -122,10 +122,10 @@ uint32_t bactool_normalise(const uint8_t *octets, size_t length, uint8_t *out, s
  *   BACTOOL_REFUSED     the octets are refused: `why` and `place`
  *   BACTOOL_NO_MEMORY   memory was refused
  *
- *     if (bactool_show(octets, length, NULL, 0, &told) == BACTOOL_NO_ROOM) {
- *         char *line = malloc(told.count);
- *         if (line != NULL && bactool_show(octets, length, line, told.count, &told) == BACTOOL_OK)
- *             fwrite(line, 1, told.count, stdout);
+ *     if (bactool_show(octets, length, NULL, 0, &outcome) == BACTOOL_NO_ROOM) {
+ *         char *line = malloc(outcome.count);
+ *         if (line != NULL && bactool_show(octets, length, line, outcome.count, &outcome) == BACTOOL_OK)
+ *             fwrite(line, 1, outcome.count, stdout);
  *         free(line);
  *     }
  */
@@ -140,7 +140,7 @@ uint32_t bactool_show(const uint8_t *octets, size_t length, char *out, size_t ro
  *   BACTOOL_RIGHT_REFUSED  the left input spells a frame and the right one spells none: `why` and `place`
  *   BACTOOL_NO_MEMORY      memory was refused
  *
- *     bool same = bactool_same_meaning(sent, sent_length, seen, seen_length, &told) == BACTOOL_OK;
+ *     bool same = bactool_same_meaning(sent, sent_length, seen, seen_length, &outcome) == BACTOOL_OK;
  */
 uint32_t bactool_same_meaning(const uint8_t *left, size_t left_length, const uint8_t *right, size_t right_length,
                               struct bactool_outcome *outcome);
@@ -151,7 +151,7 @@ uint32_t bactool_same_meaning(const uint8_t *left, size_t left_length, const uin
  * written, or 0 if no reason has the number.
  *
  *     char name[16];
- *     printf("%.*s at %zu\n", (int)bactool_reason(told.why, name, sizeof name), name, told.place);
+ *     printf("%.*s at %zu\n", (int)bactool_reason(outcome.why, name, sizeof name), name, outcome.place);
  */
 size_t bactool_reason(uint32_t why, char *out, size_t room);
 
@@ -161,7 +161,7 @@ uint32_t bactool_version(void);
 /*
  * The library itself needs an address even if there are no octets. These functions give it one for NULL. The calls above
  * go through them, by macros that take any expression as an argument, a compound literal too. A caller in another language
- * hands in any address in place of NULL.
+ * passes any address in place of NULL.
  */
 static inline const uint8_t *bactool_octets(const uint8_t *octets)
 {

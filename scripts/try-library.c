@@ -1,6 +1,6 @@
 /*
  * Hostile use of libbactool, for scripts/try-library: `try-library COUNT < FRAMES` tries each record of a file of frames and
- * then COUNT random inputs, in four threads. All octets that are handed in end where a page begins that must not be
+ * then COUNT random inputs, in four threads. All octets that are passed end where a page begins that must not be
  * touched, so a fault of memory ends the program. It prints a line for each thing that is wrong, and one at the end.
  *
  * It is linked with --wrap for malloc and realloc, so that memory can be refused.
@@ -24,7 +24,7 @@ static _Atomic unsigned long faults;
             printf("try-library: line %d: %s\n", __LINE__, #holds);                  \
     } while (0)
 
-/* ---- memory that is refused: the allocation before which `left` is 0, alone or with all behind it */
+/* ---- memory that is refused: the allocation before which `left` is 0, alone or with all after it */
 
 static _Thread_local long left = -1;
 static _Thread_local bool alone, was_refused;
@@ -50,7 +50,7 @@ static bool is_refused(void)
 void *__wrap_malloc(size_t size) { return is_refused() ? NULL : __real_malloc(size); }
 void *__wrap_realloc(void *old, size_t size) { return is_refused() ? NULL : __real_realloc(old, size); }
 
-/* ---- memory in front of a page that must not be touched */
+/* ---- memory before a page that must not be touched */
 
 struct yard {
     uint8_t *end;
@@ -72,7 +72,7 @@ static const uint8_t *placed(struct yard yard, const uint8_t *octets, size_t len
     return length == 0 ? yard.end : memcpy(yard.end - length, octets, length);
 }
 
-/* The last `room` octets of a yard; they and those in front of them are KEPT. */
+/* The last `room` octets of a yard; they and those before them are KEPT. */
 static uint8_t *cleared(struct yard yard, size_t room)
 {
     size_t front = room + BEHIND < yard.size ? room + BEHIND : yard.size;
@@ -110,7 +110,7 @@ static bool says(struct bactool_outcome told, uint32_t why, size_t place, size_t
     return told.why == why && told.place == place && told.count == length;
 }
 
-/* What is written, at the given room: whole with what stands behind kept, or nothing. */
+/* What is written, at the given room: whole, and what follows is kept, or nothing. */
 typedef uint32_t written_by(const uint8_t *octets, size_t length, uint8_t *out, size_t room,
                             struct bactool_outcome *told);
 
@@ -278,7 +278,7 @@ static uint32_t call(int job, struct bench bench, const uint8_t *octets, size_t 
                       : bactool_same_meaning(octets, length, octets, length, told);
 }
 
-/* Each allocation refused in turn, with all behind it or alone, till none is met. Until then a call tells so and writes
+/* Each allocation refused in turn, with all after it or alone, till none is left. Until then a call reports it and writes
    nothing; where others are granted it may also do without, and then it ends as with all of them. */
 static void try_without_memory(struct bench bench, const uint8_t *input, size_t length)
 {

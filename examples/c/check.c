@@ -1,5 +1,5 @@
 /*
- * Reports of each record of a file of frames whether it is canonical, as `bactool check` does:
+ * Reports of each record of a frame file whether it is canonical, as `bactool check` does:
  *
  *     cc examples/c/check.c $(pkg-config --cflags --libs bactool) -o check
  *     ./check < examples/every-kind.frames
@@ -38,18 +38,18 @@ static int read_record(unsigned number, uint8_t *frame, size_t *length)
 /* Prints the line of one record. Returns the status for it. */
 static int check(unsigned number, const uint8_t *frame, size_t length)
 {
-    struct bactool_outcome told;
+    struct bactool_outcome outcome;
     char name[16];
-    switch (bactool_check(frame, length, false, &told)) {
+    switch (bactool_check(frame, length, false, &outcome)) {
     case BACTOOL_OK:
         printf("%u ok\n", number);
         return ACCEPTED;
     case BACTOOL_TOLERATED:
-        printf("%u tolerated at %zu\n", number, told.place);
+        printf("%u tolerated at %zu\n", number, outcome.place);
         return ACCEPTED;
     case BACTOOL_REFUSED: {
-        size_t count = bactool_reason(told.why, name, sizeof name);
-        printf("%u refused %.*s at %zu\n", number, (int)count, name, told.place);
+        size_t count = bactool_reason(outcome.why, name, sizeof name);
+        printf("%u refused %.*s at %zu\n", number, (int)count, name, outcome.place);
         return REFUSED;
     }
     default:

@@ -29,7 +29,7 @@ class Refused(Exception):
 
 
 class CutRecord(Exception):
-    """A file of frames ends within a record."""
+    """A frame file ends within a record."""
 
 
 class Bactool:
@@ -38,11 +38,11 @@ class Bactool:
     def __init__(self, path="libbactool.so.0"):
         self.library = ctypes.CDLL(path)
         octets = [ctypes.c_char_p, ctypes.c_size_t]
-        told = [ctypes.POINTER(Outcome)]
-        self.library.bactool_check.argtypes = octets + [ctypes.c_bool] + told
-        self.library.bactool_normalise.argtypes = octets + octets + told
-        self.library.bactool_show.argtypes = octets + octets + told
-        self.library.bactool_same_meaning.argtypes = octets + octets + told
+        outcome = [ctypes.POINTER(Outcome)]
+        self.library.bactool_check.argtypes = octets + [ctypes.c_bool] + outcome
+        self.library.bactool_normalise.argtypes = octets + octets + outcome
+        self.library.bactool_show.argtypes = octets + octets + outcome
+        self.library.bactool_same_meaning.argtypes = octets + octets + outcome
         self.library.bactool_reason.argtypes = [ctypes.c_uint32] + octets
         self.library.bactool_reason.restype = ctypes.c_size_t
         for name in ("check", "normalise", "show", "same_meaning", "version"):
@@ -50,9 +50,9 @@ class Bactool:
 
     def check(self, octets, strict=False):
         """Returns None where the octets are canonical, else the first place where they differ from canonical ones."""
-        told, octets = Outcome(), bytes(octets)
-        code = self.library.bactool_check(octets, len(octets), strict, told)
-        return told.place if self._accepted(code, told) == TOLERATED else None
+        outcome, octets = Outcome(), bytes(octets)
+        code = self.library.bactool_check(octets, len(octets), strict, outcome)
+        return outcome.place if self._accepted(code, outcome) == TOLERATED else None
 
     def normalise(self, octets):
         """Returns the canonical octets of the frame."""
@@ -64,9 +64,9 @@ class Bactool:
 
     def same_meaning(self, left, right):
         """Returns whether both inputs spell one frame."""
-        told, left, right = Outcome(), bytes(left), bytes(right)
-        code = self.library.bactool_same_meaning(left, len(left), right, len(right), told)
-        return self._accepted(code, told) == OK
+        outcome, left, right = Outcome(), bytes(left), bytes(right)
+        code = self.library.bactool_same_meaning(left, len(left), right, len(right), outcome)
+        return self._accepted(code, outcome) == OK
 
     def reason(self, why):
         """Returns the name of a reason."""
@@ -76,28 +76,28 @@ class Bactool:
 
     def _written(self, call, octets, room):
         """Calls with that room, and once more with the room that is wanted."""
-        told, octets = Outcome(), bytes(octets)
+        outcome, octets = Outcome(), bytes(octets)
         for _ in range(2):
             # One octet more than the room, since no buffer is empty.
             out = ctypes.create_string_buffer(room + 1)
-            code = self._accepted(call(octets, len(octets), out, room, told), told)
+            code = self._accepted(call(octets, len(octets), out, room, outcome), outcome)
             if code == OK:
                 break
-            room = told.count
-        return out.raw[: told.count]
+            room = outcome.count
+        return out.raw[: outcome.count]
 
-    def _accepted(self, code, told):
+    def _accepted(self, code, outcome):
         """Returns the code, or raises what it says."""
         if code == NO_MEMORY:
             raise MemoryError
         if code in (REFUSED, LEFT_REFUSED, RIGHT_REFUSED):
             side = {LEFT_REFUSED: "left", RIGHT_REFUSED: "right"}.get(code)
-            raise Refused(self.reason(told.why), told.place, side)
+            raise Refused(self.reason(outcome.why), outcome.place, side)
         return code
 
 
 def records(file):
-    """Yields the records of a file of frames: two octets of length, and so many octets."""
+    """Yields the records of a frame file: two octets of length, and so many octets."""
     while head := file.read(2):
         octets = file.read(int.from_bytes(head, "big"))
         if len(head) < 2 or len(octets) < int.from_bytes(head, "big"):
@@ -106,7 +106,7 @@ def records(file):
 
 
 def run(job, tool, file):
-    """Does a job for each record of a file of frames. Returns the status."""
+    """Does a job for each record of a frame file. Returns the status."""
     status = 0
     number = 0
     try:

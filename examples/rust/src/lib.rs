@@ -13,15 +13,15 @@ struct Outcome {
 
 #[rustfmt::skip]
 extern "C" {
-    fn bactool_check(octets: *const u8, length: usize, strict: bool, told: &mut Outcome) -> u32;
-    fn bactool_normalise(octets: *const u8, length: usize, out: *mut u8, room: usize, told: &mut Outcome) -> u32;
-    fn bactool_show(octets: *const u8, length: usize, out: *mut u8, room: usize, told: &mut Outcome) -> u32;
-    fn bactool_same_meaning(left: *const u8, left_length: usize, right: *const u8, right_length: usize, told: &mut Outcome) -> u32;
+    fn bactool_check(octets: *const u8, length: usize, strict: bool, outcome: &mut Outcome) -> u32;
+    fn bactool_normalise(octets: *const u8, length: usize, out: *mut u8, room: usize, outcome: &mut Outcome) -> u32;
+    fn bactool_show(octets: *const u8, length: usize, out: *mut u8, room: usize, outcome: &mut Outcome) -> u32;
+    fn bactool_same_meaning(left: *const u8, left_length: usize, right: *const u8, right_length: usize, outcome: &mut Outcome) -> u32;
     fn bactool_reason(why: u32, out: *mut u8, room: usize) -> usize;
     fn bactool_version() -> u32;
 }
 
-// The codes of the header that the functions tell apart. Each other code is a refusal, or memory that was refused.
+// The codes of the header that the functions distinguish. Each other code is a refusal, or memory that was refused.
 const OK: u32 = 0;
 const TOLERATED: u32 = 1;
 const DIFFERENT: u32 = 2;
@@ -53,44 +53,44 @@ pub enum Side {
 /// Returns `None` if the octets are canonical, else the first place where they differ from the canonical ones. If `strict`
 /// is true, only canonical octets are accepted.
 pub fn check(octets: &[u8], strict: bool) -> Result<Option<usize>, Refusal> {
-    let mut told = Outcome::default();
-    // SAFETY: the pointer and the length are those of a slice, and `told` is memory of its own.
-    match unsafe { bactool_check(octets.as_ptr(), octets.len(), strict, &mut told) } {
+    let mut outcome = Outcome::default();
+    // SAFETY: the pointer and the length are those of a slice, and `outcome` is memory of its own.
+    match unsafe { bactool_check(octets.as_ptr(), octets.len(), strict, &mut outcome) } {
         OK => Ok(None),
-        TOLERATED => Ok(Some(told.place)),
-        _ => Err(refusal(told)),
+        TOLERATED => Ok(Some(outcome.place)),
+        _ => Err(refusal(outcome)),
     }
 }
 
 /// Returns the canonical octets of the frame.
 pub fn normalise(octets: &[u8]) -> Result<Vec<u8>, Refusal> {
-    written(octets.len(), |out, told| {
+    written(octets.len(), |out, outcome| {
         // SAFETY: as above, and `out` is memory of its own for so many octets.
-        unsafe { bactool_normalise(octets.as_ptr(), octets.len(), out.as_mut_ptr(), out.len(), told) }
+        unsafe { bactool_normalise(octets.as_ptr(), octets.len(), out.as_mut_ptr(), out.len(), outcome) }
     })
 }
 
 /// Returns the text of the frame.
 pub fn show(octets: &[u8]) -> Result<String, Refusal> {
-    let line = written(256, |out, told| {
+    let line = written(256, |out, outcome| {
         // SAFETY: as above.
-        unsafe { bactool_show(octets.as_ptr(), octets.len(), out.as_mut_ptr(), out.len(), told) }
+        unsafe { bactool_show(octets.as_ptr(), octets.len(), out.as_mut_ptr(), out.len(), outcome) }
     })?;
     Ok(String::from_utf8_lossy(&line).into_owned())
 }
 
 /// Returns whether both inputs spell one frame, or which of them spells none, and why.
 pub fn same_meaning(left: &[u8], right: &[u8]) -> Result<bool, (Side, Refusal)> {
-    let mut told = Outcome::default();
+    let mut outcome = Outcome::default();
     // SAFETY: as above, of two slices.
     let code = unsafe {
-        bactool_same_meaning(left.as_ptr(), left.len(), right.as_ptr(), right.len(), &mut told)
+        bactool_same_meaning(left.as_ptr(), left.len(), right.as_ptr(), right.len(), &mut outcome)
     };
     match code {
         OK => Ok(true),
         DIFFERENT => Ok(false),
-        RIGHT_REFUSED => Err((Side::Right, refusal(told))),
-        _ => Err((Side::Left, refusal(told))),
+        RIGHT_REFUSED => Err((Side::Right, refusal(outcome))),
+        _ => Err((Side::Left, refusal(outcome))),
     }
 }
 
@@ -111,21 +111,21 @@ pub fn version() -> u32 {
 
 /// Returns what a call writes that is given this room at first, and then the room that it wants.
 fn written(room: usize, call: impl Fn(&mut [u8], &mut Outcome) -> u32) -> Result<Vec<u8>, Refusal> {
-    let (mut out, mut told) = (vec![0; room], Outcome::default());
+    let (mut out, mut outcome) = (vec![0; room], Outcome::default());
     loop {
-        let code = call(&mut out, &mut told);
+        let code = call(&mut out, &mut outcome);
         match code {
             OK => {
-                out.truncate(told.count);
+                out.truncate(outcome.count);
                 return Ok(out);
             }
-            NO_ROOM => out.resize(told.count, 0),
-            _ => return Err(refusal(told)),
+            NO_ROOM => out.resize(outcome.count, 0),
+            _ => return Err(refusal(outcome)),
         }
     }
 }
 
-fn refusal(told: Outcome) -> Refusal {
-    let Outcome { why, place, .. } = told;
+fn refusal(outcome: Outcome) -> Refusal {
+    let Outcome { why, place, .. } = outcome;
     Refusal { why, place }
 }

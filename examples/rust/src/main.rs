@@ -1,4 +1,4 @@
-//! `bactool check|show|normalise < FRAMES`: writes what the program `bactool` writes of a file of frames on standard input.
+//! `bactool check|show|normalise < FRAMES`: writes what the program `bactool` writes of a frame file on standard input.
 //! The status is that of `bactool`: 0, 1 if a record is refused, and 2 if the words, the input or the output are at fault.
 use bactool::Refusal;
 use std::io::{self, BufWriter, Read, Write};
