@@ -33,7 +33,7 @@ pub enum Apdu {
     SegmentAck {
         /// The invoke id of the transaction.
         invoke: u8,
-        /// Whether a segment came out of order.
+        /// Whether a segment was received out of order.
         nak: bool,
         /// Whether the server sent it.
         srv: bool,

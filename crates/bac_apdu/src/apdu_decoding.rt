@@ -125,10 +125,10 @@ impl ApduVisitor for KeepApdu {
 /// Decodes the APDU that all the octets spell.
 ///
 /// # Errors
-/// The place is that of the first octet with which no spelling of an APDU goes on. The reason is one of these:
+/// The place is that of the first octet with which no spelling of an APDU continues. The reason is one of these:
 ///
 /// - `Short` if all the octets begin a spelling, and in no other case: the place is their number;
-/// - `Trailing` if the octets in front of the place spell an APDU, and in no other case;
+/// - `Trailing` if the octets before the place spell an APDU, and in no other case;
 /// - `PduType` at the first octet, if the type is above 7;
 /// - `Window` at the octet of a window that is not 1 to 127;
 /// - `Tag`, `Length`, `Content` or `Depth` in a service;

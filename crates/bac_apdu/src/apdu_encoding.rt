@@ -16,7 +16,7 @@ use std::alloc::Global;
 /// How many octets there is room for at first: as many as most APDUs need.
 const FIRST_ROOM: usize = 64;
 
-/// Appends the canonical octets of an APDU, its least spelling, behind what stands in `out`.
+/// Appends the canonical octets of an APDU, its least spelling, after what is in `out`.
 ///
 /// # Errors
 /// `OutOfMemory` if memory is refused. `out` then stays as it was.

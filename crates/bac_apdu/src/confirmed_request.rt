@@ -121,7 +121,7 @@ impl ConfirmedRequest {
     }
 }
 
-/// Returns the head that the octets in front of a service spell, and its canonical octets.
+/// Returns the head that the octets before a service spell, and its canonical octets.
 #[inline(always)]
 fn read_head(first: u8, limits: u8, invoke: u8, choice: u8) -> (RequestHead, [u8; 4])
     ensures sa { first / 2 ^ 1 % 2 ≡ bit_of result.0.sa }

@@ -25,7 +25,7 @@ pub(crate) fn first_octet(pdu: u8, third: bool, second: bool, first: bool, zerot
     16 * pdu + 8 * u8::from(third) + 4 * u8::from(second) + 2 * u8::from(first) + u8::from(zeroth)
 }
 
-/// Checks that the octets end behind a head whose canonical octets are `head`. Returns the mark of the octets.
+/// Checks that the octets end after a head whose canonical octets are `head`. Returns the mark of the octets.
 #[inline(always)]
 pub(crate) fn ended(octets: &[u8], head: &[u8]) -> Result<Option<usize>, Refusal>
     requires { length head.now ≤ length octets.now }

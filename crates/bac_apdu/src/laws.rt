@@ -144,7 +144,7 @@ pub fn apdus_have_canonical_octets()
     bac_service::laws::services_have_canonical_octets();
 }
 
-/// The canonical octets of a segment are a head and behind it its piece. The head has 6 octets for a segment of a
+/// The canonical octets of a segment are a head, and its piece after it. The head has 6 octets for a segment of a
 /// request, and 5 for one of an answer.
 pub fn segments_are_heads_and_pieces()
     ensures { (head : SegHead) (seq size : ℕ) (more : Bool) (choice : ℕ) (piece b : List ℕ) → IsLeast (SpellsApdu (segment head seq size more choice piece)) b → (front : List ℕ) × (b ≡ front ++ piece) × (length front ≡ segment_head_size head) }

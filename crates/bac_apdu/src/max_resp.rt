@@ -4,7 +4,7 @@ ghost use Rattle.std.specs.Prelude.{◌≡◌, ◌<◌, ◌↔◌, ◌%◌, IsSo
 
 use std::marker::Model;
 
-/// How long an APDU of the answer may be, as the number 0 to 15 that stands for it (clause 20.1.2.5).
+/// How long an APDU of the answer may be, as the number 0 to 15 that encodes it (clause 20.1.2.5).
 #[derive(Clone, Copy, Debug, PartialEq, Eq)]
 pub struct MaxResp {
     number: u8,

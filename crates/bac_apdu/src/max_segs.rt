@@ -4,7 +4,7 @@ ghost use Rattle.std.specs.Prelude.{◌≡◌, ◌<◌, ◌↔◌, ◌/◌, ◌%
 
 use std::marker::Model;
 
-/// How many segments of an answer are accepted, as the number 0 to 7 that stands for it (clause 20.1.2.4).
+/// How many segments of an answer are accepted, as the number 0 to 7 that encodes it (clause 20.1.2.4).
 #[derive(Clone, Copy, Debug, PartialEq, Eq)]
 pub struct MaxSegs {
     number: u8,

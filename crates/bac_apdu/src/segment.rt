@@ -41,7 +41,7 @@ pub enum SegHead {
 /// ignored, and 0 in canonical form.
 #[derive(Clone, Debug, PartialEq, Eq, Drop)]
 pub struct Segment {
-    // Words stand in front of octets, so that an APDU is moved in whole words.
+    // Words are before octets, so that an APDU is moved in whole words.
     /// Its part of the octets of the service, which may be empty.
     pub piece: Vec<u8>,
     /// What the segment is part of: a request or an answer.
@@ -56,7 +56,7 @@ pub struct Segment {
     pub choice: u8,
 }
 
-/// Appends the octets of a head, and a piece behind it. If memory is refused, `out` stays as it was.
+/// Appends the octets of a head, and a piece after it. If memory is refused, `out` stays as it was.
 fn append_piece(head: &[u8], piece: &[u8], out: &mut Vec<u8>) -> Result<(), OutOfMemory>
     ensures written { OnOk result (out.new.items ≡ (out.old.items ++ head.now) ++ piece.now) }
     ensures unchanged { OnErr result (out.new.items ≡ out.old.items) }

@@ -1,4 +1,4 @@
-//! Services behind a head.
+//! Services after a head.
 
 ghost use Rattle.std.specs.Prelude.{◌≡◌, ◌≤◌, ◌++◌, length, true, None, IsTrue, OnOk, OnErr};
 ghost use Rattle.bac_tag.specs.Spelling.{AppendsLeast};
@@ -12,7 +12,7 @@ use bac_tag::layers::{first_difference, joined_marks};
 use bac_tag::{OutOfMemory, Refusal, Why};
 use std::alloc::Global;
 
-/// Decodes the service behind a head whose canonical octets are `head`. Returns it with the mark of all the octets.
+/// Decodes the service after a head whose canonical octets are `head`. Returns it with the mark of all the octets.
 #[inline(always)]
 pub(crate) fn decode_behind(
     alloc: Global,
@@ -36,8 +36,8 @@ pub(crate) fn decode_behind(
     }
 }
 
-/// Returns true if the octets are found at once to be those of `head`, the canonical ones of a head, and behind them
-/// the canonical ones of a service. False says nothing about the octets.
+/// Returns true if the octets are found at once to be those of `head`, the canonical ones of a head, and after them the
+/// canonical ones of a service. False says nothing about the octets.
 #[inline(always)]
 pub(crate) fn is_canonical_behind(
     alloc: Global,
@@ -53,7 +53,7 @@ pub(crate) fn is_canonical_behind(
     front == head && is_canonical_service(alloc, kind, choice, rest)
 }
 
-/// Appends the octets of a head, and the canonical ones of a service behind it. If memory is refused, `out` stays as it
+/// Appends the octets of a head, and the canonical ones of a service after it. If memory is refused, `out` stays as it
 /// was.
 #[inline(always)]
 pub(crate) fn append_behind(

@@ -14,7 +14,7 @@ pub trait Layer: Drop {
     /// What octets spell.
     type Value: Drop;
 
-    /// What is kept of a value that was marked, until the next one was: nothing where a value stands alone.
+    /// What is kept of a value that was marked, until the next one is marked: nothing for contents and open values.
     type Kept: Drop;
 
     /// Reads a value.

@@ -9,7 +9,7 @@ use std::time::Duration;
 /// What a table shows.
 #[derive(Clone, Copy)]
 pub struct Layout {
-    /// The line in front of the table.
+    /// The line before the table.
     pub title: &'static str,
     /// What a row is of, and how wide its name is.
     pub of: &'static str,

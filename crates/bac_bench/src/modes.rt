@@ -10,7 +10,7 @@ pub enum Mode {
 }
 
 impl Mode {
-    /// Returns the mode that the words of the process name. Its own name stands in front.
+    /// Returns the mode that the words of the process name. The first word is the name of the process.
     pub fn named(words: &[String]) -> Option<Mode> {
         match words {
             [] | [_] => Some(Mode::Once),

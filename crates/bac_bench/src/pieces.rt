@@ -21,11 +21,11 @@ pub struct Piece {
     pub name: &'static str,
     /// Whose calls do the work.
     pub calls: Calls,
-    /// What the times are compared with: how many octets are in front of that, and whose calls do it.
+    /// What the times are compared with: how many octets are before that, and whose calls do it.
     pub below: Option<(usize, Calls)>,
-    /// The octets in front of the runs.
+    /// The octets before the runs.
     pub front: &'static [u8],
-    /// Must be canonical, with the octets in front: what is written is compared with what was read.
+    /// Must be canonical, with the octets before them: what is written is compared with what was read.
     pub runs: &'static [Run],
 }
 
@@ -55,7 +55,7 @@ pub enum Calls {
 pub enum Run {
     /// These, so often.
     Again(usize, &'static [u8]),
-    /// So many that are contents of a value of each type: the 0 in front is a character set, and no unused bits.
+    /// So many that are contents of a value of each type: the 0 at the front is a character set, and no unused bits.
     Contents(usize),
 }
 

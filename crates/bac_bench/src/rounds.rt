@@ -88,7 +88,7 @@ fn expect_canonical(mark: Option<usize>) -> Result<(), BenchFault> {
 }
 
 /// Does the work as often as asked, and at least once. Returns what it made the last time, and the shortest time that
-/// it took. A mean would count the pages that the system hands over at first, which do not belong to the work.
+/// it took. A mean would count the pages that the system provides at first, which do not belong to the work.
 pub fn timed<T: Drop, W: Fn() -> Result<T, BenchFault>>(
     clock: &impl Clock,
     repetitions: u32,

@@ -30,7 +30,7 @@ const KEY: Key = Key {
     choice: 14,
 };
 
-/// Joins the segments as they stand.
+/// Joins the segments in their order.
 fn joined(alloc: Global, segments: &[Segment]) -> Result<Reassembly, BenchFault> {
     let mut reassembly = Reassembly::new(alloc, KEY)?;
     for segment in segments {

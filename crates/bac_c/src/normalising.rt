@@ -11,11 +11,11 @@ use bac_npdu::normalise_frame;
 use std::alloc::Global;
 
 /// Writes the canonical octets of the frame that the octets spell at the front of `out`. There are at most as many of
-/// them as octets handed in. Returns one of these codes:
+/// them as octets passed. Returns one of these codes:
 ///
 /// - `BACTOOL_OK` if they are written: `outcome` has their number;
 /// - `BACTOOL_NO_ROOM` if `out` is too short for them: nothing is written, and `outcome` has their number;
-/// - `BACTOOL_REFUSED` if the octets handed in are refused: `outcome` has why and where;
+/// - `BACTOOL_REFUSED` if the octets passed are refused: `outcome` has why and where;
 /// - `BACTOOL_NO_MEMORY` if memory is refused.
 #[unsafe(no_mangle)]
 pub extern "C" fn bactool_normalise(

@@ -1,4 +1,4 @@
-//! What the calls leave in the memory that C hands in.
+//! What the calls leave in the memory that C passes.
 
 ghost use Rattle.std.specs.Prelude.{◌≡◌, ◌≢◌, ◌⊎◌, ◌↔◌, ◌<◌, ◌≤◌, ◌++◌, IsTrue, length, drop, false};
 ghost use Rattle.bac_tag.specs.declared.refusals.Why.TheVariants.{OutOfMemory};

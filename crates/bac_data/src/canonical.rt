@@ -14,8 +14,8 @@ use bac_tag::layers::{is_short_closing, is_short_opening};
 use bac_tag::{TagHead, read_head};
 use bac_value::layers::are_written;
 
-/// Returns what stands under a head at the front of the octets, and how many octets its contents have, if these
-/// contents are those that are written. None says nothing about the octets.
+/// Returns the item with this head and with its contents at the front of the octets, and how many octets its contents
+/// have, if these contents are those that are written. None says nothing about the octets.
 fn written_under(head: TagHead, octets: &[u8]) -> Option<(Item<'_>, usize)>
     requires { HasContents head }
     ensures within { IfSome result (λ found. found.1 ≤ length octets.now) }
@@ -49,9 +49,9 @@ fn written_under(head: TagHead, octets: &[u8]) -> Option<(Item<'_>, usize)>
     }
 }
 
-/// Returns what stands next and how many octets it takes, if these are its canonical octets. `room` says whether a
-/// group may begin. `closing` is the number of the innermost group, or of the value if no group is open. None says
-/// nothing about the octets.
+/// Returns the next item and how many octets it takes, if these are its canonical octets. `room` says whether a group
+/// may begin. `closing` is the number of the innermost group, or of the value if no group is open. None says nothing
+/// about the octets.
 fn least_item(octets: &[u8], room: bool, closing: u8) -> Option<(Item<'_>, usize)>
     ensures found { IfSome result (λ found. Takes (SpellsStanding room closing) octets.now (item_event found.0, found.1)) }
     ensures some { IfSome result (λ found. 0 < found.1) }

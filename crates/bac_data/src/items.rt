@@ -1,4 +1,4 @@
-//! What stands next in an open value.
+//! The next item in an open value.
 
 ghost use Rattle.std.specs.Prelude.{◌≡◌, ◌↔◌, ◌≤◌, ◌<◌, ◌⊎◌, ◌++◌, true, false, IsTrue, IfSome, length, take, [], IfOk, IfErr};
 ghost use Rattle.bac_tag.specs.Spelling.{IsLeast, IsRefusal, Takes};
@@ -24,7 +24,7 @@ use bac_value::{
     Text, Time, Unsigned,
 };
 
-/// What stands next in an open value: a primitive with its contents as they lie, or a tag.
+/// The next item in an open value: a primitive with its contents as they lie, or a tag.
 #[derive(Clone, Copy)]
 pub(crate) enum Item<'a> {
     /// An application Boolean.
@@ -73,7 +73,8 @@ fn read_contents(number: u8, size: usize, octets: &[u8]) -> Result<(&[u8], bool)
     Ok((seen, false))
 }
 
-/// Reads what stands under a head at the front of the octets. Returns it, and how many octets it takes.
+/// Reads the item with this head and with its contents at the front of the octets. Returns it, and how many octets its
+/// contents have.
 ///
 /// # Errors
 /// As those of [`read_contents`].
@@ -119,7 +120,7 @@ fn read_under(head: TagHead, octets: &[u8]) -> Result<(Item<'_>, usize), Refusal
     }
 }
 
-/// Returns the heads of what may stand next, that of an opening tag last.
+/// Returns the heads that the next item may have, that of an opening tag last.
 fn next_heads(closing: u8) -> [Expected; 16]
     ensures { result ≡ next_heads true closing }
 {
@@ -171,7 +172,7 @@ fn begins_group(octets: &[u8]) -> bool
     }
 }
 
-/// Returns true if the head is found to be one that may stand next. False says nothing about the head.
+/// Returns true if the head is found to be one that the next item may have. False says nothing about the head.
 pub(crate) fn may_stand(head: TagHead, room: bool, closing: u8) -> bool
     requires { IsValid head }
     ensures { IsTrue result → FitsOne (next_heads room closing) head }
@@ -188,7 +189,7 @@ pub(crate) fn may_stand(head: TagHead, room: bool, closing: u8) -> bool
     }
 }
 
-/// Reads the head of what stands next. Returns it, and how many octets it takes. `room` says whether a group may begin.
+/// Reads the head of the next item. Returns it, and how many octets it takes. `room` says whether a group may begin.
 /// `closing` is the number of the innermost group, or of the value if no group is open.
 ///
 /// # Errors
@@ -211,8 +212,8 @@ fn read_next_head(octets: &[u8], room: bool, closing: u8) -> Result<(TagHead, us
     }
 }
 
-/// Reads the same as [`read_next_head`], by the list of all heads that may stand next. This is slow, but finds the
-/// place of a refusal.
+/// Reads the same as [`read_next_head`], by the list of all heads that the next item may have. This is slow, but finds
+/// the place of a refusal.
 ///
 /// # Errors
 /// As those of `bac_tag::read_one_of`; but `Depth` if a group begins and there is no room for one.
@@ -270,11 +271,11 @@ pub(crate) fn least_primitive(octets: &[u8]) -> Option<usize>
     }
 }
 
-/// Reads what stands next. Returns it, how many octets its head takes, and how many octets it takes in all. `room` says
+/// Reads the next item. Returns it, how many octets its head takes, and how many octets it takes in all. `room` says
 /// whether a group may begin. `closing` is the number of the innermost group, or of the value if no group is open.
 ///
 /// # Errors
-/// The place is that of the first octet with which nothing that may stand there goes on. The reason is `Tag`, `Length`
+/// The place is that of the first octet with which no item that may be there continues. The reason is `Tag`, `Length`
 /// or `Depth` in a head, `Content` in contents, or `Short` if the octets end before there is such an octet.
 pub(crate) fn read_item(
     octets: &[u8],

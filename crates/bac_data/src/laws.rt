@@ -38,8 +38,8 @@ pub fn elements_are_viable_in_a_case()
     ensures { (b : List ℕ) → IsViable Spells b ↔ (IsViable SpellsPrimitive b ⊎ (IsViable SpellsContextOf b ⊎ IsViable SpellsGroup b)) }
 {}
 
-/// A list begins a spelling of an element and others behind it exactly where it begins a spelling of an element, or is
-/// a spelling of an element with the beginning of others behind it.
+/// A list begins a spelling of an element and others after it exactly where it begins a spelling of an element, or is a
+/// spelling of an element with the beginning of others after it.
 pub fn lists_are_viable_in_turn()
     ensures { (b : List ℕ) → IsViable SpellsMore b ↔ (IsViable Spells b ⊎ IsPartway Spells (λ _. SpellsAll) b) }
 {}

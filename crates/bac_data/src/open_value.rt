@@ -23,8 +23,8 @@ const SHORT: usize = 16;
 /// An open value: a list of elements, which may be empty. Each is an application primitive, a context primitive
 /// (its number and its contents) or a group (its number and its elements). Numbers are 0 to 254, contents have at
 /// most 1,048,576 octets, and at most 32 groups nest.
-// The count stands in front of the octets. So a result has the tag of the octets where a refusal has its reason, which
-// is one octet too, and no word is moved in pieces.
+// The count is before the octets. So a result has the tag of the octets where a refusal has its reason, which is one
+// octet too, and no word is moved in pieces.
 #[derive(Debug)]
 pub struct Any {
     /// How many events it has.

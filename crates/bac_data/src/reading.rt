@@ -67,7 +67,7 @@ pub(crate) fn follow(groups: &mut ArrayVec<u8, MAX_GROUPS>, item: Item<'_>)
     }
 }
 
-/// Returns the mark of `place` octets together with the closing tag behind them. The mark of the `place` octets is
+/// Returns the mark of `place` octets together with the closing tag after them. The mark of the `place` octets is
 /// `mark`. The tag has this number and the octets `closing`.
 #[inline(always)]
 fn mark_closing(mark: Option<usize>, place: usize, closing: &[u8], number: u8) -> Option<usize>
@@ -80,10 +80,10 @@ fn mark_closing(mark: Option<usize>, place: usize, closing: &[u8], number: u8) -
     joined_marks(mark, place, mark_read_head(closing, head, head))
 }
 
-/// Keeps the canonical octets of an item, if its octets or some in front of it are not canonical. The item has these
-/// `octets`, and its head has the first `head` of them. `before` is the mark of what stands in front of the item.
-/// `front` holds the octets of the items in front of it, of which nothing is kept while `before` is None. Returns the
-/// mark of the octets of the item. Behind the first difference no mark is looked for.
+/// Keeps the canonical octets of an item, if its octets or some before it are not canonical. The item has these
+/// `octets`, and its head has the first `head` of them. `before` is the mark of the octets before the item. `front`
+/// holds the octets of the items before it, of which nothing is kept while `before` is None. Returns the mark of the
+/// octets of the item. After the first difference no mark is looked for.
 #[inline(always)]
 fn keep(
     front: &[u8],
@@ -115,7 +115,7 @@ fn keep(
     Ok(first_difference(octets, &kept[start..]))
 }
 
-/// Keeps the canonical octets of an item, if what stands in front of it has a mark.
+/// Keeps the canonical octets of an item, if the octets before it have a mark.
 #[inline(always)]
 fn keep_octets(octets: &[u8], mark: Option<usize>, kept: &mut Vec<u8>) -> Result<(), OutOfMemory>
     ensures { OnOk result ((es : List Event) (event : Event) → IsLeast (SpellsEvent event) octets.now → Keeps mark es kept.old.items → Keeps mark (es ++ event ∷ []) kept.new.items) }
@@ -129,7 +129,7 @@ fn keep_octets(octets: &[u8], mark: Option<usize>, kept: &mut Vec<u8>) -> Result
 /// Room for what follows the first octet that is not canonical. Most values have less.
 const ROOM: usize = 48;
 
-/// Keeps the octets of the items in front of the first one that is not canonical.
+/// Keeps the octets of the items before the first one that is not canonical.
 fn begin(front: &[u8], kept: &mut Vec<u8>) -> Result<(), OutOfMemory>
     ensures { OnOk result (kept.new.items ≡ kept.old.items ++ front.now) }
 {
@@ -166,7 +166,7 @@ fn finish(
 /// 32 groups nest between the two tags.
 ///
 /// # Errors
-/// The place is that of the first octet with which no spelling of such a value goes on. The reason is one of these:
+/// The place is that of the first octet with which no spelling of such a value continues. The reason is one of these:
 ///
 /// - `Short` if the octets end before there is such an octet, and in no other case: the place is their number;
 /// - `Depth` only at the first octet of another group inside 32 open ones;

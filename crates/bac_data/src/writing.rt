@@ -141,7 +141,7 @@ fn append_any(value: &Any, number: u8, out: &mut Vec<u8>) -> Result<(), OutOfMem
     ensures err { OnErr result (Extends out.old.items out.new.items) }
 {
     let octets = value.octets();
-    // So a long value is moved to larger room only once, and not both behind its first octet and behind its last.
+    // So a long value is moved to larger room only once, and not both after its first octet and after its last.
     out.reserve(octets.len().saturating_add(TAGS))?;
     append_head(TagHead::Open(number), out)?;
     out.extend_from_slice(octets)?;

@@ -9,7 +9,7 @@ pub fn assert_same<T: PartialEq + Debug + Drop>(rt: &impl Abort, found: T, wante
     assert_eq!(rt; found, wanted);
 }
 
-/// The same, and tells of which case it was.
+/// Stops the test unless what it found is what it wanted. A failure shows the case.
 pub fn assert_same_of<T: PartialEq + Debug + Drop, C: Debug + Drop>(
     rt: &impl Abort,
     found: T,
@@ -24,8 +24,8 @@ pub fn assert_holds<C: Debug + Drop>(rt: &impl Abort, holds: bool, case: C) {
     assert!(rt; holds, "of {case:?}");
 }
 
-/// Stops the test unless these are the octets in front and those after them. A failure shows how many there are: there
-/// may be a mebibyte of them.
+/// Stops the test unless these are the octets at the front and those after them. A failure shows how many there are:
+/// there may be a mebibyte of them.
 pub fn assert_joined(rt: &impl Abort, found: &[u8], front: &[u8], behind: &[u8]) {
     assert_same(rt, Some(found.len()), front.len().checked_add(behind.len()));
     assert_holds(rt, found.starts_with(front), front.len());

@@ -1,4 +1,4 @@
-//! Of frames. Where memory is refused a call is made again, so that the tests can be run with each allocation refused in
+//! Of frames. If memory is refused, a call is made again, so that the tests can be run with each allocation refused in
 //! turn (`rt try --test --fail-alloc N`).
 
 mod constructors;
@@ -13,7 +13,7 @@ use bac_tag::{OutOfMemory, Refusal, Why};
 use std::alloc::Global;
 use std::process::Abort;
 
-/// What `decode_marked` gives. Where memory is refused it is told at 0, and the octets are read again.
+/// Returns what `decode_marked` gives. If memory is refused, that is reported at 0, and the octets are read again.
 fn decoded(
     rt: &impl Abort,
     alloc: Global,
@@ -36,8 +36,8 @@ fn encoded(rt: &impl Abort, alloc: Global, frame: &Frame) -> Vec<u8> {
     }
 }
 
-/// Behind these octets the canonical ones of a frame are appended, at the latest when memory is asked for again; where
-/// it was refused they stand alone.
+/// Appends the canonical octets of a frame to these octets, and returns all of them. If memory is refused for that,
+/// these octets stay as they were, and memory is asked for again.
 fn appended(rt: &impl Abort, alloc: Global, front: &[u8], frame: &Frame) -> Vec<u8> {
     let mut out = match Vec::from_slice(alloc, front) {
         Ok(out) => out,

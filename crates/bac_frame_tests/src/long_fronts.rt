@@ -28,7 +28,7 @@ fn mebibyte(rt: &impl Abort, alloc: Global) -> String {
     text
 }
 
-// The APDU of F4 stands behind two octets of the frame, and its service behind three of the APDU.
+// The APDU of F4 is after two octets of the frame, and its service after three of the APDU.
 #[test]
 fn what_is_appended_stands_behind_a_mebibyte(rt: HostRuntime) {
     let alloc = rt.alloc();

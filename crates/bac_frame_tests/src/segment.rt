@@ -1,4 +1,4 @@
-//! Of segments. Where memory is refused a call is made again, so that the tests can be run with each allocation refused
+//! Of segments. If memory is refused, a call is made again, so that the tests can be run with each allocation refused
 //! in turn (`rt try --test --fail-alloc N`).
 
 mod desks;
@@ -19,7 +19,7 @@ use std::process::Abort;
 /// The service octets of F4 of docs/EXAMPLES.md.
 const SERVICE: &str = "0C 00 00 00 05 19 55 3E 44 42 90 99 9A 3F";
 
-/// The key of the segments of example 24, where sender 1 sent them.
+/// The key of the segments of example 24, if sender 1 sent them.
 const KEY: Key = Key {
     peer: 1,
     request: false,
@@ -58,7 +58,7 @@ fn segment_of(rt: &impl Abort, alloc: Global, text: &str) -> Segment {
     }
 }
 
-/// The segment with these octets, and with others behind them.
+/// Returns the segment with these octets, and with others after them.
 fn longer_segment(rt: &impl Abort, alloc: Global, text: &str, behind: &[u8]) -> Segment {
     let mut segment = segment_of(rt, alloc, text);
     segment.piece.extend_from_slice(behind).expect(rt, "memory");
@@ -81,8 +81,8 @@ fn desk(rt: &impl Abort, alloc: Global) -> Desk {
     }
 }
 
-/// The name of the answer to a segment, at the latest when memory is asked for again. Where it is refused the message
-/// is as whole as it was.
+/// The name of the answer to a segment, at the latest when memory is asked for again. If it is refused, the message is
+/// as whole as it was.
 fn take(rt: &impl Abort, reassembly: &mut Reassembly, segment: &Segment) -> &'static str {
     let was_whole = reassembly.octets().is_some();
     match reassembly.take(segment) {
@@ -130,7 +130,8 @@ fn are(octets: Option<&[u8]>, wanted: &[u8]) -> bool {
     }
 }
 
-/// The octets are there, and are these. How many are wanted is told, since there may be 65,535 of them.
+/// Stops the test unless the octets are there, and are these. A failure shows how many are wanted: there may be 65,535
+/// of them.
 fn is_joined(rt: &impl Abort, octets: Option<&[u8]>, wanted: &[u8]) {
     assert_holds(rt, are(octets, wanted), wanted.len());
 }

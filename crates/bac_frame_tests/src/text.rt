@@ -1,5 +1,5 @@
-//! Of the texts of frames. Where memory is refused a call is made again, so that the tests can be run with each allocation
-//! refused in turn (`rt try --test --fail-alloc N`).
+//! Of the texts of frames. If memory is refused, a call is made again, so that the tests can be run with each
+//! allocation refused in turn (`rt try --test --fail-alloc N`).
 
 mod sizes;
 
@@ -20,8 +20,8 @@ fn decoded(rt: &impl Abort, alloc: Global, octets: &[u8]) -> Frame {
     found.expect(rt, "a frame")
 }
 
-/// The text of the frame behind what stands in front; where memory is refused that stands alone, and the text is
-/// appended when memory is asked for again.
+/// Stops the test unless this text of the frame is appended to other text. If memory is refused, the other text stays
+/// as it was, and the text of the frame is appended when memory is asked for again.
 fn shows(rt: &impl Abort, alloc: Global, octets: &[u8], text: &str) {
     let frame = decoded(rt, alloc, octets);
     let mut out = match Vec::from_slice(alloc, b"1 ") {

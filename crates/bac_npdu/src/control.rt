@@ -65,7 +65,7 @@ impl Control {
         )
     }
 
-    /// Returns true if a network message stands behind the head, and not an APDU.
+    /// Returns true if a network message is after the head, and not an APDU.
     #[inline(always)]
     pub(crate) fn has_message(self) -> bool
         ensures { self.0 / 2 ^ 7 % 2 ≡ bit_of result }

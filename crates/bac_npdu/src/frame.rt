@@ -6,7 +6,7 @@ use crate::net_priority::NetPriority;
 use crate::source::Source;
 use bac_apdu::Apdu;
 
-/// What stands behind the head of a frame.
+/// What is after the head of a frame.
 #[derive(Debug, PartialEq, Eq, Drop)]
 pub enum Body {
     /// An APDU (clause 20.1).

@@ -36,7 +36,7 @@ pub(crate) fn mark_of(control: Control) -> Option<usize>
     if control == least { None } else { Some(1) }
 }
 
-/// Returns the mark of a head of `size` octets with a body behind it. `first` is the mark of the head alone, and
+/// Returns the mark of a head of `size` octets with a body after it. `first` is the mark of the head alone, and
 /// `second` that of the body alone. A mark is a place within the octets, so the sum does not wrap.
 #[inline(always)]
 fn joined(first: Option<usize>, size: usize, second: Option<usize>) -> Option<usize>
@@ -49,7 +49,7 @@ fn joined(first: Option<usize>, size: usize, second: Option<usize>) -> Option<us
     Some(size.wrapping_add(place))
 }
 
-/// What stands in front of a body, and the visitor that is given the body.
+/// What is before a body, and the visitor that is given the body.
 #[derive(Drop)]
 struct Behind<'a, V> {
     head: &'a FrameHead<'a>,
@@ -94,7 +94,7 @@ impl<V: FrameVisitor> ApduVisitor for Behind<'_, V> {
     }
 }
 
-/// Decodes the APDU or the network message behind a head, and gives it to the visitor.
+/// Decodes the APDU or the network message after a head, and gives it to the visitor.
 #[inline(always)]
 fn visit_behind<V: FrameVisitor>(
     alloc: Global,
@@ -261,10 +261,10 @@ fn decode_alone(alloc: Global, octets: &[u8]) -> Result<Frame, Refusal>
 /// Decodes the frame that all the octets spell.
 ///
 /// # Errors
-/// The place is that of the first octet with which no spelling of a frame goes on. The reason is one of these:
+/// The place is that of the first octet with which no spelling of a frame continues. The reason is one of these:
 ///
 /// - `Short` if all the octets begin a spelling, and in no other case: the place is their number;
-/// - `Trailing` if the octets in front of the place spell a frame, and in no other case;
+/// - `Trailing` if the octets before the place spell a frame, and in no other case;
 /// - `Version` at the first octet, if it is not 1;
 /// - `Address` at the length of a source's address, if it is 0;
 /// - `PduType` at the first octet of an APDU, if its type is above 7;

@@ -43,7 +43,7 @@ fn control_of(head: &FrameHead<'_>, body: &Body) -> Control
     )
 }
 
-/// Appends the octets in front of the body. If memory is refused, `out` may hold some of them.
+/// Appends the octets before the body. If memory is refused, `out` may hold some of them.
 fn append_head(head: &FrameHead<'_>, body: &Body, out: &mut Vec<u8>) -> Result<(), OutOfMemory>
     ensures written { OnOk result (out.new.items ≡ out.old.items ++ 1 ∷ least_of (control_said (frame_with head.now (body_value body.now))) ∷ least_head (addresses_of (frame_with head.now (body_value body.now)))) }
     ensures addressed { OnOk result (HasAddress head.now.source) }
@@ -77,8 +77,8 @@ fn append_parts(head: &FrameHead<'_>, body: &Body, out: &mut Vec<u8>) -> Result<
 }
 
 impl FrameHead<'_> {
-    /// Appends the canonical octets of the frame with this head and this body, its least spelling, behind what stands
-    /// in `out`.
+    /// Appends the canonical octets of the frame with this head and this body, its least spelling, after what is in
+    /// `out`.
     ///
     /// # Errors
     /// `OutOfMemory` if memory is refused. `out` then stays as it was.
@@ -95,7 +95,7 @@ impl FrameHead<'_> {
     }
 }
 
-/// Appends the canonical octets of a frame, its least spelling, behind what stands in `out`.
+/// Appends the canonical octets of a frame, its least spelling, after what is in `out`.
 ///
 /// # Errors
 /// `OutOfMemory` if memory is refused. `out` then stays as it was.

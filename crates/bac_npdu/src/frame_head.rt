@@ -1,4 +1,4 @@
-//! What stands in front of the body of a frame.
+//! What is before the body of a frame.
 
 ghost use Rattle.std.specs.Prelude.{◌≡◌, ◌<◌, ◌%◌, ◌⊎◌, length, Some, IfOk, IfErr};
 ghost use Rattle.bac_tag.specs.HeadOctets.{HasBit};
@@ -26,8 +26,8 @@ pub struct Addressed<'a> {
 }
 
 /// A destination with a borrowed address.
-// The hop count stands beside the network. Behind the address, seven octets of padding would be moved with it. That
-// would take two moves that overlap, and the processor would wait for both.
+// The hop count is next to the network. If it were after the address, seven octets of padding would be moved with it.
+// That would take two moves that overlap, and the processor would wait for both.
 #[derive(Clone, Copy, Debug)]
 pub struct DestRef<'a> {
     /// The network.
@@ -38,8 +38,8 @@ pub struct DestRef<'a> {
     pub address: &'a [u8],
 }
 
-/// What stands in front of the body of a frame (clause 6.2.2). Its addresses are borrowed, from a frame or from the
-/// octets that were read.
+/// What is before the body of a frame (clause 6.2.2). Its addresses are borrowed, from a frame or from the octets that
+/// were read.
 #[derive(Debug, Drop)]
 pub struct FrameHead<'a> {
     reply: bool,

@@ -1,4 +1,4 @@
-//! The octets in front of an APDU or a network message (clause 6.2).
+//! The octets before an APDU or a network message (clause 6.2).
 
 ghost use Rattle.std.specs.Prelude.{◌≡◌, ◌↔◌, ◌<◌, ◌≤◌, true, [], ◌++◌, length, slice_index, IfSome, IfNone, OnOk};
 ghost use Rattle.bac_tag.specs.HeadOctets.{least_head};
@@ -14,13 +14,13 @@ use crate::octets::{number_at, octets_of_number};
 use bac_tag::{OutOfMemory, Refusal, Why};
 use bitflags::Flags;
 
-/// What was read in front of a body.
+/// What was read before a body.
 #[derive(Clone, Copy)]
 pub(crate) struct HeadRead<'a> {
     pub(crate) control: Control,
     pub(crate) destination: Option<DestRef<'a>>,
     pub(crate) source: Option<Addressed<'a>>,
-    /// How many octets stand in front of the body.
+    /// How many octets are before the body.
     pub(crate) size: usize,
 }
 
@@ -106,7 +106,7 @@ fn read_control(octets: &[u8]) -> Result<Control, Refusal>
     Ok(Control::from_bits_retain(*control))
 }
 
-/// Reads the octets in front of the APDU or the network message.
+/// Reads the octets before the APDU or the network message.
 #[inline(always)]
 pub(crate) fn read_head(octets: &[u8]) -> Result<HeadRead<'_>, Refusal>
     ensures { IsHeadRead octets.now result }

@@ -168,7 +168,7 @@ fn held_ports_fit(ports: &Ports)
     }
 }
 
-/// What is written of an opaque message is octets. Its type has no layout, and it has a vendor where its type wants one.
+/// What is written of an opaque message is octets. Its type has no layout, and it has a vendor if its type wants one.
 #[inline(always)]
 fn held_opaque_fits(message: &OpaqueNet)
     ensures parts { AreParts (octets_of (opaque message.now)) }

@@ -19,7 +19,7 @@ pub enum NetMessage {
     },
     /// Type 3: the answer to a frame that was not passed on.
     RejectMessage {
-        /// Why it was not passed on (1 octet, in front of the network).
+        /// Why it was not passed on (1 octet, before the network).
         reason: u8,
         /// The network to which it was to go.
         network: u16,

@@ -16,7 +16,7 @@ use std::alloc::Global;
 /// Decodes the network message that all the octets spell. No other octets spell it.
 ///
 /// # Errors
-/// `Short` at the end of the octets, if they begin a message; `Trailing` behind a message; `OutOfMemory` at 0 if memory
+/// `Short` at the end of the octets, if they begin a message; `Trailing` after a message; `OutOfMemory` at 0 if memory
 /// is refused.
 pub(crate) fn decode_message(alloc: Global, octets: &[u8]) -> Result<NetMessage, Refusal>
     ensures { IsMessageDecoded octets.now result }

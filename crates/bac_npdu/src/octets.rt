@@ -1,4 +1,4 @@
-//! What the readers have in common: octets that end too early or go on too long, and numbers of two octets.
+//! What the readers have in common: octets that are too few or too many, and numbers of two octets.
 
 ghost use Rattle.std.specs.Prelude.{◌≡◌, ◌+◌, ◌*◌, ◌/◌, ◌%◌, ◌≤◌, [], ◌∷◌, length, slice_index};
 ghost use Rattle.bac_npdu.specs.Decoded.{IsSized};

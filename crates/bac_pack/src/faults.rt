@@ -22,7 +22,7 @@ pub enum PackFault {
     /// A write failed, or took none of some octets. The number is that of the octets that the writer took in the run.
     #[error("write fault after {0} octets")]
     WriteFault(u128),
-    /// An octet came behind 1,000,000 lines.
+    /// There is an octet after 1,000,000 lines.
     #[error("more than 1000000 records")]
     TooManyLines,
     /// Memory was refused for the line of this number, or for the window that a run begins with.

@@ -4,7 +4,7 @@ ghost use Rattle.std.specs.Prelude.{◌≡◌, List, ℕ};
 ghost use Rattle.std.specs.List.{AllByRecursion};
 ghost use Rattle.bac_pack.specs.Lines.{IsText, IsUnbroken, lines_of};
 
-/// A text is its lines, and no LF stands in any of them.
+/// A text is its lines, and no LF is in any of them.
 pub fn texts_are_lines()
     ensures unbroken { (text : List ℕ) → AllByRecursion IsUnbroken (lines_of text) }
     ensures text { (text : List ℕ) → IsText (lines_of text) text }

@@ -11,8 +11,8 @@ use bac_record::LONGEST;
 /// Appends the record that the digits spell. `number` is that of its line. After a fault, part of the record may have
 /// been appended.
 ///
-/// The digits are decoded to the place where their octets are to stand. The length octets come first. If there are too
-/// many digits, these two are not their length, and the caller removes them with the rest.
+/// The digits are decoded to the final place of their octets. The length octets come first. If there are too many
+/// digits, these two are not their length, and the caller removes them with the rest.
 fn push_record(number: u32, digits: &[u8], output: &mut Vec<u8>) -> Result<(), PackFault>
     ensures ok { OnOk result (Spells digits.now output.old.items output.new.items) }
     ensures fault { IfErr result (SpellsNone digits.now number) }

@@ -14,7 +14,7 @@ use std::alloc::Global;
 
 /// Makes a record of each line, to the end of the text or to a fault.
 ///
-/// It reads once, packs every line that lies whole in what it holds, hands over all their records, and only then reads
+/// It reads once, packs every line that lies whole in what it holds, writes all their records, and only then reads
 /// again: nothing known is held back while it waits for input.
 fn run_pieces<R: Input, W: Output>(
     alloc: Global,
@@ -56,7 +56,7 @@ fn run_pieces<R: Input, W: Output>(
 
 /// Makes one record of each line of a text, in order, to its end or to a fault. Returns the number of lines.
 ///
-/// A line ends with LF (0A). Octets behind the last LF are a line, if there are any. One CR (0D) at a line's end is
+/// A line ends with LF (0A). Octets after the last LF are a line, if there are any. One CR (0D) at a line's end is
 /// dropped, and then all blanks (20). The rest must be hexadecimal digits, in upper or lower case, and an even number
 /// of them. A record is two octets of length, the most significant first, and then that many octets, at most 65,535. An
 /// empty line is a record of no octets.
@@ -64,7 +64,7 @@ fn run_pieces<R: Input, W: Output>(
 /// It takes memory for 200,001 octets of input and for the records of the lines that lie in them.
 ///
 /// # Errors
-/// As [`PackFault`] says. Reading stops at what comes first: an octet behind the 1,000,000th line, the 200,001st octet
+/// As [`PackFault`] says. Reading stops at what comes first: an octet after the 1,000,000th line, the 200,001st octet
 /// of a line before its LF, or a failed read. For a whole line, `NotHex` is reported before `RecordTooLong`.
 ///
 /// # Examples

@@ -10,7 +10,7 @@ use bac_tag::OutOfMemory;
 /// The hexadecimal digits.
 const DIGITS: [u8; 16] = *b"0123456789ABCDEF";
 
-/// The two digits of each number below 100, one number behind the other.
+/// The two digits of each number below 100, one number after the other.
 const PAIRS: [u8; 200] =
     *b"00010203040506070809101112131415161718192021222324252627282930313233343536373839404142434445464748495051525354555657585960616263646566676869707172737475767778798081828384858687888990919293949596979899";
 
@@ -44,7 +44,7 @@ fn put_pair(room: &mut [u8], at: usize, first: u8, second: u8)
     room[at + 1] = second;
 }
 
-/// Writes a word at a place behind which there is room for it, and returns where it ends.
+/// Writes a word at a place with room for it, and returns where it ends.
 #[inline(always)]
 pub fn put_word<const N: usize>(room: &mut [u8], at: usize, word: &[u8; N]) -> usize
     requires { at + N ≤ length room.old }
@@ -57,7 +57,7 @@ pub fn put_word<const N: usize>(room: &mut [u8], at: usize, word: &[u8; N]) -> u
     at + N
 }
 
-/// Writes octets at a place behind which there is room for them, and returns where they end.
+/// Writes octets at a place with room for them, and returns where they end.
 #[inline(always)]
 pub fn put_octets(room: &mut [u8], at: usize, octets: &[u8]) -> usize
     requires { at + length octets.now ≤ length room.old }
@@ -103,7 +103,7 @@ fn leading_zeros(number: u64) -> usize
     usize::from(number < 10) + usize::from(number < 100) + usize::from(number < 1_000)
 }
 
-/// Returns four octets without the first `count` of them, and with zeros behind the others. `count` must be at most 3.
+/// Returns four octets without the first `count` of them, and with zeros after the others. `count` must be at most 3.
 #[inline(always)]
 fn without_first(a: u8, b: u8, c: u8, d: u8, count: usize) -> [u8; 4]
     requires { count ≤ 3 }
@@ -185,8 +185,8 @@ fn put_digits(room: &mut [u8], at: usize, number: u64) -> usize
     behind + 8
 }
 
-/// Writes the decimal digits of a number, without leading zeros, at a place behind which there is room for twenty.
-/// Returns where they end. A number below 2^32 has at most ten.
+/// Writes the decimal digits of a number, without leading zeros, at a place with room for twenty. Returns where they
+/// end. A number below 2^32 has at most ten.
 #[inline(always)]
 pub fn put_decimal(room: &mut [u8], at: usize, number: u64) -> usize
     requires { at + 20 ≤ length room.old }
@@ -202,8 +202,8 @@ pub fn put_decimal(room: &mut [u8], at: usize, number: u64) -> usize
     put_digits(room, at, number)
 }
 
-/// Writes a minus if the number is negative, and its decimal digits, without leading zeros, at a place behind which
-/// there is room for twenty-one octets. Returns where they end.
+/// Writes a minus if the number is negative, and its decimal digits, without leading zeros, at a place with room for
+/// twenty-one octets. Returns where they end.
 pub fn put_signed_decimal(room: &mut [u8], at: usize, number: i64) -> usize
     requires { at + 21 ≤ length room.old }
     ensures digits { take result room.new ≡ take at room.old ++ signed_decimal number }
@@ -227,8 +227,7 @@ fn digits_of(octet: u8) -> [u8; 2]
     ]
 }
 
-/// Writes two hexadecimal digits for each octet, in upper case, at a place behind which there is room for them. Returns
-/// where they end.
+/// Writes two hexadecimal digits for each octet, in upper case, at a place with room for them. Returns where they end.
 #[inline(always)]
 pub fn put_hexadecimal(room: &mut [u8], at: usize, octets: &[u8]) -> usize
     requires room { at + 2 * length octets.now ≤ length room.old }
@@ -260,7 +259,7 @@ pub fn add_room<const ROOM: usize>(out: &mut Vec<u8>) -> Result<usize, OutOfMemo
 /// By how many octets a vector is made longer at once, so that this is seldom needed.
 const STEP: usize = 256;
 
-/// Makes the vector longer, so that there are at least `room` octets behind the place.
+/// Makes the vector longer, so that there are at least `room` octets from the place on.
 #[inline(never)]
 fn lengthen(out: &mut Vec<u8>, at: usize, room: usize) -> Result<(), OutOfMemory>
     requires { at ≤ length out.old.items }
@@ -273,12 +272,12 @@ fn lengthen(out: &mut Vec<u8>, at: usize, room: usize) -> Result<(), OutOfMemory
     Ok(())
 }
 
-/// Makes the vector longer if it has fewer than `room` octets behind the place `at`. The place must be at most the
+/// Makes the vector longer if it has fewer than `room` octets from the place `at` on. The place must be at most the
 /// length of the vector. A text of many parts asks for room part by part, and the vector is made longer only now and
-/// then. The octets behind the place have no meaning: `truncate` cuts them off where the text ends.
+/// then. The octets from the place on have no meaning: `truncate` cuts them off where the text ends.
 ///
 /// # Errors
-/// `OutOfMemory` if memory is refused. `out` then still has what it had in front of the place.
+/// `OutOfMemory` if memory is refused. `out` then still has what it had before the place.
 #[inline(always)]
 pub fn make_room(out: &mut Vec<u8>, at: usize, room: usize) -> Result<(), OutOfMemory>
     requires { at ≤ length out.old.items }

@@ -18,7 +18,7 @@ pub enum StreamFault {
     /// A write failed, or took none of some octets. The number is that of the octets that were taken before.
     #[error("write fault after {0} octets")]
     WriteFault(u128),
-    /// More octets came after 1,000,000 records. Only runs report it.
+    /// There are more octets after 1,000,000 records. Only runs report it.
     #[error("more than 1000000 records")]
     TooManyFrames,
     /// Memory was refused.
@@ -28,7 +28,7 @@ pub enum StreamFault {
 
 /// Why a run stopped. `at` is the number of the record at fault, counted from 1: one more than the number of records
 /// that were dealt with whole. Their output was written, and nothing more. After `WriteFault(k)`, exactly the first `k`
-/// octets of their output, with that of the record at fault behind it, were written.
+/// octets of their output, followed by that of the record at fault, were written.
 #[derive(Clone, Copy, Debug, PartialEq, Eq, Error)]
 pub enum RunFault {
     /// The stream goes no further.

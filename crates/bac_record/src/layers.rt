@@ -1,5 +1,5 @@
 //! For the layers above, and for programs that write runs or texts themselves: words, numbers and octets written at a
-//! place, the record at the front of some octets, the octets that a run holds, and writes that go on until all is
+//! place, the record at the front of some octets, the octets that a run holds, and writes that continue until all is
 //! written. A program that handles whole files needs none of it.
 
 pub use crate::digits::{

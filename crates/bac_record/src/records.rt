@@ -69,7 +69,7 @@ fn next_record<R: Input>(alloc: Global, reader: &mut R) -> Result<Option<Vec<u8>
     Ok(Some(read_octets(alloc, reader, length)?))
 }
 
-/// Reads the next record, and no octet behind it. Returns its octets, or None if the reader is at its end.
+/// Reads the next record, and no octet after it. Returns its octets, or None if the reader is at its end.
 ///
 /// Octets: two of length, the most significant first, then as many as these two say, at most 65,535.
 ///

@@ -20,7 +20,7 @@ pub const MOST: u32 = 1_000_000;
 
 /// Deals with each record to the end of the file, or to a fault.
 ///
-/// It reads once, deals with every record that lies whole in what it holds, hands over all their output, and only then
+/// It reads once, deals with every record that lies whole in what it holds, writes all their output, and only then
 /// reads again: nothing known is held back while it waits for input.
 fn run_pieces<J: Job, R: Input, W: Output>(
     alloc: Global,

@@ -1,4 +1,4 @@
-//! Reads and writes that go on until all is done.
+//! Reads and writes that continue until all is done.
 
 ghost use Rattle.std.specs.Prelude.{◌<◌, ◌≡◌, ◌≤◌, List, MatchResult, IfErr, IfOk, OnErr, OnOk, length, take, ℕ};
 ghost use Rattle.std.specs.Io.KnownBytes.{Appends, Consumes, IsAtEnd};

@@ -44,8 +44,8 @@ impl<const SIZE: usize> Window<SIZE> {
         &self.buffer[..self.held]
     }
 
-    /// Reads once, and holds what was read behind the octets that it held before. There must be room for at least one
-    /// octet. Returns how many octets were read: 0 only at the reader's end.
+    /// Reads once, and appends what was read to the octets that it holds. There must be room for at least one octet.
+    /// Returns how many octets were read: 0 only at the reader's end.
     ///
     /// # Errors
     /// `Failed` if the read failed. What is held is as before.

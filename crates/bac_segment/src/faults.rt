@@ -23,7 +23,7 @@ pub enum TakeFault {
     OtherKey = 1,
     /// It contradicts what is held: another piece has its number, or it is the last one and a greater number is held.
     Conflict,
-    /// It stands behind the last one, or is number 255 and says that others follow.
+    /// It is after the last one, or is number 255 and says that others follow.
     PastEnd,
     /// The octets held and its own are more than 65,535 together.
     TooLarge,

@@ -95,7 +95,7 @@ fn append(octets: &mut Vec<u8>, piece: &[u8]) -> Result<(), OutOfMemory>
     Ok(())
 }
 
-/// Inserts a piece in front of the octets from `start` on. If memory is refused, they stay as they are.
+/// Inserts a piece before the octets from `start` on. If memory is refused, they stay as they are.
 #[inline(never)]
 fn insert(octets: &mut Vec<u8>, start: usize, piece: &[u8]) -> Result<(), OutOfMemory>
     requires { start ≤ length octets.old.items }
@@ -174,7 +174,7 @@ impl Held {
         !more && number + 1 < self.end
     }
 
-    /// Returns true if a segment stands behind the last one, or says that others follow although none can.
+    /// Returns true if a segment is after the last one, or says that others follow although none can.
     #[inline(always)]
     fn is_past_end(&self, number: usize, more: bool) -> bool
         ensures { result ≡ ((self.now.ended && nat_le self.now.end number) || (more && number == 255)) }
@@ -182,7 +182,7 @@ impl Held {
         (self.ended && self.end <= number) || (more && number == 255)
     }
 
-    /// Returns how many octets stand in front of those of a number.
+    /// Returns how many octets are before those of a number.
     #[inline(always)]
     fn start(&self, number: usize) -> usize
         requires held { IsHeld self.now }
@@ -264,7 +264,7 @@ impl Held {
         self.ended |= !span.more;
     }
 
-    /// Keeps a segment that is new and fits, with `start` octets in front of its own. After a fault all is as it was.
+    /// Keeps a segment that is new and fits, with `start` octets before its own. After a fault all is as it was.
     ///
     /// # Errors
     /// `OutOfMemory` if memory is refused.

@@ -34,7 +34,7 @@ pub fn what_counts_is_held()
     ensures { (key : Key) (calls : List (Delivery × Answer)) (r : Reassembled) → Delivers (opened key) calls r → (r.key ≡ key) × (r.table ≡ held (counted calls)) }
 {}
 
-/// Deliveries behind others lead on from where those led.
+/// Deliveries after others continue from where those ended.
 pub fn deliveries_go_on()
     ensures { (old mid new : Reassembled) (calls more : List (Delivery × Answer)) → Delivers old calls mid → Delivers mid more new → Delivers old (calls ++ more) new }
 {}
@@ -73,7 +73,7 @@ pub fn keys_are_apart()
     ensures { (calls : List DeskCall) (desk : List Reassembled) (key : Key) → DeskRuns [] calls desk → held_of desk key ≡ held (part key calls) }
 {}
 
-/// Calls of a desk behind others lead on from where those led.
+/// Calls of a desk after others continue from where those ended.
 pub fn desk_calls_go_on()
     ensures { (old mid new : List Reassembled) (calls more : List DeskCall) → DeskRuns old calls mid → DeskRuns mid more new → DeskRuns old (calls ++ more) new }
 {}

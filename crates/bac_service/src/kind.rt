@@ -6,7 +6,7 @@ ghost use Rattle.std.specs.Option.{is_some};
 ghost use Rattle.bac_service.specs.declared.kind.Kind.TheVariants.{Error};
 ghost use Rattle.bac_service.specs.ServiceTable.{service_error, rows, production_of};
 
-/// The kinds of APDU that carry a service (clause 20.1). They are ordered as they stand here.
+/// The kinds of APDU that carry a service (clause 20.1). They are ordered as they are listed here.
 #[derive(Clone, Copy, Debug, PartialEq, Eq, PartialOrd, Ord, Hash)]
 pub enum Kind {
     /// A request that wants an answer (clause 20.1.2).

@@ -131,7 +131,7 @@ pub fn results_are_viable_in_a_case()
 {}
 
 /// A list begins a class and a code (clause 21) exactly where it begins a class, or is a class with the beginning of a
-/// code behind it.
+/// code after it.
 pub fn causes_are_viable_in_turn()
     ensures { (b : List ℕ) → IsViable SpellsErrorCause b ↔ (IsViable ApplicationEnumerated b ⊎ IsPartway ApplicationEnumerated (λ _. ApplicationEnumerated) b) }
 {
@@ -144,7 +144,7 @@ pub(crate) fn choices_are_viable_in_a_case<A: Production, B: Production>()
 {}
 
 /// A list begins a spelling of two parts joined exactly where it begins a spelling of the first, or is a spelling of
-/// the first with the beginning of a spelling of the second behind it.
+/// the first with the beginning of a spelling of the second after it.
 pub(crate) fn joined_parts_are_viable_in_turn<A: Production, B: Production>()
     requires { IsTrue B.is_sound }
     ensures { (b : List ℕ) → IsViable (Joined A.spells B.spells) b ↔ (IsViable A.spells b ⊎ IsPartway A.spells (λ _. B.spells) b) }

@@ -49,7 +49,7 @@ pub(crate) struct Spelling<T> {
     pub(crate) value: T,
     /// How many octets it takes.
     pub(crate) taken: usize,
-    /// How many of them stand in front of the first one that differs from the canonical ones. It is all of them if none
+    /// How many of them are before the first one that differs from the canonical ones. It is all of them if none
     /// differs. It says nothing if the mark was not wanted.
     pub(crate) same: usize,
 }
@@ -96,7 +96,7 @@ impl Spelling<()> {
     }
 }
 
-/// Returns how many of `taken` octets stand in front of their mark: all of them if there is none.
+/// Returns how many of `taken` octets are before their mark: all of them if there is none.
 #[inline(always)]
 pub(crate) fn same_octets(taken: usize, mark: Option<usize>) -> usize
     ensures all { IfNone mark (result ≡ taken) }
@@ -108,8 +108,8 @@ pub(crate) fn same_octets(taken: usize, mark: Option<usize>) -> usize
     }
 }
 
-/// Returns how many octets of two parts, one behind the other, stand in front of the mark of the whole. `first` and
-/// `second` are the same numbers for each part alone, and the first part has `taken` octets.
+/// Returns how many octets of two parts, one after the other, are before the mark of the whole. `first` and `second`
+/// are the same numbers for each part alone, and the first part has `taken` octets.
 #[inline(always)]
 pub(crate) fn joined_same(first: usize, taken: usize, second: usize) -> usize
     requires { taken + second < 2 ^ 64 }
@@ -120,8 +120,8 @@ pub(crate) fn joined_same(first: usize, taken: usize, second: usize) -> usize
     if first < taken { first } else { taken + second }
 }
 
-/// Returns true if the mark of the part behind `taken` octets is wanted. It is if the mark of the whole is wanted and
-/// all the octets in front of the part are canonical.
+/// Returns true if the mark of the part after `taken` octets is wanted. It is if the mark of the whole is wanted and
+/// all the octets before the part are canonical.
 #[inline(always)]
 pub(crate) fn is_wanted_behind(wanted: bool, same: usize, taken: usize) -> bool
     ensures { IsTrue result ↔ (IsTrue wanted × (same ≡ taken)) }
@@ -138,7 +138,7 @@ pub(crate) struct Front<T> {
     pub(crate) taken: usize,
     /// The place of the first of them that differs from the canonical ones, or None.
     pub(crate) mark: Option<usize>,
-    /// The place of the first octet with which no spelling goes on, and why.
+    /// The place of the first octet with which no spelling continues, and why.
     pub(crate) reach: Refusal,
 }
 
@@ -194,7 +194,7 @@ impl Front<()> {
     }
 }
 
-/// Returns the reach of octets whose first `taken` octets are a whole spelling that cannot go on. The octets behind
+/// Returns the reach of octets whose first `taken` octets are a whole spelling that cannot continue. The octets after
 /// them, if there are any, are trailing.
 pub(crate) fn complete_at(octets: &[u8], taken: usize) -> Refusal
     ensures place { result.place ≡ taken }
@@ -223,13 +223,13 @@ pub(crate) trait Production: Drop {
     /// What a spelling begins with.
     ghost openers: { List Lead };
 
-    /// With what a longer spelling goes on where a shorter one ends.
+    /// What a longer spelling continues with at the place where a shorter one ends.
     ghost continuers: { List Lead };
 
     /// Whether some value is spelled by no octets.
     ghost may_be_empty: { Bool };
 
-    /// Whether the next head says what stands next.
+    /// Whether the next head says what comes next.
     ghost is_sound: { Bool };
 
     /// Whether reading may need memory.

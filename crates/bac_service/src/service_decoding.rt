@@ -140,10 +140,10 @@ pub fn decode_service_marked(
 /// If the kind and the choice have no production, the service is [`Service::Opaque`], with any octets.
 ///
 /// # Errors
-/// The place is that of the first octet with which no spelling of such a service goes on. The reason is one of these:
+/// The place is that of the first octet with which no spelling of such a service continues. The reason is one of these:
 ///
 /// - `Short` if all the octets begin a spelling, and in no other case: the place is their number;
-/// - `Trailing` if the octets in front of the place spell such a service, and in no other case;
+/// - `Trailing` if the octets before the place spell such a service, and in no other case;
 /// - `Tag`, `Length`, `Content` or `Depth`;
 /// - `OutOfMemory` if memory is refused: the place is 0. It is never returned for ReadProperty, SubscribeCOV, I-Am,
 ///   Who-Is and the errors of choice 1, 5, 12, 14, 15 and 16.

@@ -39,8 +39,8 @@ fn append_production(service: &Service, out: &mut Vec<u8>) -> Result<(), OutOfMe
     }
 }
 
-/// Appends the canonical octets of a service, the least that spell it, to what stands in `out`. Its type lists them
-/// in their order (clause 21).
+/// Appends the canonical octets of a service, the least that spell it, to what is in `out`. Its type lists them in
+/// their order (clause 21).
 ///
 /// # Errors
 /// `OutOfMemory` if memory is refused. `out` then stays as it was.

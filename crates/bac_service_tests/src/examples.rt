@@ -9,7 +9,7 @@ use std::test::Fail;
 // Of README.md.
 #[test]
 fn a_request_is_decoded_and_encoded(rt: HostRuntime) -> Result<(), Fail> {
-    // Present value (85) of analog input 5, as it stands behind the header of the APDU.
+    // Present value (85) of analog input 5, as it is after the header of the APDU.
     let octets = [0x0C, 0x00, 0x00, 0x00, 0x05, 0x19, 0x55];
     let service = decode_service(rt.alloc(), Kind::Confirmed, 12, &octets)?;
     let Service::ReadProperty(request) = &service else {

@@ -1,5 +1,5 @@
-//! Of services. Where memory is refused a call is made again, so that the tests can be run with each allocation
-//! refused in turn (`rt try --test --fail-alloc N`).
+//! Of services. If memory is refused, a call is made again, so that the tests can be run with each allocation refused
+//! in turn (`rt try --test --fail-alloc N`).
 
 mod appending;
 mod layers;
@@ -16,7 +16,8 @@ use bac_value::ObjectId;
 use std::alloc::Global;
 use std::process::Abort;
 
-/// What `decode_service_marked` gives. Where memory is refused it is told at 0, and the octets are read again.
+/// Returns what `decode_service_marked` gives. If memory is refused, that is reported at 0, and the octets are read
+/// again.
 fn decoded(
     rt: &impl Abort,
     alloc: Global,

@@ -12,7 +12,7 @@ pub enum FeedFault {
     /// A record has more than 65,535 octets. Its two length octets cannot say so, and no call returns it.
     #[error("too long")]
     RecordTooLong,
-    /// More octets came after 1,000,000 records.
+    /// There are more octets after 1,000,000 records.
     #[error("more than 1000000 records")]
     TooManyFrames,
     /// Memory was refused.

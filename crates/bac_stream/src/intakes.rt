@@ -15,7 +15,7 @@ use std::alloc::Global;
 use std::marker::Model;
 
 /// A stream of records that comes in pieces, cut anywhere. It counts the records that were whole so far, and keeps the
-/// octets behind them.
+/// octets after them.
 #[derive(Drop)]
 pub struct Intake {
     alloc: Global,
@@ -41,8 +41,8 @@ impl Model for Intake {
         × (intake.records ≡ MOST → intake.rest.items ≡ []) };
 }
 
-/// Moves octets from the front of the piece behind those held, until `size` octets are held or the piece ends. Returns
-/// what is left of the piece.
+/// Moves octets from the front of the piece to the end of those held, until `size` octets are held or the piece ends.
+/// Returns what is left of the piece.
 fn fill<'a>(held: &mut Vec<u8>, size: usize, piece: &'a [u8]) -> &'a [u8]
     requires { size ≤ vec_capacity held.old }
     ensures octets { held.old.items ++ piece.now ≡ held.new.items ++ result.now }
@@ -80,10 +80,10 @@ fn complete<'a>(held: &mut Vec<u8>, piece: &'a [u8]) -> Option<&'a [u8]>
     Some(behind)
 }
 
-/// Appends an item for each whole record in the octets held and the piece behind them, before which `before` records
-/// stand. A record that is held in part is completed where it is held, and every other one is read from the piece.
-/// Returns the number of records including these, and the octets behind them. Returns `None` if all of the piece is
-/// held, since it ends within the record that was held in part.
+/// Appends an item for each whole record in the octets held and the piece after them. `before` is the number of records
+/// before these. A record that is held in part is completed where it is held, and every other one is read from the
+/// piece. Returns the number of records including these, and the octets after them. Returns `None` if all of the piece
+/// is held, since it ends within the record that was held in part.
 ///
 /// # Errors
 /// `TooManyFrames` and `OutOfMemory`. Some octets of the piece may then be held, and `out` may hold some of the items.
@@ -139,7 +139,7 @@ impl Intake {
     }
 
     /// Takes in a piece of the stream, and appends an item for each record that the piece completes, in order: its
-    /// frame, or why it is refused. The octets behind these records are kept. A piece that completes no record takes no
+    /// frame, or why it is refused. The octets after these records are kept. A piece that completes no record takes no
     /// memory.
     ///
     /// # Errors

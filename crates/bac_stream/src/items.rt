@@ -14,7 +14,7 @@ use bac_record::layers::front_record;
 use bac_tag::{OutOfMemory, Refusal, Why};
 use std::alloc::Global;
 
-/// Appends the item of a frame where it was decoded: a frame that is handed on would be copied at each step.
+/// Appends the item of a frame where it was decoded: a frame that is passed on would be copied at each step.
 #[derive(Drop)]
 struct PushItem {
     alloc: Global,
@@ -75,8 +75,8 @@ pub(crate) fn push_item(
     }
 }
 
-/// Appends the item of the record at the front, before which `before` records stand. Returns the octets behind it, or
-/// `None` if no whole record is at the front.
+/// Appends the item of the record at the front. `before` is the number of records before it. Returns the octets after
+/// it, or `None` if no whole record is at the front.
 ///
 /// # Errors
 /// `TooManyFrames` and `OutOfMemory`. `out` then stays as it was.
@@ -109,8 +109,8 @@ fn next_item<'a>(
     Ok(Some(&octets[2 + first.len()..]))
 }
 
-/// Appends an item for each whole record at the front of the octets, before which `before` records stand. Returns the
-/// number of records including these, and the octets behind them.
+/// Appends an item for each whole record at the front of the octets. `before` is the number of records before these.
+/// Returns the number of records including these, and the octets after them.
 ///
 /// # Errors
 /// `TooManyFrames` and `OutOfMemory`. `out` may then hold some of the items.

@@ -81,7 +81,7 @@ pub fn feeds_give_records()
         × (intake.mode ≡ mode) × (intake.records ≡ length list) × (end_of intake.records intake.rest ≢ TooMany) }
 {}
 
-/// Feeds behind others lead on from where those led.
+/// Feeds after others continue from where those ended.
 pub fn feeds_go_on()
     ensures { (old mid new : IntakeValue) (feeds more : List Feed) → Feeds old feeds mid → Feeds mid more new → Feeds old (feeds ++ more) new }
 {}

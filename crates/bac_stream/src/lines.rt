@@ -13,7 +13,7 @@ use bac_record::layers::{add_room, make_room, put_decimal, put_octets, put_word}
 use bac_tag::{OutOfMemory, Refusal};
 use bac_text::layers::write_text_of;
 
-/// What a line says of a record, behind its number.
+/// What a line says of a record, after its number.
 #[derive(Clone, Copy, Debug)]
 pub(crate) enum Line<'a> {
     /// `ok`: the record is canonical.
@@ -37,7 +37,7 @@ fn put_number(room: &mut [u8], at: usize, number: u32) -> usize
     put_word(room, end, b" ")
 }
 
-/// Writes the line of a canonical record behind what stands in `out`: `ok` behind its number. Returns where it ends.
+/// Writes the line of a canonical record after what is in `out`: its number and `ok`. Returns where the line ends.
 #[inline(always)]
 fn write_ok(number: u32, out: &mut Vec<u8>) -> Result<usize, OutOfMemory>
     ensures text { IfOk result (λ end. take end out.new.items ≡ out.old.items ++ numbered number (said_text ok)) }
@@ -49,7 +49,8 @@ fn write_ok(number: u32, out: &mut Vec<u8>) -> Result<usize, OutOfMemory>
     Ok(put_word(room, end, b"ok\n"))
 }
 
-/// Writes `tolerated at P` behind the number of the record. Returns where the line ends.
+/// Writes the line of a tolerated record after what is in `out`: its number and `tolerated at P`. Returns where the
+/// line ends.
 #[inline(always)]
 fn write_tolerated(number: u32, place: usize, out: &mut Vec<u8>) -> Result<usize, OutOfMemory>
     ensures text { IfOk result (λ end. take end out.new.items ≡ out.old.items ++ numbered number (said_text (tolerated place))) }
@@ -63,7 +64,8 @@ fn write_tolerated(number: u32, place: usize, out: &mut Vec<u8>) -> Result<usize
     Ok(put_word(room, end, b"\n"))
 }
 
-/// Writes `refused WHY at P` behind the number of the record. Returns where the line ends.
+/// Writes the line of a refused record after what is in `out`: its number and `refused WHY at P`. Returns where the
+/// line ends.
 fn write_refused(number: u32, refusal: Refusal, out: &mut Vec<u8>) -> Result<usize, OutOfMemory>
     ensures text { IfOk result (λ end. take end out.new.items ≡ out.old.items ++ numbered number (said_text (refused refusal))) }
     ensures err { OnErr result (Extends out.old.items out.new.items) }
@@ -80,8 +82,8 @@ fn write_refused(number: u32, refusal: Refusal, out: &mut Vec<u8>) -> Result<usi
     Ok(put_word(room, end, b"\n"))
 }
 
-/// Writes the text of the frame with this head and this body behind the number of the record. Returns where the line
-/// ends.
+/// Writes the line of a shown record after what is in `out`: its number and the text of the frame with this head and
+/// this body. Returns where the line ends.
 #[inline(always)]
 fn write_shown(
     number: u32,
@@ -112,7 +114,7 @@ impl Line<'_> {
         }
     }
 
-    /// Writes the line of the record with this number behind what stands in `out`. Returns where it ends. If memory is
+    /// Writes the line of the record with this number after what is in `out`. Returns where it ends. If memory is
     /// refused, `out` may hold some of it.
     #[inline(always)]
     fn write(&self, number: u32, out: &mut Vec<u8>) -> Result<usize, OutOfMemory>

@@ -65,8 +65,8 @@ fn push_octets(octets: &[u8], out: &mut Vec<u8>) -> Result<(), OutOfMemory>
 
 /// Appends the canonical octets of a frame as a record. If memory is refused, `out` may hold some of it.
 ///
-/// They are written where they are to stand, and their length in front of them when it is known. They are no longer
-/// than the octets of the record that was read, so their length fits.
+/// They are written at their final place, and their length before them when it is known. They are no longer than the
+/// octets of the record that was read, so their length fits.
 fn append_record(head: &FrameHead<'_>, body: &Body, out: &mut Vec<u8>) -> Result<(), OutOfMemory>
     ensures ok { OnOk result (((canonical : List ℕ) → IsCanonicalFor (frame_with head.now (body_value body.now)) canonical → IsRecord canonical) → AppendsRecord (frame_with head.now (body_value body.now)) out.old.items out.new.items) }
     ensures err { OnErr result (Extends out.old.items out.new.items) }

@@ -9,7 +9,7 @@ pub fn assert_same<T: PartialEq + Debug + Drop>(rt: &impl Abort, found: T, wante
     assert_eq!(rt; found, wanted);
 }
 
-/// The same, and tells of which case it was.
+/// Stops the test unless what it found is what it wanted. A failure shows the case.
 pub fn assert_same_of<T: PartialEq + Debug + Drop, C: Debug + Drop>(
     rt: &impl Abort,
     found: T,

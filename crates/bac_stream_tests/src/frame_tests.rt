@@ -1,4 +1,4 @@
-//! What the runs write of records of many octets, and where memory is refused.
+//! What the runs write of records of many octets, and if memory is refused.
 
 ghost use Rattle.std.specs.Prelude.{◌<◌, ◌≤◌};
 
@@ -104,7 +104,7 @@ fn tolerates(rt: &impl Abort, alloc: Global, run: Run, octets: &[u8], output: &[
     assert_holds(rt, written.as_slice() == output, (run, octets.len()));
 }
 
-// A reserved bit stands in front of opaque octets of a service.
+// A reserved bit is set before opaque octets of a service.
 #[test]
 fn long_records_are_tolerated(rt: HostRuntime) {
     let alloc = rt.alloc();
@@ -122,14 +122,14 @@ fn long_records_are_tolerated(rt: HostRuntime) {
 /// How many octets the writer of the next test has room for.
 const ROOM: usize = 1_024;
 
-/// What stands in front of the line of a record, where the lines begin at these places.
+/// Returns what is before the line of a record, if the lines begin at these places.
 fn lines_in_front<'a>(lines: &'a [u8], ends: &[usize], record: u32) -> Option<&'a [u8]> {
     let end = ends.get((record as usize).saturating_sub(1))?;
     lines.get(..*end)
 }
 
-// A line that memory is refused for leaves what was there: the lines in front of it are written whole. The writer wants
-// no memory.
+// A line that memory is refused for leaves what was there: the lines before it are written whole. The writer wants no
+// memory.
 #[test]
 fn refused_memory_leaves_whole_lines(rt: HostRuntime) {
     let alloc = rt.alloc();

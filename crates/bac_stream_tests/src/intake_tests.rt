@@ -1,4 +1,4 @@
-//! What an intake gives where memory is refused, or records are too many.
+//! What an intake gives if memory is refused, or if there are too many records.
 
 use crate::expectations::{assert_same, assert_same_of, assert_shown};
 use bac_npdu::Frame;
@@ -42,7 +42,7 @@ struct Taken {
 }
 
 impl Taken {
-    /// What is given where nothing was fed.
+    /// Returns what is given if nothing was fed.
     fn nothing(rt: &impl Abort, alloc: Global, mode: Mode) -> Self {
         let intake = Intake::new(alloc, mode).expect(rt, "memory");
         let items = Vec::new(alloc);
@@ -56,7 +56,7 @@ impl Taken {
             .expect(rt, "the piece");
     }
 
-    /// All of it tells this.
+    /// Stops the test unless the text of the items and of what `finish` answers is this.
     fn tells(&self, rt: &impl Abort, alloc: Global, want: &str, case: usize) {
         let text = told(alloc, &self.items, self.intake.finish()).expect(rt, "memory");
         assert_same_of(rt, text.as_str(), want, case);
@@ -80,8 +80,7 @@ fn answers(
     assert_same_of(rt, taken.items.len(), count, piece);
 }
 
-// Octets behind the most records are a fault, and change nothing: the records in front of them in the piece are not
-// taken in.
+// Octets after the most records are a fault, and change nothing: the records before them in the piece are not taken in.
 #[test]
 fn records_end_at_the_most(rt: HostRuntime) {
     let mut taken = Taken::nothing(&rt, rt.alloc(), Mode::Tolerant);
@@ -101,7 +100,7 @@ fn records_end_at_the_most(rt: HostRuntime) {
     assert_same(&rt, taken.intake.finish(), Ok(1_000_000));
 }
 
-/// Feeds the piece, where memory is refused for it a second time: nothing has changed then.
+/// Feeds the piece. If memory is refused, nothing has changed, and it is fed a second time.
 fn feed_again(rt: &impl Abort, taken: &mut Taken, piece: &[u8]) {
     let before = (taken.items.len(), taken.intake.finish());
     let answer = taken.intake.feed(piece, &mut taken.items);
@@ -126,7 +125,7 @@ fn refused_memory_changes_nothing(rt: HostRuntime) {
     taken.tells(&rt, alloc, "ok, ok, Short at 0, ok, 4", 20);
 }
 
-// As they stand in their enum, from 1 on.
+// As they are listed in their enum, from 1 on.
 #[test]
 fn faults_of_an_intake_have_numbers_and_texts(rt: HostRuntime) {
     let alloc = rt.alloc();

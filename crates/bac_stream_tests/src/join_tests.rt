@@ -20,7 +20,7 @@ const SEGMENTS: [&str; 3] = [
 /// The octets of the service that they are cut from: the answer of example 4.
 const SERVICE: &str = "0C 00 00 00 05 19 55 3E 44 42 90 99 9A 3F";
 
-/// Their key, where peer 1 sends them.
+/// Their key, if peer 1 sends them.
 const KEY: Key = Key {
     peer: 1,
     request: false,
@@ -37,7 +37,7 @@ fn frame_of(rt: &impl Abort, alloc: Global, text: &str) -> Frame {
     decode_frame(alloc, &octets).expect(rt, "a frame")
 }
 
-/// What is told of a message, which has these octets.
+/// Returns what is reported of a message, which has these octets.
 fn message_of(alloc: Global, octets: &[u8]) -> Result<String, AllocError> {
     format!(in alloc; "message {octets:?}")
 }
@@ -198,8 +198,8 @@ fn long_messages_are_joined(rt: HostRuntime) {
     is_joined(&rt, alloc, 12, &answer);
 }
 
-/// Joins the frame, where memory is refused for it a second time: the desk has not changed then. Tells whether the
-/// message is whole.
+/// Joins the frame. If the desk is refused memory, it has no whole message, and the frame is joined a second time.
+/// Returns true if the message is whole.
 fn is_whole_with(rt: &impl Abort, alloc: Global, desk: &mut Desk, frame: &Frame) -> bool {
     let mut answer = join(alloc, desk, KEY.peer, frame);
     if let Err(JoinFault::Take(fault)) = &answer {

@@ -66,7 +66,7 @@ fn texts_are_packed_in_pieces_of_any_size(rt: HostRuntime) {
     packs(&rt, alloc, b"12\n\n34", Ok(3), "00 01 12 00 00 00 01 34");
 }
 
-/// The same, where this line has an octet that is no digit, or half an octet.
+/// The same, if this line has an octet that is no digit, or half an octet.
 fn stops(rt: &impl Abort, alloc: Global, text: &[u8], line: u32, records: &str) {
     packs(rt, alloc, text, Err(PackFault::NotHex(line)), records);
 }
@@ -96,8 +96,8 @@ const ROOM: usize = 64;
 /// How many octets the record of example 1 has.
 const RECORD: usize = 15;
 
-/// The run over the text answers this and writes these records of example 1, or it tells the line that memory was refused
-/// for and writes the records of those in front of it. The writer wants no memory.
+/// Stops the test unless the run over the text answers this and writes these records of example 1. If memory is refused
+/// for a line, the run must report that line and write the records of the lines before it. The writer wants no memory.
 fn packs_or_wants_memory(
     rt: &impl Abort,
     alloc: Global,
@@ -121,7 +121,7 @@ fn packs_or_wants_memory(
     assert_same_of(rt, taken.get(..count), records.get(..end), text);
 }
 
-// Example 31, with each allocation refused in turn: its lines alone, and behind two others.
+// Example 31, with each allocation refused in turn: its lines alone, and after two others.
 #[test]
 fn refused_memory_leaves_whole_records(rt: HostRuntime) {
     let alloc = rt.alloc();
@@ -164,7 +164,8 @@ fn digits(rt: &impl Abort, alloc: Global, count: usize, last: u8) -> Vec<u8>
     enclosed(alloc, b"01001009", &behind, &[], &[]).expect(rt, "memory")
 }
 
-/// The longest record is written in pieces of this size, and a longer one is told, where this octet stands behind it.
+/// Stops the test unless the run over a text in pieces of this size writes the longest record, and reports a longer
+/// one. This octet is after the digits.
 fn tells_long_records(rt: &impl Abort, alloc: Global, size: usize, last: u8) {
     let octets = vec![in alloc; 0xAA; 65_531].expect(rt, "memory");
     let front = [0xFF, 0xFF, 0x01, 0x00, 0x10, 0x09];
@@ -192,7 +193,8 @@ fn a_record_has_at_most_65_535_octets(rt: HostRuntime) {
     }
 }
 
-/// Where so many blanks stand in a line between two others, the run answers this and writes these records.
+/// Stops the test unless the run answers this and writes these records, if a line between two others has so many
+/// blanks.
 fn tells_of_blanks(
     rt: &impl Abort,
     alloc: Global,
@@ -236,7 +238,7 @@ fn a_line_has_at_most_200_000_octets(rt: HostRuntime) {
     }
 }
 
-/// So many empty lines with an octet behind them are answered so, and so many octets are written.
+/// Stops the test unless so many empty lines with an octet after them are answered so, and so many octets are written.
 fn tells_of_lines(
     rt: &impl Abort,
     alloc: Global,
@@ -275,7 +277,8 @@ fn a_failed_read_tells_the_next_line(rt: HostRuntime) {
     }
 }
 
-/// Where the writer takes so many octets a call, and has room for so many, those are written, and the fault tells it.
+/// Stops the test unless a writer that takes so many octets a call, and has room for so many, has taken these, and the
+/// fault reports how many they are.
 fn fills(rt: &impl Abort, alloc: Global, size: usize, takes: usize, room: usize) {
     let text = b"1234\n56\n\n789A";
     let records = [0, 2, 0x12, 0x34, 0, 1, 0x56, 0, 0, 0, 2, 0x78, 0x9A];
@@ -298,7 +301,7 @@ fn a_failed_write_counts_what_was_taken(rt: HostRuntime) {
     }
 }
 
-/// Where each read is interrupted so many times, the run answers this and writes these records.
+/// Stops the test unless the run answers this and writes these records, if each read is interrupted so many times.
 fn is_interrupted(
     rt: &impl Abort,
     alloc: Global,

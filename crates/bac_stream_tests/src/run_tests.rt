@@ -88,7 +88,8 @@ fn a_failed_read_tells_the_next_record(rt: HostRuntime) {
     }
 }
 
-/// Where the writer has room for so many octets, those are written, and the fault tells it at this record.
+/// Stops the test unless a writer with room for so many octets has taken that many, and the fault reports this at this
+/// record.
 fn fills(rt: &impl Abort, alloc: Global, size: usize, room: usize, at: u32) {
     let file = [
         0, 5, 1, 2, 3, 4, 5, 0, 5, 6, 7, 8, 9, 10, 0, 5, 11, 12, 13, 14, 15,
@@ -146,7 +147,7 @@ fn records_come_back(rt: HostRuntime) {
     reads(&rt, rt.alloc(), &mut reader, None);
 }
 
-/// Numbers of octets at which a record could be taken for a longer or a shorter one.
+/// Numbers of octets at which a record could be read as a longer or a shorter one.
 const SIZES: [u16; 12] = [
     0, 1, 255, 256, 1_000, 1_001, 1_497, 1_498, 32_768, 65_279, 65_534, 65_535,
 ];
@@ -158,7 +159,7 @@ fn octets_of_size(rt: &impl Abort, alloc: Global, size: u16) -> Vec<u8> {
 
 /// The octets are written as the record and read of it.
 fn comes_back(rt: &impl Abort, alloc: Global, size: u16, octets: &[u8], record: &[u8]) {
-    // What write_record requires: assert! tells it to the prover.
+    // What write_record requires: assert! states it for the prover.
     assert!(rt; octets.len() <= 65_535);
     let mut writer = Counted::new(Vec::new(alloc));
     write_record(&mut writer, octets).expect(rt, "memory");
@@ -200,7 +201,7 @@ fn takes_three(rt: &impl Abort, alloc: Global, file: &[u8], piece: usize, want: 
     assert_holds(rt, written.as_slice() == want, (size, piece));
 }
 
-// The record stands between two others, so that it begins and ends within what a run holds.
+// The record is between two others, so that it begins and ends within what a run holds.
 #[test]
 fn a_run_takes_records_of_each_size(rt: HostRuntime) {
     let alloc = rt.alloc();
@@ -302,7 +303,7 @@ fn the_record_at_the_front_is_found(rt: HostRuntime) {
     begins(&rt, &[1, 0, 7], None);
 }
 
-/// Where there is room for so many octets, so many are written, or the fault tells how many were.
+/// Stops the test unless all `size` octets are written if there is room for them, or the fault reports how many were.
 fn fits(rt: &impl Abort, room: usize, size: usize)
     requires room { room ≤ 9 }
     requires size { size ≤ 3 }
@@ -324,7 +325,7 @@ fn all_octets_are_written(rt: HostRuntime) {
     fits(&rt, 0, 0);
 }
 
-/// Behind three octets there is so much room, and they are as they were.
+/// Stops the test unless so much room is made after three octets, and they are as they were.
 fn has_room(rt: &impl Abort, alloc: Global, room: usize) {
     let mut out = Vec::from_slice(alloc, b"abc").expect(rt, "memory");
     make_room(&mut out, 3, room).expect(rt, "memory");

@@ -14,7 +14,7 @@ pub fn mixed(alloc: Global, count: usize) -> Result<Vec<u8>, AllocError> {
     Ok(octets)
 }
 
-/// Four lists of octets, one behind the other.
+/// Returns four lists of octets, one after the other.
 pub fn enclosed(
     alloc: Global,
     front: &[u8],
@@ -29,7 +29,8 @@ pub fn enclosed(
     Ok(octets)
 }
 
-/// For each number from 1,000 on the octets in front, the two of the number, and those behind: of a list of 10,000 items.
+/// Returns the octets of a list of 10,000 items. For each number from 1,000 on it has `front`, the two octets of the
+/// number, and `behind`.
 pub fn numbered(alloc: Global, front: &[u8], behind: &[u8]) -> Result<Vec<u8>, AllocError> {
     let mut octets = Vec::new(alloc);
     for number in 1_000..11_000u16 {

@@ -1,12 +1,12 @@
-//! Octets, and tables of what is told of them, as texts. No call takes memory, so that a test which is run with one of its
-//! allocations refused meets the refusal in what it tests.
+//! Octets, and tables of what is reported of them, as texts. No call takes memory, so that a test which is run with one
+//! of its allocations refused meets the refusal in what it tests.
 
 use arrayvec::ArrayVec;
 
 /// How many octets a text has at most.
 const MOST_OCTETS: usize = 128;
 
-/// How many rows a table has at most, and how many places stand in a list.
+/// How many rows a table has at most, and how many places a list has at most.
 const MOST_ROWS: usize = 32;
 
 /// The octets of a text.
@@ -27,19 +27,19 @@ pub enum TableFault<'a> {
     TooMany,
 }
 
-/// A row of a table: octets, and what is told of them.
+/// A row of a table: octets, and what is reported of them.
 #[derive(Clone, Copy, Default)]
 pub struct Row<'a> {
     /// The octets, as `octets_of` takes them.
     pub octets: &'a str,
-    /// What stands behind the arrow.
+    /// What is after the arrow.
     pub told: &'a str,
 }
 
 /// The rows of a table, one on each line, as `OCTETS -> WHAT IS TOLD`. Lines may be blank.
 ///
 /// # Errors
-/// `Line` of another line, `NoRow` where there is none, and `TooMany` where there are more than 32.
+/// `Line` of another line, `NoRow` if there is no row, and `TooMany` if there are more than 32.
 pub fn rows_of(table: &str) -> Result<ArrayVec<Row<'_>, MOST_ROWS>, TableFault<'_>> {
     let mut rows = ArrayVec::new();
     for line in table.lines() {
@@ -59,7 +59,7 @@ pub fn rows_of(table: &str) -> Result<ArrayVec<Row<'_>, MOST_ROWS>, TableFault<'
 /// The row of a line.
 ///
 /// # Errors
-/// `Line` where it is none.
+/// `Line` if it is none.
 pub fn row_of(line: &str) -> Result<Row<'_>, TableFault<'_>> {
     match line.split_once(" -> ") {
         Some((octets, told)) => Ok(Row {
@@ -73,7 +73,7 @@ pub fn row_of(line: &str) -> Result<Row<'_>, TableFault<'_>> {
 /// The octets of hexadecimal pairs with blanks between them, or none of `none`.
 ///
 /// # Errors
-/// `Digits` where anything else stands there, also where nothing does, and `TooMany` where there are more than 128.
+/// `Digits` if there is anything else or nothing, and `TooMany` if there are more than 128.
 pub fn octets_of(text: &str) -> Result<Octets, TableFault<'_>> {
     let mut octets = Octets::new();
     if text == "none" {
@@ -90,7 +90,7 @@ pub fn octets_of(text: &str) -> Result<Octets, TableFault<'_>> {
 /// The octet of two hexadecimal digits.
 ///
 /// # Errors
-/// `Digits` where anything else stands there.
+/// `Digits` if there is anything else.
 pub fn octet_of(pair: &str) -> Result<u8, TableFault<'_>> {
     if pair.len() != 2 || pair.starts_with('+') {
         return Err(TableFault::Digits(pair));
@@ -104,7 +104,7 @@ pub fn octet_of(pair: &str) -> Result<u8, TableFault<'_>> {
 /// The places of decimal numbers with blanks between them, or none of `none`.
 ///
 /// # Errors
-/// `Place` where anything else stands there, also where nothing does, and `TooMany` where there are more than 32.
+/// `Place` if there is anything else or nothing, and `TooMany` if there are more than 32.
 pub fn places_of(text: &str) -> Result<ArrayVec<usize, MOST_ROWS>, TableFault<'_>> {
     let mut places = ArrayVec::new();
     if text == "none" {
@@ -121,7 +121,7 @@ pub fn places_of(text: &str) -> Result<ArrayVec<usize, MOST_ROWS>, TableFault<'_
 /// The place of a decimal number.
 ///
 /// # Errors
-/// `Place` where anything else stands there.
+/// `Place` if there is anything else.
 pub fn place_of(text: &str) -> Result<usize, TableFault<'_>> {
     if text.starts_with('+') {
         return Err(TableFault::Place(text));

@@ -3,9 +3,9 @@
 ghost use Rattle.std.specs.Prelude.{◌↔◌, IsTrue};
 ghost use Rattle.bac_tag.specs.Heads.{IsValid};
 
-/// A tag head: what stands in front of the contents of an element (clause 20.2.1). It has 1 to 7 octets:
+/// A tag head: what is before the contents of an element (clause 20.2.1). It has 1 to 7 octets:
 ///
-/// 1. the initial octet: the number in bits 7 to 4, or 15 if it stands in the next octet; the class in bit 3 (0
+/// 1. the initial octet: the number in bits 7 to 4, or 15 if it is in the next octet; the class in bit 3 (0
 ///    application, 1 context); the LVT in bits 2 to 0;
 /// 2. the number, if bits 7 to 4 are 15;
 /// 3. the length, if the LVT is 5: one octet 0 to 253; or FE and two octets; or FF and four octets, the most
@@ -17,7 +17,7 @@ ghost use Rattle.bac_tag.specs.Heads.{IsValid};
 pub enum TagHead {
     /// Application class with this number, 0 or 2 to 12. `len` octets of contents follow.
     App { number: u8, len: u32 },
-    /// Application class, number 1: a Boolean, which stands in the head itself.
+    /// Application class, number 1: a Boolean, which is in the head itself.
     AppBool(bool),
     /// Context class with this number, 0 to 254. `len` octets of contents follow.
     Ctx { number: u8, len: u32 },

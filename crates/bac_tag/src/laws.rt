@@ -66,14 +66,14 @@ pub fn choices_are_viable_in_a_case<A: Spelled, B: Spelled>()
 {}
 
 /// If the second of two parts has a spelling, a list begins a spelling of both joined exactly where it begins a
-/// spelling of the first part, or is a spelling of the first part with the beginning of a spelling of the second behind
+/// spelling of the first part, or is a spelling of the first part with the beginning of a spelling of the second after
 /// it.
 pub fn joined_parts_are_viable_in_turn<A: Spelled, B: Spelled>()
     ensures { (y : B.Value) (d : List ℕ) → B.spells y d
         → (b : List ℕ) → IsViable (JoinedBy A.spells (λ _. B.spells)) b ↔ (IsViable A.spells b ⊎ IsPartway A.spells (λ _. B.spells) b) }
 {}
 
-/// Two readers refuse one input. The refusal of the one that came farther is right for a reader that accepts what
+/// Two readers refuse one input. The refusal of the one that read farther is right for a reader that accepts what
 /// either of them accepts.
 pub fn farther_refusals_are_those_of_a_choice<A: Spelled, B: Spelled>()
     ensures { (input : List ℕ) (first second : Refusal) → IsRefusal A.spells input first → IsRefusal B.spells input second

@@ -1,4 +1,4 @@
-//! For the layers above, and for programs that read or write octets themselves: heads among those that may stand at a
+//! For the layers above, and for programs that read or write octets themselves: heads among those that may be at a
 //! place, heads of one octet, heads that are found at once, heads appended, marks of parts, and numbers. A program that
 //! handles whole messages needs none of it.
 

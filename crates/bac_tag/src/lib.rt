@@ -16,15 +16,15 @@
 //! # How it works
 //!
 //! `reading.rt` has one reader of heads. [`read_head`] takes every valid head. `read_expected` takes only the heads
-//! that may be at a place: one class, one number, lengths in a range. Where a field accepts few heads, the place of a
+//! that may be at a place: one class, one number, lengths in a range. If a field accepts few heads, the place of a
 //! refusal is often within a head that [`read_head`] would take, so only such a reader finds it. `read_one_of` takes
 //! several expectations, for places where an optional field or a choice may be; its place is the farthest that any of
 //! them allows.
 //!
 //! Nearly every head in use has one octet. Fields, tags of groups, Booleans and closing tags are first tried by that
 //! octet (`short.rt`); what is found so has no mark. Longer heads have a fast way each: `long_length` for one class and
-//! number, where `begins_long` has looked at the first octet, and `quick_head` for any head but those of Booleans and
-//! of lengths from 254 on (`quick_heads.rt`). None of these keeps anything for a refusal: if one finds nothing, the
+//! number, if `begins_long` has looked at the first octet, and `quick_head` for any head but those of Booleans and of
+//! lengths from 254 on (`quick_heads.rt`). None of these keeps anything for a refusal: if one finds nothing, the
 //! readers above are asked.
 //!
 //! Length octets of a head and contents of a number with a range are one question, and `number_within` answers it

@@ -70,8 +70,8 @@ pub fn mark_read_head(taken: &[u8], read: TagHead, head: TagHead) -> Option<usiz
     }
 }
 
-/// Returns the mark of two parts, one behind the other: that of the first part, or else that of the second behind
-/// the `count` octets of the first. That sum must be below 2^64.
+/// Returns the mark of two parts, one after the other: that of the first part, or else that of the second after the
+/// `count` octets of the first. That sum must be below 2^64.
 #[inline(always)]
 pub fn joined_marks(first: Option<usize>, count: usize, second: Option<usize>) -> Option<usize>
     requires { IfSome second (λ place. count + place < 2 ^ 64) }

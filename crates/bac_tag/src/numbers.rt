@@ -16,7 +16,7 @@ pub fn number_of(octets: &[u8]) -> u64
     number
 }
 
-/// Returns true if the number lies outside the range, whatever the `unread` octets behind it are.
+/// Returns true if the number lies outside the range, whatever the `unread` octets after it are.
 fn misses(number: u64, unread: u32, low: u64, high: u64) -> bool
     requires unread { unread < 8 }
     requires room { (number + 1) * 256 ^ unread ≤ 2 ^ 64 }

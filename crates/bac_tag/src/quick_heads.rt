@@ -8,8 +8,8 @@ ghost use Rattle.bac_tag.specs.Short.{headed, BeginsLong};
 use crate::TagHead;
 use crate::writing::initial_octet;
 
-/// Returns what stands in front of the length of a head (clause 20.2.1.2): true if the class is context, the number,
-/// the LVT, and how many octets they take.
+/// Returns what is before the length of a head (clause 20.2.1.2): true if the class is context, the number, the LVT,
+/// and how many octets they take.
 #[inline(always)]
 fn find_opening(octets: &[u8]) -> Option<(bool, u8, u8, usize)>
     ensures within { IfSome result (λ found. found.3 ≤ length octets.now) }
@@ -30,8 +30,8 @@ fn find_opening(octets: &[u8]) -> Option<(bool, u8, u8, usize)>
     Some((context, number, lvt, 2))
 }
 
-/// Returns the length with this LVT, and the place where it ends. The length is the LVT, or stands in one octet at
-/// `start` (clause 20.2.1.3.1).
+/// Returns the length with this LVT, and the place where it ends. The length is the LVT, or is in one octet at `start`
+/// (clause 20.2.1.3.1).
 #[inline(always)]
 fn find_length(octets: &[u8], start: usize, lvt: u8) -> Option<(u32, usize)>
     requires { start ≤ length octets.now }
@@ -48,7 +48,7 @@ fn find_length(octets: &[u8], start: usize, lvt: u8) -> Option<(u32, usize)>
     Some((u32::from(len), start + 1))
 }
 
-/// Returns the length in two or four octets behind the octet at `start`, which says how many (clause 20.2.1.3.1), and
+/// Returns the length in two or four octets after the octet at `start`, which says how many (clause 20.2.1.3.1), and
 /// the place where it ends.
 #[inline(always)]
 fn find_wide_length(octets: &[u8], start: usize) -> Option<(u32, usize)>
@@ -70,8 +70,8 @@ fn find_wide_length(octets: &[u8], start: usize) -> Option<(u32, usize)>
     None
 }
 
-/// Returns true if the first octet has this class, and either leaves the number to the octet behind it, or has this
-/// number and leaves the length to the octets behind it (clauses 20.2.1.2 and 20.2.1.3.1).
+/// Returns true if the first octet has this class, and either leaves the number to the octet after it, or has this
+/// number and leaves the length to the octets after it (clauses 20.2.1.2 and 20.2.1.3.1).
 #[inline(always)]
 pub fn begins_long(octets: &[u8], context: bool, number: u8) -> bool
     ensures { IsTrue result ↔ BeginsLong (class_bit context) number octets.now }

@@ -12,7 +12,7 @@ ghost use Rattle.bac_tag.specs.Reading.{HasLvt, IsWide, LengthWithin, IsFront};
 use crate::layers::{Expected, number_within};
 use crate::{Refusal, TagHead, Why};
 
-/// What stands before the length: the class, the number and the LVT.
+/// What is before the length: the class, the number and the LVT.
 #[derive(Clone, Copy)]
 struct Front {
     context: bool,
@@ -30,7 +30,7 @@ pub(crate) fn initial_parts(octet: u8) -> (u8, bool, u8)
     (octet >> 4, (octet >> 3) & 1 == 1, octet & 7)
 }
 
-/// Returns the reason why an initial octet is refused: its length, if the same number could stand there with another
+/// Returns the reason why an initial octet is refused: its length, if the same number could be there with another
 /// length, else its tag.
 #[inline(always)]
 fn reason_at_first(expected: Expected, context: bool, number: u8, lvt: u8) -> Why
@@ -117,7 +117,7 @@ const TWO_OCTETS: u8 = 0xFE;
 /// The length octet that says that four octets of a length follow.
 const FOUR_OCTETS: u8 = 0xFF;
 
-/// Reads a length from `least` to `most` in `width` octets behind the first one, which says how many they are.
+/// Reads a length from `least` to `most` in `width` octets after the first one, which says how many they are.
 fn read_wide_length(
     octets: &[u8],
     width: usize,

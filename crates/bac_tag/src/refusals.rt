@@ -8,7 +8,7 @@ use std::error::Error;
 use std::fmt;
 use std::fmt::Display;
 
-/// Why an input is refused. The reasons are ordered as they stand here.
+/// Why an input is refused. The reasons are ordered as they are listed here.
 #[derive(Clone, Copy, Debug, PartialEq, Eq, PartialOrd, Ord, Hash)]
 pub enum Why {
     /// The input ends where more must come.
@@ -23,9 +23,9 @@ pub enum Why {
     PduType,
     /// A window size that is not 1 to 127 (clause 20.1.2.8).
     Window,
-    /// A tag that cannot stand here.
+    /// A tag that cannot be here.
     Tag,
-    /// A length that cannot stand here.
+    /// A length that cannot be here.
     Length,
     /// Contents that no value has.
     Content,
@@ -122,7 +122,7 @@ impl Refusal {
         Why::OutOfMemory.at(0)
     }
 
-    /// Returns the refusal with the greater place: of two readings of one input, that of the one that came farther. If
+    /// Returns the refusal with the greater place: of two readings of one input, that of the one that read farther. If
     /// the places are equal, `Depth` goes before `Length`, and `Length` before the other reasons. If that decides
     /// nothing, it returns `self`.
     #[inline(always)]
@@ -138,8 +138,8 @@ impl Refusal {
         }
     }
 
-    /// Returns the same refusal of an input with `count` more octets in front: the place is greater by `count`. That
-    /// sum must be below 2^64.
+    /// Returns the same refusal of an input with `count` more octets at the front: the place is greater by `count`.
+    /// That sum must be below 2^64.
     #[inline(always)]
     pub fn behind(self, count: usize) -> Refusal
         requires { count + self.place < 2 ^ 64 }

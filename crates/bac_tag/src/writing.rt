@@ -108,8 +108,8 @@ fn opening_len(number: u8) -> usize
     }
 }
 
-/// Returns how many octets a length takes behind those, in its narrowest form (clause 20.2.1.3.1): 0 if it is the LVT,
-/// else 1, or 3 with `FE` in front, or 5 with `FF` in front.
+/// Returns how many octets a length takes after the initial octet and the number octet, in its narrowest form (clause
+/// 20.2.1.3.1): 0 if it is the LVT, else 1, or 3 that begin with `FE`, or 5 that begin with `FF`.
 #[inline(always)]
 fn length_len(len: u32) -> usize
     ensures { result ≡ length (length_octets (length_form len) len) }
@@ -149,7 +149,7 @@ fn narrow_initial(context: bool, number: u8, lvt: u8) -> u8
     }
 }
 
-/// Returns the LVT of a length in its narrowest form: the length, or 5 if it stands in octets of its own.
+/// Returns the LVT of a length in its narrowest form: the length, or 5 if it has octets of its own.
 #[inline(always)]
 fn length_lvt(len: u32) -> u8
     ensures lvt { result ≡ lvt_of (length_form len) len }

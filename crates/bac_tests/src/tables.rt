@@ -4,18 +4,18 @@ use crate::expectations::{assert_holds, assert_same};
 use bac_tables::{TableFault, octets_of, places_of, rows_of};
 use std::process::Abort;
 
-/// The text tells these octets.
+/// Stops the test unless the text has these octets.
 fn is_told(rt: &impl Abort, text: &str, octets: &[u8]) {
     let found = octets_of(text).expect(rt, "octets");
     assert_same(rt, found.as_slice(), octets);
 }
 
-/// The text tells no octets.
+/// Stops the test unless the text is refused as octets.
 fn has_no_octets(rt: &impl Abort, text: &str) {
     assert_holds(rt, octets_of(text).is_err(), text);
 }
 
-/// The text tells no places.
+/// Stops the test unless the text is refused as places.
 fn has_no_places(rt: &impl Abort, text: &str) {
     assert_holds(rt, places_of(text).is_err(), text);
 }
@@ -42,7 +42,7 @@ fn only_pairs_of_hexadecimal_digits_are_octets(rt: HostRuntime) {
     has_no_places(&rt, "1,2");
 }
 
-/// The line is told as a fault.
+/// Stops the test unless the line is reported as a fault.
 fn is_no_row(rt: &impl Abort, line: &str) {
     assert_same(rt, rows_of(line).err(), Some(TableFault::Line(line)));
 }

@@ -87,7 +87,7 @@ impl HasText for Body {
 
 /// Writes the text of the frame with this head and this body, which [`append_text`] describes, at the place `at` of the
 /// vector, which must be at most its length. Returns where the text ends. The vector is made longer if it has too
-/// little room. Behind the end of the text anything may stand.
+/// little room. After the end of the text the vector may hold anything.
 ///
 /// # Errors
 /// `OutOfMemory` if memory is refused. `out` may then hold some of the text.
@@ -108,7 +108,7 @@ pub fn write_text_of(
     write_field(out, end, b" ", body)
 }
 
-/// Appends the text of a frame, without a line feed behind it: `prio=P reply=R [dest=NET/ADR hops=H] [src=NET/HEX]` and
+/// Appends the text of a frame, without a line feed after it: `prio=P reply=R [dest=NET/ADR hops=H] [src=NET/HEX]` and
 /// the APDU or the network message. P is the priority, R whether a reply is expected, NET a network, HEX an address on
 /// it, ADR the same or `*` for an address without octets, and H the hop count.
 ///

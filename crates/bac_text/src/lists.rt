@@ -8,7 +8,7 @@ ghost use Rattle.bac_text.specs.Words.{listed};
 use crate::texts::{HasText, write_word};
 use bac_tag::OutOfMemory;
 
-/// Writes items, each behind a blank.
+/// Writes items, each after a blank.
 fn write_others<T: HasText>(out: &mut Vec<u8>, at: usize, items: &[T]) -> Result<usize, OutOfMemory>
     requires { at ≤ length out.old.items }
     ensures text { IfOk result (λ end. take end out.new.items ≡ take at out.old.items ++ flat_map (λ item. codes " " ++ T.text item) items.now) }

@@ -77,7 +77,7 @@ fn write_event(
     }
 }
 
-/// Returns true if what stands behind an event is the first of its group.
+/// Returns true if what follows an event is the first of its group.
 #[inline]
 fn begins_group(event: &Event<'_>) -> bool
     ensures { result ≡ begins_group (event_of event.now) }

@@ -9,7 +9,7 @@ use bac_tag::OutOfMemory;
 
 /// What has a text.
 ///
-/// Texts are written one behind the other: each at the place where the one before it ends.
+/// Texts are written one after the other: each at the place where the one before it ends.
 pub(crate) trait HasText: Drop {
     /// Its text.
     ghost text: { Self → List ℕ };
@@ -35,7 +35,7 @@ pub(crate) trait HasShortText {
     /// How many octets the text has at most.
     ghost most: { ℕ };
 
-    /// Writes the text at a place behind which there is room for it and ten octets more. Returns where it ends.
+    /// Writes the text at a place with room for it and ten octets more. Returns where it ends.
     fn put_text(&self, room: &mut [u8], at: usize) -> usize
         requires { at + (most + 10) ≤ length room.old }
         ensures text { take result room.new ≡ take at room.old ++ text self.now }

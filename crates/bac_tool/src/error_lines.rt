@@ -29,7 +29,7 @@ fn put_long_decimal(room: &mut [u8], at: usize, number: u128) -> usize
     end + 1
 }
 
-/// Writes a word and a number, at most 4,294,967,295, with a colon and a blank behind them, and a text. Returns where
+/// Writes a word and a number, at most 4,294,967,295, with a colon and a blank after them, and a text. Returns where
 /// they end.
 #[inline(always)]
 fn put_numbered<const N: usize, const M: usize>(

@@ -2,7 +2,7 @@
 //!
 //! A file is a list of records, each two octets of length and then a frame: one NPDU (clause 6), with an APDU (clause
 //! 20.1) or a network message (clause 6.4) in it. The runs over these files are those of bac_stream. The run that makes
-//! a file from lines of hexadecimal digits is that of bac_pack. Here stand the words of the command line, the exit
+//! a file from lines of hexadecimal digits is that of bac_pack. This crate has the words of the command line, the exit
 //! status and what is written to standard error.
 #![tactic(auto)]
 
@@ -41,7 +41,7 @@ fn main(rt: HostRuntime) -> ExitCode {
 /// The octets of the longest line that [`tell_error`] writes.
 const LINE: usize = 128;
 
-/// Writes a line with an error of the system behind the program's name. No memory is taken. A longer line is left out.
+/// Writes a line with an error of the system after the program's name. No memory is taken. A longer line is left out.
 fn tell_error<E: Output>(error: &io::Error, errors: &mut E) {
     let mut line = ArrayString::<LINE>::new();
     if writeln!(line, "bactool: {error}").is_ok() {

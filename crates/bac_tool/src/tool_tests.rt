@@ -13,7 +13,7 @@ use std::process::Abort;
 /// F1: the canonical octets of the first example.
 const F1: &str = "01040005010C0C000000051955";
 
-/// F2: the same frame with reserved bits set and a zero in front of the property.
+/// F2: the same frame with reserved bits set and a zero before the property.
 const F2: &str = "01540185010C0C000000051A0055";
 
 /// The frame of example 54.
@@ -207,7 +207,8 @@ fn is_told(rt: &impl Abort, alloc: Global, fault: JobFault, text: &str) {
     assert_same(rt, errors.device.as_slice(), line.as_bytes(), fault);
 }
 
-// A fault of the library is shown as the program tells it, where the line has the number of the record too.
+// The line of each fault. It has the number of the record or of the line, unless these are too many or memory was
+// refused.
 #[test]
 fn faults_are_told(rt: HostRuntime) {
     let alloc = rt.alloc();
@@ -331,8 +332,8 @@ fn a_reader_that_fails_is_told(rt: HostRuntime) {
     }
 }
 
-/// Stops the test unless over a reader that gives this octet without end the program stops behind a million records,
-/// and has written `count` octets. Returns these octets.
+/// Stops the test unless over a reader that gives this octet without end the program stops after a million records, and
+/// has written `count` octets. Returns these octets.
 fn is_left(rt: &impl Abort, alloc: Global, line: &str, octet: u8, count: usize) -> Vec<u8> {
     let words = words_of(rt, alloc, line);
     let mut taken = Counted::new(Vec::new(alloc));

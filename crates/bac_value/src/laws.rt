@@ -1,4 +1,4 @@
-//! Laws of the values of any primitive type. Those of one type stand in the trait `Primitive`.
+//! Laws of the values of any primitive type. Those of one type are in the trait `Primitive`.
 
 ghost use Rattle.std.specs.Prelude.{◌≡◌, ◌≤◌, ℕ, List, length};
 ghost use Rattle.bac_tag.specs.Spelling.{IsLeast};

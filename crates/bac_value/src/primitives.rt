@@ -9,8 +9,8 @@ use std::alloc::Global;
 
 /// A primitive type: which contents spell a value, and which of them are written.
 ///
-/// Contents are all the octets of an element behind its tag head. Those of a Boolean are the ones of the context
-/// form (clause 20.2.3).
+/// Contents are all the octets of an element after its tag head. Those of a Boolean are the ones of the context form
+/// (clause 20.2.3).
 pub trait Primitive: Sized + Drop {
     /// The number of its application tag (clause 20.2.1.4).
     const APP: u8;
@@ -58,7 +58,7 @@ pub trait Primitive: Sized + Drop {
         ensures content { IfErr result (λ refusal. refusal.why ≡ Why.Content → IsHopelessAt contents octets.now (length octets.now) refusal.place) };
 
     /// Returns the value whose contents the first `size` octets are, or None. None says nothing about them: call
-    /// [`Primitive::read`] then. Octets behind the first `size` do not change the value. They make it possible to read
+    /// [`Primitive::read`] then. Octets after the first `size` do not change the value. They make it possible to read
     /// four octets of a number without a branch for each `size`.
     #[inline(always)]
     fn find(alloc: Global, octets: &[u8], size: usize) -> Option<Self>

@@ -136,7 +136,7 @@ fn zeros_in_front(octets: &[u8]) -> usize
     first_other_than_zero(octets).unwrap_or(octets.len() - 1)
 }
 
-/// Returns the octets without the zeros in front. The last octet stays, even if it is zero.
+/// Returns the octets without leading zeros. The last octet stays, even if it is zero.
 #[inline]
 pub(crate) fn significant(octets: &[u8]) -> &[u8]
     requires { HasNumberLength (length octets.now) }
@@ -145,8 +145,8 @@ pub(crate) fn significant(octets: &[u8]) -> &[u8]
     &octets[zeros_in_front(octets)..]
 }
 
-/// Returns what [`significant`] returns, for a number below 2^32: the octets in front of the last four are zeros, and
-/// are not looked at.
+/// Returns what [`significant`] returns, for a number below 2^32: the octets before the last four are zeros, and are
+/// not looked at.
 #[inline]
 pub(crate) fn significant_of_four(octets: &[u8]) -> &[u8]
     requires sized { HasNumberLength (length octets.now) }
@@ -205,7 +205,7 @@ pub fn mark_number(octets: &[u8]) -> Option<usize>
     ensures none { IfNone result (octets.now ≡ least_number (number octets.now)) }
     ensures some { IfSome result (FirstDifference octets.now (least_number (number octets.now))) }
 {
-    // Only zeros in front of other octets are superfluous.
+    // Only zeros before other octets are superfluous.
     match octets {
         [_] => None,
         [first, ..] if *first != 0 => None,
@@ -214,7 +214,7 @@ pub fn mark_number(octets: &[u8]) -> Option<usize>
 }
 
 /// Returns what [`mark_number`] returns. `read` is the number that was read from the octets: since it is known, octets
-/// behind the first are looked at only if it is 0.
+/// after the first are looked at only if it is 0.
 #[inline(always)]
 pub(crate) fn mark_read_number(read: u64, octets: &[u8]) -> Option<usize>
     requires sized { HasNumberLength (length octets.now) }
@@ -222,7 +222,7 @@ pub(crate) fn mark_read_number(read: u64, octets: &[u8]) -> Option<usize>
     ensures none { IfNone result (octets.now ≡ least_number (number octets.now)) }
     ensures some { IfSome result (FirstDifference octets.now (least_number (number octets.now))) }
 {
-    // Only zeros in front of other octets are superfluous.
+    // Only zeros before other octets are superfluous.
     if octets.len() == 1 || octets[0] != 0 {
         return None;
     }
@@ -268,7 +268,7 @@ fn write_closely(number: u32, out: &mut Vec<u8>) -> Result<(), OutOfMemory>
     Ok(())
 }
 
-/// Returns the last `count` of the four octets of a number, and zeros behind them. `count` must be 1 to 4.
+/// Returns the last `count` of the four octets of a number, and zeros after them. `count` must be 1 to 4.
 #[inline(always)]
 fn last_of_word(number: u32, count: usize) -> [u8; 4]
     requires some { 1 ≤ count }

@@ -1,4 +1,4 @@
-//! Why no value is made of what a caller hands in.
+//! Why no value is made of what a caller passes.
 
 use std::error::Error;
 use std::fmt;

@@ -35,7 +35,7 @@ fn is_like(alloc: Global, octets: &[u8], apdu: &Apdu) -> Result<bool, OutOfMemor
     Ok(copy == *apdu && matches!(found, Ok(found) if found == copy))
 }
 
-/// Returns the canonical octets of the APDU, which are those of an equal one, and are appended behind another.
+/// Returns the canonical octets of the APDU, which are those of an equal one, and are appended after another octet.
 fn written(alloc: Global, apdu: &Apdu, mark: Option<usize>) -> Result<Told, OutOfMemory> {
     let written = encode_apdu(alloc, apdu)?;
     if !is_like(alloc, &written, apdu)? {

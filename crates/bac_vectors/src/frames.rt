@@ -28,8 +28,8 @@ pub fn told(alloc: Global, octets: &[u8]) -> Result<Told, OutOfMemory> {
     }
 }
 
-/// Returns the name of a call that tells something else of octets than that they are those of this frame, which differ there
-/// from its canonical octets.
+/// Returns the name of a call that reports something else than that the octets are those of this frame, and first
+/// differ from its canonical octets at `mark`.
 fn dissenting(
     alloc: Global,
     octets: &[u8],
@@ -56,7 +56,7 @@ fn dissenting(
     runs_dissenting(alloc, octets, mark, written)
 }
 
-/// Returns true if these octets of the frame are appended behind another.
+/// Returns true if these octets of the frame are appended after another octet.
 fn is_appended(alloc: Global, frame: &Frame, written: &[u8]) -> Result<bool, OutOfMemory> {
     let mut out = Vec::from_slice(alloc, &[0xAA])?;
     append_frame(frame, &mut out)?;
@@ -129,7 +129,7 @@ fn is_normalised(alloc: Global, record: &[u8], written: &[u8]) -> bool {
     }
 }
 
-/// Returns the name of a call that tells something else of octets than this refusal.
+/// Returns the name of a call that reports something else of the octets than this refusal.
 fn accepting(
     alloc: Global,
     octets: &[u8],

@@ -72,7 +72,7 @@ fn whole(
     Ok(told.words(alloc, octets, before)?)
 }
 
-/// Returns true if the words say `OCTETS, differs at PLACE`, and that is what is told.
+/// Returns true if the words say `OCTETS, differs at PLACE`, and that is what is reported.
 fn is_written(alloc: Global, told: &Told, front: &str, words: &str) -> Result<bool, RowFault> {
     let Some((written, place)) = words.split_once(", differs at ") else {
         return Ok(false);

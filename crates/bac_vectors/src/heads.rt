@@ -9,8 +9,8 @@ use bac_tag::{TagHead, head_len, mark_head, read_head, write_head};
 use std::alloc::{AllocError, Global};
 
 /// Returns what the head at the front of octets is, how many octets it takes, and where they differ from its least ones:
-/// `context NUMBER length LENGTH, takes COUNT`, with `application`, or `boolean true`, `opening NUMBER` or `closing NUMBER`
-/// in front, and with `, differs at PLACE` behind; or `REASON at PLACE`.
+/// `context NUMBER length LENGTH, takes COUNT`, with `application`, or `boolean true`, `opening NUMBER` or
+/// `closing NUMBER` at the front, and with `, differs at PLACE` at the end; or `REASON at PLACE`.
 pub fn found(alloc: Global, octets: &[u8]) -> Result<String, RowFault> {
     match read_head(octets) {
         Ok((head, taken)) => {
@@ -36,7 +36,7 @@ fn words_of(alloc: Global, head: TagHead) -> Result<String, AllocError> {
     }
 }
 
-/// Returns where all the octets of a head differ from its least ones, or which call tells something else.
+/// Returns where all the octets of a head differ from its least ones, or which call reports something else.
 fn mark_of(alloc: Global, spelling: &[u8]) -> Result<String, AllocError> {
     let Ok((head, taken)) = read_head(spelling) else {
         return String::from_str(alloc, ", read_head tells otherwise");
@@ -61,7 +61,8 @@ fn mark_of(alloc: Global, spelling: &[u8]) -> Result<String, AllocError> {
     }
 }
 
-/// Returns the name of a call of the layers above that tells something else of octets than that they begin with this head.
+/// Returns the name of a call of `bac_tag::layers` that reports something else than that the octets begin with this
+/// head.
 fn dissenting(octets: &[u8], head: TagHead, taken: usize) -> Option<&'static str> {
     let is_short = taken == 1;
     match head {
@@ -113,7 +114,8 @@ fn application_lengths(octets: &[u8], number: u8) -> Option<Lengths> {
     Some((short, long_length(octets, false, number)))
 }
 
-/// The name of a call that tells something else than this length, where the lengths are those that are told.
+/// Returns the name of a call that reports something else than this length, if the lengths are those that were
+/// reported.
 fn dissenting_on_length(
     octets: &[u8],
     lengths: Option<Lengths>,

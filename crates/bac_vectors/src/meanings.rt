@@ -5,7 +5,8 @@ use crate::octets::octets_of;
 use bac_npdu::{Side, decode_frame, same_meaning};
 use std::alloc::Global;
 
-/// Returns what is told of `LEFT ~ RIGHT`: `same`, `different`, or `left REASON at PLACE` or `right REASON at PLACE`.
+/// Returns what is reported of `LEFT ~ RIGHT`: `same`, `different`, or `left REASON at PLACE` or
+/// `right REASON at PLACE`.
 pub fn found(alloc: Global, inputs: &str) -> Result<String, RowFault> {
     let (left, right) = inputs.split_once(" ~ ").ok_or(RowFault::Mistake)?;
     let (left, right) = (octets_of(alloc, left)?, octets_of(alloc, right)?);

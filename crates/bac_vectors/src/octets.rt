@@ -16,7 +16,7 @@ pub fn octets_of(alloc: Global, text: &str) -> Result<Vec<u8>, RowFault> {
     joined(alloc, "none", text)
 }
 
-/// Returns the octets of two texts, one behind the other.
+/// Returns the octets of two texts, one after the other.
 ///
 /// # Errors
 /// As those of [`octets_of`].
@@ -54,7 +54,7 @@ struct Word {
     /// Whether a group begins with the octet, and whether one ends with it.
     opens: bool,
     closes: bool,
-    /// How often the octet stands there, or the group that ends with it.
+    /// How often the octet is there, or the group that ends with it.
     count: usize,
 }
 
@@ -83,7 +83,7 @@ impl Word {
     }
 }
 
-/// Appends the octets from a place on again, until they stand there so many times.
+/// Appends the octets from a place on again, until they are there so many times.
 fn repeat(alloc: Global, octets: &mut Vec<u8>, start: usize, count: usize) -> Result<(), RowFault> {
     let item = Vec::from_slice(alloc, octets.get(start..).unwrap_or(&[]))?;
     for _ in 1..count {

@@ -7,7 +7,7 @@ use bac_data::{Any, read_any, read_any_marked, write_any};
 use bac_tag::OutOfMemory;
 use std::alloc::Global;
 
-/// Returns what octets come to as an open value between tags of this number. Octets behind the value are none of it, so
+/// Returns what octets come to as an open value between tags of this number. Octets after the value are none of it, so
 /// the row has its octets alone.
 ///
 /// # Errors

@@ -57,7 +57,8 @@ impl<'a> Section<'a> {
         }
     }
 
-    /// Returns what the octets of a row come to, in the words of a row. These octets stand in front of them.
+    /// Returns what the octets of a row come to, in the words of a row. The octets of `front` are before them, except
+    /// in rows of two inputs.
     ///
     /// # Errors
     /// `Mistake` if the row is none of the section, and `OutOfMemory` if memory is refused.

@@ -38,7 +38,7 @@ fn is_like(alloc: Global, octets: &[u8], service: &Service) -> Result<bool, OutO
     Ok(copy == *service && matches!(found, Ok(found) if found == copy))
 }
 
-/// Returns the canonical octets of the service, which are those of an equal one, and are appended behind another.
+/// Returns the canonical octets of the service, which are those of an equal one, and are appended after another octet.
 fn written(alloc: Global, service: &Service, mark: Option<usize>) -> Result<Told, OutOfMemory> {
     let written = encode_service(alloc, service)?;
     if !is_like(alloc, &written, service)? {

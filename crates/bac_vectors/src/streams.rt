@@ -11,7 +11,7 @@ use std::alloc::{AllocError, Global};
 /// How many octets a stream has at most that is cut at each place.
 const MOST_CUTS: usize = 256;
 
-/// How many records that come to the same are told one by one.
+/// How many records that come to the same are reported one by one.
 const MOST_TOLD: usize = 16;
 
 /// Returns what the stream gives: `ok` or `REASON at PLACE` for each record, and then how many there are, or the fault. Of
@@ -51,14 +51,14 @@ type Item = Result<Frame, Refusal>;
 /// What a stream gives.
 #[derive(PartialEq, Eq, Drop)]
 struct Given {
-    /// What is told of each record, and of the end.
+    /// What is reported of each record, and of the end.
     words: String,
-    /// The canonical octets of the frames, one behind the other.
+    /// The canonical octets of the frames, one after the other.
     octets: Vec<u8>,
     /// How many records there are, and how many of them are refused.
     records: usize,
     refused: usize,
-    /// Whether the stream ends behind its last record.
+    /// Whether the stream ends after its last record.
     is_whole: bool,
 }
 
@@ -86,7 +86,7 @@ fn fed(alloc: Global, mode: Mode, pieces: &[&[u8]]) -> Result<Given, RowFault> {
     })
 }
 
-/// Returns the canonical octets of the frames, one behind the other.
+/// Returns the canonical octets of the frames, one after the other.
 fn octets_of(alloc: Global, items: &[Item]) -> Result<Vec<u8>, RowFault> {
     let mut octets = Vec::new(alloc);
     for item in items {
@@ -97,7 +97,7 @@ fn octets_of(alloc: Global, items: &[Item]) -> Result<Vec<u8>, RowFault> {
     Ok(octets)
 }
 
-/// Returns what is told of the records, with a comma behind each.
+/// Returns what is reported of the records, with a comma after each.
 fn words_of(alloc: Global, items: &[Item]) -> Result<String, AllocError> {
     let mut words = String::new(alloc);
     let mut last = None;
@@ -123,7 +123,7 @@ fn refusal_of(item: &Item) -> Option<Refusal> {
     }
 }
 
-/// Appends what so many records come to, one behind the other.
+/// Appends what so many records come to, one after the other.
 fn push_records(
     alloc: Global,
     words: &mut String,
@@ -152,7 +152,7 @@ fn is_run(alloc: Global, mode: Mode, stream: &[u8], given: &Given) -> bool {
     agrees(given, checked) && agrees(given, shown) && is_normalised(alloc, mode, stream, given)
 }
 
-/// Returns true if a run that goes on behind refused records has this answer.
+/// Returns true if a run that continues after refused records has this answer.
 fn agrees(given: &Given, answer: Result<Summary, RunFault>) -> bool {
     match answer {
         Ok(summary) => {

@@ -1,4 +1,4 @@
-//! The text of a frame, as `show` writes it behind the number of its record.
+//! The text of a frame, as `show` writes it after the number of its record.
 
 use crate::faults::RowFault;
 use bac_npdu::{Frame, decode_frame};

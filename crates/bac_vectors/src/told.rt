@@ -3,14 +3,14 @@
 use bac_tag::Refusal;
 use std::alloc::{AllocError, Global};
 
-/// What octets come to, where every call tells the same of them.
+/// What octets come to, if every call reports the same of them.
 #[derive(Drop)]
 pub enum Told {
     /// They are accepted. These octets are written of what they mean, and they differ from those at that place.
     Written(Vec<u8>, Option<usize>),
     /// They are refused.
     Refused(Refusal),
-    /// This call tells something else than the one that tells the place of the first difference.
+    /// This call reports something else than the one that reports the place of the first difference.
     Otherwise(&'static str),
 }
 
@@ -38,8 +38,8 @@ impl Told {
         }
     }
 
-    /// Returns what is told of octets in the words of a row: `itself`, `OCTETS, differs at PLACE` or `REASON at PLACE`.
-    /// The octets in the words are those behind so many in front.
+    /// Returns what is reported of octets in the words of a row: `itself`, `OCTETS, differs at PLACE` or
+    /// `REASON at PLACE`. The words leave out the first `front` of the octets that are written.
     pub fn words(&self, alloc: Global, octets: &[u8], front: usize) -> Result<String, AllocError> {
         match self {
             Told::Written(written, None) if written.as_slice() == octets => {

@@ -50,7 +50,7 @@ fn told_of_prim<T: Primitive>(alloc: Global, octets: &[u8]) -> Result<Told, OutO
     Ok(told)
 }
 
-/// Returns true if a value of any type tells the same of octets, under this number of its type.
+/// Returns true if `Prim` reports the same of the octets, under this number of its type.
 fn is_prim(alloc: Global, number: u8, octets: &[u8], told: &Told) -> Result<bool, OutOfMemory>
     requires { number ≤ 12 }
 {
@@ -125,8 +125,8 @@ fn is_found<T: Primitive>(
 /// How many octets contents have at most of which each front is tried.
 const MOST_FRONTS: usize = 64;
 
-/// Returns true if each front of contents is hopeless behind the octet that is refused, and only there. If no contents have
-/// so many octets, there is nothing to foresee, and of long contents nothing is tried.
+/// Returns true if each front of contents is hopeless that has the refused octet, and no other front is. If no contents
+/// have so many octets, there is nothing to foresee, and of long contents nothing is tried.
 fn is_foreseen<T: Primitive>(octets: &[u8], told: &Told) -> bool {
     if octets.len() < T::SHORTEST || octets.len() > T::LONGEST || octets.len() > MOST_FRONTS {
         return true;

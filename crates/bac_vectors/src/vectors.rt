@@ -19,7 +19,7 @@ impl Display for Count {
     }
 }
 
-/// What the lines above a row say of it: the call, and octets that stand in front of those of the row.
+/// What the lines above a row say of it: the call, and octets that are before those of the row.
 #[derive(Clone, Copy)]
 struct Heading<'a> {
     section: Option<Section<'a>>,

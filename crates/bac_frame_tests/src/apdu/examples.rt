@@ -1,4 +1,4 @@
-//! APDUs of worked examples, behind other octets.
+//! APDUs of worked examples, appended to other octets.
 
 use super::{appended, decoded};
 use crate::expectations::assert_same;
@@ -6,8 +6,8 @@ use bac_tables::octets_of;
 use std::alloc::Global;
 use std::process::Abort;
 
-/// With each allocation refused in turn the octets are read and written when memory is asked for again, and what stood
-/// in front of them stays.
+/// Stops the test unless the octets are read, and written after others, which stay. With each allocation refused in
+/// turn, that is so when memory is asked for again.
 fn is_appended(rt: &impl Abort, alloc: Global, text: &str) {
     let octets = octets_of(text).expect(rt, "octets");
     let (apdu, mark) = decoded(rt, alloc, &octets).expect(rt, "an APDU");

@@ -1,4 +1,4 @@
-//! Each octet for a window: 1 to 127 are one, others are refused where they stand.
+//! Each octet for a window: 1 to 127 are accepted, and others are refused at their place.
 
 use super::decoded;
 use crate::expectations::assert_same_of;

@@ -1,4 +1,4 @@
-//! Frames of worked examples, behind other octets.
+//! Frames of worked examples, appended to other octets.
 
 use super::{appended, decoded};
 use crate::expectations::assert_same;
@@ -6,7 +6,7 @@ use bac_tables::octets_of;
 use std::alloc::Global;
 use std::process::Abort;
 
-/// The canonical octets of the frame stand behind others.
+/// Stops the test unless the canonical octets of the frame are written after others, which stay.
 fn is_appended(rt: &impl Abort, alloc: Global, text: &str) {
     let octets = octets_of(text).expect(rt, "octets");
     let (frame, mark) = decoded(rt, alloc, &octets).expect(rt, "a frame");
@@ -17,7 +17,7 @@ fn is_appended(rt: &impl Abort, alloc: Global, text: &str) {
 }
 
 // Of examples 18 and 54 of docs/EXAMPLES.md. With each allocation refused in turn the octets are read and written when
-// memory is asked for again, and what stood in front of them stays.
+// memory is asked for again, and what was before them stays.
 #[test]
 fn octets_are_appended_behind_others(rt: HostRuntime) {
     let alloc = rt.alloc();

@@ -62,7 +62,8 @@ fn answers_at(
     assert_same_of(rt, take(rt, reassembly, segment), wanted, (place, order));
 }
 
-/// The message comes of its segments in this order, where that happens to the one with that number.
+/// Joins the segments in this order, while that happens to the one with that number, and returns the reassembly. Stops
+/// the test unless each segment is answered as it must be.
 fn comes(
     rt: &impl Abort,
     alloc: Global,
@@ -125,7 +126,7 @@ fn four_segments_come_in_each_order(rt: HostRuntime) {
     }
 }
 
-/// A last piece of no octets behind these segments ends the message, which has these octets.
+/// Stops the test unless a last piece of no octets after these segments ends the message, which has these octets.
 fn ends_without_octets(
     rt: &impl Abort,
     alloc: Global,
@@ -143,7 +144,7 @@ fn ends_without_octets(
     is_joined(rt, found.octets(), octets);
 }
 
-// A last piece of no octets behind each number of others.
+// A last piece of no octets after each number of others.
 #[test]
 fn the_last_piece_may_be_empty(rt: HostRuntime) {
     let alloc = rt.alloc();

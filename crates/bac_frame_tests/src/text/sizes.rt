@@ -6,7 +6,7 @@ use std::alloc::Global;
 use std::fmt::Write;
 use std::process::Abort;
 
-/// The octets in hexadecimal digits, behind the text in front.
+/// Returns the octets in hexadecimal digits, after the text `front`.
 fn in_digits(rt: &impl Abort, alloc: Global, front: &str, octets: &[u8]) -> String {
     let mut text = String::from_str(alloc, front).expect(rt, "memory");
     for octet in octets {
@@ -38,8 +38,8 @@ const ANSWER: [u8; 14] = [
     1, 0, 0x30, 1, 0x0C, 0x0C, 0, 0, 0, 5, 0x19, 0x55, 0x3E, 0x75,
 ];
 
-/// The digits of so many octets, as a character string, have their text. These octets tell the length of the string,
-/// and that it is of UTF-8.
+/// Stops the test unless the digits of so many octets, as a character string, have their text. The octets `length` are
+/// the length of the string and its character set, UTF-8.
 fn digits_have_their_text(rt: &impl Abort, alloc: Global, size: usize, length: &[u8]) {
     let behind = mixed(alloc, size).expect(rt, "memory");
     let digits = in_digits(rt, alloc, "", &behind);
@@ -57,7 +57,8 @@ fn long_strings_have_their_text(rt: HostRuntime) {
     digits_have_their_text(&rt, rt.alloc(), 32_767, &[0xFE, 0xFF, 0xFF, 0]);
 }
 
-/// The text of a list of each number from 1,000 on, up to the first, between two of them, and behind the last.
+/// Returns the text of a list of each number from 1,000 on: `front` is before the first, `between` is between two of
+/// them, and `behind` is after the last.
 fn listed(rt: &impl Abort, alloc: Global, front: &str, between: &str, behind: &str) -> String {
     let mut text = String::from_str(alloc, front).expect(rt, "memory");
     text.push_str("1000").expect(rt, "memory");

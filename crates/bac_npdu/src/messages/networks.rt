@@ -24,7 +24,7 @@ pub(crate) fn decode_who_is_router(octets: &[u8]) -> Result<NetMessage, Refusal>
     Ok(NetMessage::WhoIsRouter(Some(number_at(octets, 1))))
 }
 
-/// Reads the networks behind the type, two octets each, up to the end.
+/// Reads the networks after the type, two octets each, up to the end.
 ///
 /// # Errors
 /// `Short` if the last one has only one octet; `OutOfMemory` if memory is refused.

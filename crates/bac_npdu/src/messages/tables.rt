@@ -15,7 +15,7 @@ use crate::octets::{number_at, octets_of_number};
 use bac_tag::{OutOfMemory, Refusal, Why};
 use std::alloc::Global;
 
-/// Reads the port at a place, and returns it with the place behind it.
+/// Reads the port at a place, and returns it with the place after it.
 ///
 /// # Errors
 /// `Short` if the octets end within the port; `OutOfMemory` if memory is refused.
@@ -44,10 +44,10 @@ fn read_port(alloc: Global, octets: &[u8], place: usize) -> Result<(Port, usize)
     Ok((port, place + 4 + count))
 }
 
-/// Reads the routing table behind the type: the number of ports, and one port after the other up to the end.
+/// Reads the routing table after the type: the number of ports, and one port after the other up to the end.
 ///
 /// # Errors
-/// `Short` if the octets end before the last port does; `Trailing` behind the last port; `OutOfMemory` if memory is
+/// `Short` if the octets end before the last port does; `Trailing` after the last port; `OutOfMemory` if memory is
 /// refused.
 fn read_ports(alloc: Global, octets: &[u8]) -> Result<Ports, Refusal>
     requires { 0 < length octets.now }

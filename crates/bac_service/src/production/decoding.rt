@@ -45,8 +45,8 @@ fn decode_part_by_part<P: Production>(
 /// from the canonical ones.
 ///
 /// # Errors
-/// The place is that of the first octet with which no spelling goes on. The reason is `Trailing` if the octets in front
-/// of it are a spelling, and `Short` if all the octets begin one. `OutOfMemory` at 0 if memory is refused.
+/// The place is that of the first octet with which no spelling continues. The reason is `Trailing` if the octets before
+/// it are a spelling, and `Short` if all the octets begin one. `OutOfMemory` at 0 if memory is refused.
 #[inline(always)]
 pub(crate) fn decode<P: Production>(
     alloc: Global,

@@ -18,7 +18,7 @@ use std::alloc::Global;
 /// How many items a list has room for at first. Most have no more.
 const ROOM: usize = 8;
 
-/// Records one behind the other. The list ends where no further one can be read.
+/// Records one after the other. The list ends where no further one can be read.
 impl<R: Record> Production for Vec<R> {
     ghost Value = { List R.Value };
 

@@ -1,4 +1,4 @@
-//! One part behind the other.
+//! One part after the other.
 
 ghost use Rattle.std.specs.Prelude.{◌&&◌, ◌||◌};
 ghost use Rattle.bac_tag.specs.Spelling.{Joined};

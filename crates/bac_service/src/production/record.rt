@@ -1,4 +1,4 @@
-//! A struct whose fields stand one behind the other.
+//! A struct whose fields are one after the other.
 
 ghost use Rattle.std.specs.Prelude.{◌↔◌, ℕ, List, IsTrue, OnOk};
 ghost use Rattle.bac_tag.specs.Spelling.{AppendsLeast};
@@ -14,7 +14,7 @@ use std::alloc::Global;
 
 /// A struct that is spelled as its fields are.
 pub(crate) trait Record: Drop {
-    /// Its fields, one behind the other.
+    /// Its fields, one after the other.
     type Parts: Production;
 
     /// The values that are spelled.

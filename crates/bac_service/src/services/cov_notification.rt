@@ -26,7 +26,7 @@ pub struct CovNotification {
     pub device: ObjectId,
     /// The object whose values are reported (monitoredObjectIdentifier).
     pub object: ObjectId,
-    /// For how many seconds the subscription goes on (timeRemaining); 0 is without end.
+    /// For how many seconds the subscription continues (timeRemaining); 0 is without end.
     pub remaining: u32,
     /// The values of the object, in their order. There may be none.
     pub values: Vec<PropertyValue>,

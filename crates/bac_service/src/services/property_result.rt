@@ -31,8 +31,8 @@ pub enum ReadResult {
 
 /// A property, or one element of it, and what reading it gave.
 ///
-/// Octets (clause 21): `[2]` property identifier, `[3]` array index (optional), then the result. The tags go on
-/// from those of the ReadAccessResult in which it stands.
+/// Octets (clause 21): `[2]` property identifier, `[3]` array index (optional), then the result. The tags continue from
+/// those of the ReadAccessResult that it is in.
 #[derive(Clone, Debug, PartialEq, Eq, Drop)]
 pub struct PropertyResult {
     /// The identifier of the property.

@@ -56,7 +56,7 @@ impl Record for ReadAccessSpecification {
 
 /// A request for properties of several objects.
 ///
-/// Octets (clause 21): the ReadAccessSpecifications one behind the other, with no tag around them.
+/// Octets (clause 21): the ReadAccessSpecifications one after the other, with no tag around them.
 #[derive(Clone, Debug, PartialEq, Eq, Drop)]
 pub struct ReadPropertyMultiple {
     /// The objects and their properties, in their order. There may be none.

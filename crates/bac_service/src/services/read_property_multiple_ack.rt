@@ -65,7 +65,7 @@ impl Record for ReadAccessResult {
 
 /// What reading properties of several objects gave.
 ///
-/// Octets (clause 21): the ReadAccessResults one behind the other, with no tag around them.
+/// Octets (clause 21): the ReadAccessResults one after the other, with no tag around them.
 #[derive(Clone, Debug, PartialEq, Eq, Drop)]
 pub struct ReadPropertyMultipleAck {
     /// The objects and what reading their properties gave, in their order. There may be none.

@@ -15,8 +15,7 @@ use std::marker::Model;
 
 /// Why a request with service choice 1, 5, 12, 14 or 15 failed.
 ///
-/// Octets (clause 21): those of its [`ErrorCause`]. The choice stands in front of them, in the header of the
-/// APDU.
+/// Octets (clause 21): those of its [`ErrorCause`]. The choice is before them, in the header of the APDU.
 #[derive(Clone, Copy, Debug, PartialEq, Eq)]
 pub struct ServiceError {
     choice: u8,

@@ -56,7 +56,7 @@ impl Record for WriteAccessSpecification {
 
 /// A request to write properties of several objects.
 ///
-/// Octets (clause 21): the WriteAccessSpecifications one behind the other, with no tag around them.
+/// Octets (clause 21): the WriteAccessSpecifications one after the other, with no tag around them.
 #[derive(Clone, Debug, PartialEq, Eq, Drop)]
 pub struct WritePropertyMultiple {
     /// The objects and the values of their properties, in their order. There may be none.

@@ -6,7 +6,7 @@ use bac_tables::{enclosed, mixed, numbered};
 use std::alloc::Global;
 use std::process::Abort;
 
-/// Numbers of octets of contents, and the octets of a head that tell them (clause 20.2.1.3.1).
+/// Numbers of octets of contents, and the length octets of the head of each (clause 20.2.1.3.1).
 const SIZES: [(usize, &[u8]); 3] = [
     (1_497, &[0xFE, 5, 0xD9]),
     (65_535, &[0xFE, 0xFF, 0xFF]),
@@ -16,7 +16,7 @@ const SIZES: [(usize, &[u8]); 3] = [
 /// The object 0:5 and its property 85, up to the length of an octet string.
 const PROPERTY: [u8; 9] = [0x0C, 0, 0, 0, 5, 0x19, 0x55, 0x3E, 0x65];
 
-/// The service of canonical octets is appended as they are, and what stands in front of them stays.
+/// Stops the test unless the service of canonical octets is appended as they are, and what is before them stays.
 fn is_appended(rt: &impl Abort, alloc: Global, service: (Kind, u8), octets: &[u8]) {
     let (kind, choice) = service;
     let found = decode_service(alloc, kind, choice, octets).expect(rt, "a service");

@@ -46,7 +46,7 @@ fn canonical_services_are_found(rt: HostRuntime) {
 fn other_octets_are_not_found(rt: HostRuntime) {
     let alloc = rt.alloc();
     let request = (Kind::Confirmed, 15);
-    // The property has an octet too many, a tag or a contents' head, or something stands behind.
+    // The property, a tag or the head of contents has an octet too many, or an octet follows the service.
     tries(
         &rt,
         alloc,

@@ -125,7 +125,7 @@ fn services_that_differ_are_not_equal(rt: HostRuntime) {
     differ_in_kind(&rt, alloc, confirmed, unconfirmed, NOTIFICATION);
 }
 
-// As the kinds stand in their enum.
+// As the kinds are listed in their enum.
 #[test]
 fn kinds_are_in_order(rt: HostRuntime) {
     assert_holds(&rt, Kind::Confirmed < Kind::Unconfirmed, "requests");

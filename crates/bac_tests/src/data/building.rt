@@ -1,5 +1,5 @@
-//! Building open values, and walking over them. Where memory is refused a call is made again, so that each
-//! test can be run with each of its allocations refused in turn (`rt try --test --fail-alloc N`).
+//! Building open values, and walking over them. If memory is refused, a call is made again, so that each test can be
+//! run with each of its allocations refused in turn (`rt try --test --fail-alloc N`).
 
 use super::{finished, gives};
 use crate::expectations::{assert_same, assert_same_of};
@@ -43,7 +43,7 @@ fn number_of(rt: &impl Abort, digits: &str) -> u8 {
     u8::from_str_radix(digits, 10).expect(rt, "a number")
 }
 
-/// Pushes the value with these contents. Where memory is refused the one that comes back is pushed again.
+/// Pushes the value with these contents. If memory is refused, the one that comes back is pushed again.
 fn push(
     rt: &impl Abort,
     alloc: Global,
@@ -64,7 +64,7 @@ fn push(
     }
 }
 
-/// How a table tells what a call gives.
+/// Returns the word of a table for what a call gives.
 fn told_of(found: Result<(), BuildFault>) -> &'static str {
     match found {
         Ok(()) => "taken",
@@ -77,7 +77,7 @@ fn told_of(found: Result<(), BuildFault>) -> &'static str {
     }
 }
 
-/// Each call ends as its row says. Where memory is refused the builder is as it was, and the call is made again.
+/// Each call ends as its row says. If memory is refused, the builder is as it was, and the call is made again.
 fn takes(rt: &impl Abort, alloc: Global, builder: &mut AnyBuilder, table: &str) {
     for row in rows_of(table).expect(rt, "rows").iter() {
         let mut found = attempt(rt, alloc, builder, row.octets);
@@ -88,7 +88,7 @@ fn takes(rt: &impl Abort, alloc: Global, builder: &mut AnyBuilder, table: &str) 
     }
 }
 
-/// A context primitive of many octets ends so. Where memory is refused the call is made again.
+/// A context primitive of many octets ends so. If memory is refused, the call is made again.
 fn takes_context(rt: &impl Abort, builder: &mut AnyBuilder, number: u8, octets: &[u8], told: &str) {
     let mut found = builder.push_ctx(number, octets);
     if found == Err(BuildFault::OutOfMemory) {

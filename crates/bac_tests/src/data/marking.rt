@@ -5,7 +5,7 @@ use bac_data::{Any, read_any_marked};
 use bac_tag::{Refusal, Why};
 use std::alloc::Global;
 
-/// What `read_any_marked` gives with number 3. Where memory is refused the value is read again.
+/// What `read_any_marked` gives with number 3. If memory is refused, the value is read again.
 fn read(alloc: Global, octets: &[u8]) -> Result<(Any, usize, Option<usize>), Refusal> {
     match read_any_marked(alloc, octets, 3) {
         Err(refusal) if refusal.why == Why::OutOfMemory => read_any_marked(alloc, octets, 3),

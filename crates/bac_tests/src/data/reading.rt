@@ -1,5 +1,5 @@
-//! What is read as an open value, and where other octets are refused. Where memory is refused a value is read
-//! again, so that the tests can be run with each allocation refused in turn (`rt try --test --fail-alloc N`).
+//! What is read as an open value, and where other octets are refused. If memory is refused, a value is read again, so
+//! that the tests can be run with each allocation refused in turn (`rt try --test --fail-alloc N`).
 
 use crate::expectations::{assert_holds, assert_same, assert_same_of};
 use bac_data::{Any, read_any};
@@ -8,7 +8,8 @@ use bac_tag::{Refusal, Why};
 use std::alloc::Global;
 use std::process::Abort;
 
-/// What `read_any` gives with number 3. Where memory is refused it is told at 0, and the value is read again.
+/// Returns what `read_any` gives with number 3. If memory is refused, that is reported at 0, and the value is read
+/// again.
 fn read(rt: &impl Abort, alloc: Global, octets: &[u8]) -> Result<(Any, usize), Refusal> {
     match read_any(alloc, octets, 3) {
         Err(refusal) if refusal.why == Why::OutOfMemory => {
@@ -77,7 +78,7 @@ fn a_value_is_read_again_where_memory_was_refused(rt: HostRuntime) {
     assert_same(&rt, value.count(), 64);
 }
 
-// A MiB of tags is refused at the first that cannot stand there.
+// A MiB of tags is refused at the first that cannot be there.
 #[test]
 fn many_tags_are_refused_at_once(rt: HostRuntime) {
     let alloc = rt.alloc();

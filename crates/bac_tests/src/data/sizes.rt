@@ -8,7 +8,7 @@ use bac_value::{Octets, Prim, Unsigned};
 use std::alloc::Global;
 use std::process::Abort;
 
-/// Numbers of octets of contents, and the octets of a head that tell them (clause 20.2.1.3.1).
+/// Numbers of octets of contents, and the length octets of the head of each (clause 20.2.1.3.1).
 const SIZES: [(usize, &[u8]); 3] = [
     (1_497, &[0xFE, 5, 0xD9]),
     (65_535, &[0xFE, 0xFF, 0xFF]),
@@ -18,7 +18,7 @@ const SIZES: [(usize, &[u8]); 3] = [
 /// The numbers of the elements of a long value.
 const NUMBERS: std::ops::Range<u16> = 1_000..11_000;
 
-/// With number 3 the value is written as these octets between its tags, behind others.
+/// Stops the test unless with number 3 the value is written as these octets between its tags, after others.
 fn is_written(rt: &impl Abort, alloc: Global, value: &Any, inner: &[u8]) {
     let octets = enclosed(alloc, &[0x3E], inner, &[0x3F], &[]).expect(rt, "memory");
     let front = vec![in alloc; 0xAA; 65_535].expect(rt, "memory");

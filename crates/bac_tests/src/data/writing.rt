@@ -18,7 +18,7 @@ fn contextual(rt: &impl Abort, alloc: Global, number: u8, octets: &[u8]) -> Any 
     finished(rt, builder)
 }
 
-/// With number 3 these octets are written between the tags, behind what is there.
+/// Stops the test unless with number 3 these octets are written between the tags, after what is there.
 fn writes(rt: &impl Abort, alloc: Global, value: &Any, inner: &str) {
     let inner = octets_of(inner).expect(rt, "octets");
     let wanted = enclosed(alloc, &[0xAA, 0x3E], &inner, &[0x3F], &[]).expect(rt, "memory");
@@ -82,7 +82,7 @@ fn context_primitives_and_groups_are_written_as_they_are(rt: HostRuntime) {
     writes(&rt, alloc, &finished(&rt, builder), "2E 19 55 2F");
 }
 
-// Where memory is refused, what was there stays.
+// If memory is refused, what was there stays.
 #[test]
 fn refused_memory_leaves_what_was_written_before(rt: HostRuntime) {
     let value = contextual(&rt, rt.alloc(), 1, &[0x55; 24]);

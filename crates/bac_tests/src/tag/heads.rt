@@ -20,7 +20,7 @@ fn context(number: u8, len: u32) -> TagHead {
 /// A head and how many octets it takes, or why none is read.
 type Found = Result<(TagHead, usize), Refusal>;
 
-/// What is found, as a table tells it.
+/// Returns what is found, in the words of a table.
 fn shown(alloc: Global, found: Found) -> Result<String, AllocError> {
     match found {
         Ok((head, taken)) => format!(in alloc; "{head:?} of {taken}"),
@@ -28,7 +28,7 @@ fn shown(alloc: Global, found: Found) -> Result<String, AllocError> {
     }
 }
 
-/// What is found is what the row tells, at the latest when memory is asked for again.
+/// Stops the test unless what is found is what the row says. If memory is refused for the words, it is asked for again.
 fn is_told(rt: &impl Abort, alloc: Global, row: &Row, found: Found) {
     let text = match shown(alloc, found) {
         Ok(text) => text,
@@ -37,7 +37,7 @@ fn is_told(rt: &impl Abort, alloc: Global, row: &Row, found: Found) {
     assert_same_of(rt, text.as_str(), row.told, row.octets);
 }
 
-/// Each row of the table is as it says, where this head is expected.
+/// Each row of the table is as it says, if this head is expected.
 fn expects(rt: &impl Abort, alloc: Global, expected: Expected, table: &str)
     requires { IsSound expected }
 {

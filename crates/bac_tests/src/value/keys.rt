@@ -12,7 +12,7 @@ use std::collections::HashMap;
 use std::hash::Hash;
 use std::process::Abort;
 
-/// The number is a priority, or it is told that it is none.
+/// Stops the test unless the number is accepted as a priority if `is_one` is true, and refused if it is false.
 fn tries_priority(rt: &impl Abort, number: u8, is_one: bool) {
     match Priority::try_from(number) {
         Ok(priority) => assert_holds(rt, is_one && priority.number() == number, number),
@@ -20,7 +20,7 @@ fn tries_priority(rt: &impl Abort, number: u8, is_one: bool) {
     }
 }
 
-/// The number is an instance, or it is told that it is none.
+/// Stops the test unless the number is accepted as an instance if `is_one` is true, and refused if it is false.
 fn tries_instance(rt: &impl Abort, number: u32, is_one: bool) {
     match Instance::try_from(number) {
         Ok(instance) => assert_holds(rt, is_one && instance.number() == number, number),

@@ -9,7 +9,7 @@ use std::process::Abort;
 
 #[test]
 fn hopeless_contents_are_those_of_the_type(rt: HostRuntime) {
-    // What Prim::hopeless requires: assert! tells it to the prover.
+    // What Prim::hopeless requires: assert! states it for the prover.
     assert!(rt; Prim::lengths(9) == (1, 8));
     assert_same(&rt, Prim::hopeless(9, &[1], 5), Some(0));
     assert_same(&rt, Prim::hopeless(9, &[0], 5), None);

@@ -17,7 +17,8 @@ fn copied(rt: &impl Abort, alloc: Global, octets: &[u8]) -> Vec<u8> {
     Vec::from_slice(alloc, octets).expect(rt, "memory")
 }
 
-/// By the bound alone: the value is made, and is the one with these contents, which are written behind as many octets.
+/// Stops the test unless, by the bound alone, the value is made and is the one with these contents, which are written
+/// after as many octets.
 fn is_made<T: Primitive + PartialEq>(
     rt: &impl Abort,
     alloc: Global,
@@ -33,7 +34,8 @@ fn is_made<T: Primitive + PartialEq>(
     assert_holds(rt, read == value, contents.len());
 }
 
-/// Canonical contents under their application number are those that are written, behind as many octets.
+/// Stops the test unless canonical contents under their application number are those that are written, after as many
+/// octets.
 fn are_kept(rt: &impl Abort, alloc: Global, number: u8, contents: &[u8])
     requires { number ≤ 12 }
 {
@@ -94,7 +96,8 @@ fn bits_of_every_size_are_made(rt: HostRuntime) {
     }
 }
 
-/// Canonical contents under an application number are written behind those octets, of their value and as they are.
+/// Stops the test unless canonical contents under an application number are written after those octets, of their value
+/// and as they are.
 fn is_written_behind(rt: &impl Abort, alloc: Global, number: u8, front: &[u8], contents: &str)
     requires { number ≤ 12 }
 {
@@ -108,7 +111,7 @@ fn is_written_behind(rt: &impl Abort, alloc: Global, number: u8, front: &[u8], c
     assert_joined(rt, &out, front, &contents);
 }
 
-/// What is written of a value of each type has its place behind a mebibyte.
+/// What is written of a value of each type is after a mebibyte.
 #[test]
 fn values_are_written_behind_many_octets(rt: HostRuntime) {
     let alloc = rt.alloc();

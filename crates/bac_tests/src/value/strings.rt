@@ -86,7 +86,7 @@ fn tells_apart<T: Primitive + PartialEq + Debug, E: Debug>(
     assert_same(rt, read, same.expect(rt, "the same"));
 }
 
-// Values are equal where they say the same, whatever unused bits were read. Of example 39 of docs/EXAMPLES.md.
+// Values are equal if they say the same, whatever unused bits were read. Of example 39 of docs/EXAMPLES.md.
 #[test]
 fn values_are_compared_by_what_they_say(rt: HostRuntime) {
     let alloc = rt.alloc();

@@ -1,4 +1,4 @@
-//! The text of messages in which each number stands once.
+//! The text of messages that have each number once.
 
 ghost use Rattle.std.specs.Prelude.{◌≡◌, ◌≤◌, ◌++◌, codes, IfOk, OnErr, length, take};
 ghost use Rattle.bac_tag.specs.Octets.{Extends};

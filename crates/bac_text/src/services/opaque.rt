@@ -9,7 +9,7 @@ use crate::texts::{HasText, write_short, write_word};
 use bac_service::{Kind, Opaque};
 use bac_tag::OutOfMemory;
 
-/// Writes what stands in front of the service choice.
+/// Writes what is before the service choice.
 #[inline(always)]
 fn write_choice_name(out: &mut Vec<u8>, at: usize, kind: Kind) -> Result<usize, OutOfMemory>
     requires { at ≤ length out.old.items }

@@ -47,7 +47,7 @@ pub(crate) fn put_cause<const N: usize>(
     put_field(room, end, b" code=", &code)
 }
 
-/// Writes a name, an object, and what stands behind it.
+/// Writes a name, an object, and the octets `behind` after it.
 #[inline(always)]
 pub(crate) fn write_object<const N: usize, const M: usize>(
     out: &mut Vec<u8>,

@@ -18,7 +18,7 @@ use std::alloc::{AllocError, Global};
 use std::marker::Model;
 
 /// A list of up to 8,388,600 bits. Its contents are one octet with the number of unused bits, 0 to 7, then the bits,
-/// eight to an octet, from its highest bit downwards. The unused bits stand last and may have any value: zeros are
+/// eight to an octet, from its highest bit downwards. The unused bits are last and may have any value: zeros are
 /// written. The contents of no bits are the one octet 0.
 #[derive(Debug)]
 pub struct Bits {
@@ -156,7 +156,7 @@ impl<'a> IntoIterator for &'a Bits {
     }
 }
 
-/// Returns the octets behind the count of unused bits.
+/// Returns the octets after the count of unused bits.
 fn behind_count(contents: &[u8]) -> &[u8]
     requires some { 1 ≤ length contents.now }
     requires least { IsLeastBits contents.now }

@@ -87,7 +87,7 @@ impl Text {
     }
 }
 
-/// Returns the octet `first`, and the octets of `rest` behind it.
+/// Returns the octet `first`, and the octets of `rest` after it.
 ///
 /// # Errors
 /// `AllocError` if memory is refused.

@@ -13,9 +13,8 @@ use crate::primitives::Primitive;
 use bac_tag::{OutOfMemory, Refusal};
 use std::alloc::Global;
 
-/// A date: four octets, which are the year less 1900, the month, the day of the month and the day of the
-/// week, from 1 for Monday. They are kept as they are: none is checked, and 255 stands for what is not
-/// specified.
+/// A date: four octets, which are the year less 1900, the month, the day of the month and the day of the week, from 1
+/// for Monday. They are kept as they are: none is checked, and 255 means that a part is not specified.
 #[derive(Clone, Copy, Debug, PartialEq, Eq, Hash)]
 pub struct Date(pub [u8; 4]);
 

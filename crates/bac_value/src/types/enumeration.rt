@@ -62,8 +62,8 @@ impl Primitive for Enumerated {
         Some(Enumerated(find_number(octets, size, 0, MOST)? as u32))
     }
 
-    /// Returns the place of the first octet that is not 0 in front of the last four, where only zeros can stand. The
-    /// last four are not looked at.
+    /// Returns the place of the first octet that is not 0 before the last four, where only zeros can be. The last four
+    /// are not looked at.
     fn hopeless(front: &[u8], size: usize) -> Option<usize> {
         let wide = front.len().min(size.saturating_sub(4));
         first_other_than_zero(&front[..wide])

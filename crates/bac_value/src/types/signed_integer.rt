@@ -54,7 +54,7 @@ fn repeats_sign(octet: u8, next: u8) -> bool
     (octet == 0 && next < 128) || (octet == 255 && next >= 128)
 }
 
-/// Returns how many octets in front only repeat the sign.
+/// Returns how many octets at the front only repeat the sign.
 fn signs_in_front(octets: &[u8]) -> usize
     requires { 0 < length octets.now }
     ensures within { result < length octets.now }
@@ -69,7 +69,7 @@ fn signs_in_front(octets: &[u8]) -> usize
     octets.len() - 1
 }
 
-/// Returns the octets without those in front that only repeat the sign.
+/// Returns the octets without those at the front that only repeat the sign.
 pub(crate) fn significant_signed(octets: &[u8]) -> &[u8]
     requires { HasNumberLength (length octets.now) }
     ensures { result.now ≡ least_signed (signed_number octets.now) }

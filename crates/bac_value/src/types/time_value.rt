@@ -13,8 +13,8 @@ use crate::primitives::Primitive;
 use bac_tag::{OutOfMemory, Refusal};
 use std::alloc::Global;
 
-/// A time of day: four octets, which are the hour, the minute, the second and the hundredths of a second.
-/// They are kept as they are: none is checked, and 255 stands for what is not specified.
+/// A time of day: four octets, which are the hour, the minute, the second and the hundredths of a second. They are kept
+/// as they are: none is checked, and 255 means that a part is not specified.
 #[derive(Clone, Copy, Debug, PartialEq, Eq, Hash)]
 pub struct Time(pub [u8; 4]);
 
