@@ -1,0 +1,9 @@
+use Rattle.std.proofs.Common.{length, refl, sym, ap, ◌∙◌}
+use Rattle.bac_tag.specs.Writing.{narrow_head}
+use Rattle.bac_fields.proofs.values.TypedHasFields.tell.Goals as goal
+
+pub returns : goal.returns
+returns g c =
+    let contents = sym c.written_len-length.ensures.len in
+    c.write_field.ensures _ refl (sym c.to_number.ensures)
+    (ap (λ n. length (narrow_head 0 g.T.Primitive.APP n)) contents ∙ ap (λ type. length (narrow_head 0 type c.written_len-length.result)) (sym c.APP.ensures) ∙ sym (c.head_len-head.ensures.octets 0)) contents

@@ -1,0 +1,39 @@
+-- The fields of properties, their values, and why they have none (clause 21).
+use Rattle.std.specs.Prelude.{ℕ, Option, List, [], ◌∷◌, ◌++◌}
+use Rattle.bac_service.specs.declared.services.error_cause.ErrorCause.{ErrorCause}
+use Rattle.bac_service.specs.declared.services.property_reference.PropertyReference.{PropertyReference}
+use Rattle.bac_service.specs.declared.services.property_result.ReadResult.{ReadResult}
+use Rattle.bac_service.specs.declared.services.property_result.ReadResult.TheVariants.{Value, Error}
+use Rattle.bac_service.specs.declared.services.property_result.PropertyResult.{PropertyResult}
+use Rattle.bac_service.specs.declared.services.property_value.PropertyValue.{PropertyValue}
+use Rattle.bac_fields.specs.declared.names.Name.TheVariants as name
+use Rattle.bac_fields.specs.Fields.{Step, next, optional, opening_field, closing_field}
+use Rattle.bac_fields.specs.PrimitiveFields.{number_under, enumerated_field}
+use Rattle.bac_fields.specs.OpenValueFields.{open_steps}
+
+-- a property under the first tag, and under the second the index, where one element is meant
+abbrev pub property_steps : ℕ → ℕ → ℕ → Option ℕ → List Step
+property_steps first second property index = next (number_under name.Property first property) ∷ optional (number_under name.Index second) index
+
+-- class and code of an error
+abbrev pub cause_steps : ℕ → ℕ → List Step
+cause_steps class code = next (enumerated_field name.ErrorClass class) ∷ next (enumerated_field name.ErrorCode code) ∷ []
+
+abbrev pub reference_steps : PropertyReference → List Step
+reference_steps reference = property_steps 0 1 reference.property reference.index
+
+-- an error between tags with this number
+abbrev pub error_steps : ℕ → ErrorCause → List Step
+error_steps tag cause =
+    next (opening_field name.PropertyError tag 0) ∷ (cause_steps cause.class cause.code ++ next (closing_field name.PropertyErrorEnd tag 0) ∷ [])
+
+abbrev pub read_result_steps : ReadResult → List Step
+read_result_steps (Value value) = open_steps 4 value
+read_result_steps (Error cause) = error_steps 5 cause
+
+abbrev pub property_result_steps : PropertyResult → List Step
+property_result_steps result = property_steps 2 3 result.property result.index ++ read_result_steps result.result
+
+abbrev pub property_value_steps : PropertyValue → List Step
+property_value_steps value =
+    property_steps 0 1 value.property value.index ++ (open_steps 2 value.value ++ optional (number_under name.Priority 3) value.priority)

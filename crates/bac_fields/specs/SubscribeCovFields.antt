@@ -1,0 +1,11 @@
+-- The fields of SubscribeCOV (clause 13.14).
+use Rattle.std.specs.Prelude.{List, ◌∷◌, ◌++◌}
+use Rattle.bac_service.specs.declared.services.subscribe_cov.SubscribeCov.{SubscribeCov}
+use Rattle.bac_fields.specs.declared.names.Name.TheVariants as name
+use Rattle.bac_fields.specs.Fields.{Step, next, optional, octet_field}
+use Rattle.bac_fields.specs.PrimitiveFields.{object_under, number_under, truth_under}
+
+abbrev pub subscribe_cov_steps : SubscribeCov → List Step
+subscribe_cov_steps request =
+    next (octet_field name.SubscribeCov 5) ∷ next (number_under name.Process 0 request.process) ∷ next (object_under name.Object 1 request.object)
+    ∷ (optional (truth_under name.Confirmed 2) request.confirmed ++ optional (number_under name.Lifetime 3) request.lifetime)

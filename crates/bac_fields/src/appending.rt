@@ -1,0 +1,101 @@
+//! Appending the fields of a frame.
+
+ghost use Rattle.std.specs.Prelude.{◌≡◌, ◌<◌, ◌≤◌, ◌++◌, IfNone, IfSome, IsSome, OnOk, OnErr, drop, length};
+ghost use Rattle.bac_tag.specs.Spelling.{AppendsLeast};
+ghost use Rattle.bac_npdu.specs.FrameHeads.{frame_with};
+ghost use Rattle.bac_npdu.specs.Frames.{SpellsFrame, body_value, value_of};
+ghost use Rattle.bac_fields.specs.FrameFields.{placed_fields, FrameFits};
+
+use crate::cursor::Cursor;
+use crate::field::Field;
+use crate::frames::tell_frame;
+use bac_npdu::{Body, Frame, FrameHead, append_frame};
+use bac_tag::OutOfMemory;
+
+/// The first octet of a frame, before any field.
+const START: Cursor = Cursor { count: 0, place: 0 };
+
+/// What room is filled with before fields are written into it.
+const BLANK: Field = Field {
+    name: 0,
+    number: 0,
+    place: 0,
+    head: 0,
+    length: 0,
+};
+
+/// Returns how many fields the frame with this head and this body has. None if a number has no room in a `usize`.
+fn count_fields(head: &FrameHead<'_>, body: &Body) -> Option<usize>
+    ensures count { IfSome result (λ count. count ≡ length (placed_fields (frame_with head.now (body_value body.now)))) }
+    ensures fits { IsSome result → FrameFits (frame_with head.now (body_value body.now)) }
+{
+    Some(tell_frame(head, body, START, &mut [])?.count)
+}
+
+/// Writes the fields of the frame with this head and this body at the front of room for them.
+fn fill(head: &FrameHead<'_>, body: &Body, room: &mut [Field])
+    requires room { length (placed_fields (frame_with head.now (body_value body.now))) ≤ length room.old }
+    requires fits { FrameFits (frame_with head.now (body_value body.now)) }
+    ensures { room.new ≡ placed_fields (frame_with head.now (body_value body.now)) ++ drop (length (placed_fields (frame_with head.now (body_value body.now)))) room.old }
+{
+    if tell_frame(head, body, START, room).is_none() {
+        unreachable!()
+    }
+}
+
+/// Writes the fields of the frame with this head and this body at the front of the room, if it has room for all of them.
+/// Returns how many they are. None if a number has no room in a `usize`, which no frame in memory comes to.
+pub fn write_fields(head: &FrameHead<'_>, body: &Body, room: &mut [Field]) -> Option<usize>
+    ensures count { IfSome result (λ count. count ≡ length (placed_fields (frame_with head.now (body_value body.now)))) }
+    ensures written { IfSome result (λ count. count ≤ length room.old → room.new ≡ placed_fields (frame_with head.now (body_value body.now)) ++ drop count room.old) }
+    ensures short { IfSome result (λ count. length room.old < count → room.new ≡ room.old) }
+    ensures none { IfNone result (room.new ≡ room.old) }
+{
+    let count = count_fields(head, body)?;
+    if count <= room.len() {
+        fill(head, body, room);
+    }
+    Some(count)
+}
+
+/// Appends the fields of a frame. If memory is refused, `fields` stays as it was.
+fn append_places(frame: &Frame, fields: &mut Vec<Field>) -> Result<(), OutOfMemory>
+    ensures ok { OnOk result (fields.new.items ≡ fields.old.items ++ placed_fields (value_of frame.now)) }
+    ensures err { OnErr result (fields.new.items ≡ fields.old.items) }
+{
+    let head = frame.head();
+    let start = fields.len();
+    let Some(count) = count_fields(&head, &frame.body) else {
+        return Err(OutOfMemory);
+    };
+    let Some(end) = start.checked_add(count) else {
+        return Err(OutOfMemory);
+    };
+    fields.resize(end, BLANK)?;
+    fill(&head, &frame.body, &mut fields[start..]);
+    Ok(())
+}
+
+/// Appends the canonical octets of a frame to what is in `octets`, and its fields to what is in `fields`: the parts of its
+/// line, in their order. The place of each is counted from the first octet of the frame.
+///
+/// # Errors
+/// `OutOfMemory` if memory is refused. `octets` and `fields` then stay as they were.
+pub fn append_fields(
+    frame: &Frame,
+    octets: &mut Vec<u8>,
+    fields: &mut Vec<Field>,
+) -> Result<(), OutOfMemory>
+    ensures octets { OnOk result (AppendsLeast (SpellsFrame (value_of frame.now)) octets.old.items octets.new.items) }
+    ensures fields { OnOk result (fields.new.items ≡ fields.old.items ++ placed_fields (value_of frame.now)) }
+    ensures unchanged_octets { OnErr result (octets.new.items ≡ octets.old.items) }
+    ensures unchanged_fields { OnErr result (fields.new.items ≡ fields.old.items) }
+{
+    let start = fields.len();
+    append_places(frame, fields)?;
+    let written = append_frame(frame, octets);
+    if written.is_err() {
+        fields.truncate(start);
+    }
+    written
+}

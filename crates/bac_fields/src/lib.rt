@@ -1,0 +1,42 @@
+//! A frame as fields: a flat list of the parts of its line, in their order, beside its canonical octets. Each field has a
+//! name, a number, and the place of its octets in the frame.
+//!
+//! [`append_fields`] appends the fields of a frame. docs/FORMATS.md has the table of the names, with what the number of
+//! each is and what contents it has. The call that only the library for C needs is in [`layers`].
+//!
+//! In the example `rt` is the program's `HostRuntime`.
+//!
+//! # How it works
+//!
+//! Whatever has fields implements the private trait `HasFields` (`parts.rt`), with its steps as a list, and a function
+//! that writes the fields of just these steps. A step (`Step` in `Fields.antt`) is a field whose octets come next, a
+//! number in an octet further on, or octets that are passed over. So one list says both which fields there are and
+//! where. The forms of fields and pairs of parts are types of `parts.rt`, `values.rt` and `open_values.rt`, so a message
+//! is written as nested pairs of its parts, as its definition in `specs` lists them. A message has a file in `specs` with
+//! the name of its type.
+//!
+//! A `Cursor` (`cursor.rt`) says how many fields are written and where the next octets are. A field for which there is
+//! no room is counted only. So the fields are counted by the same code, with no room at all (`append_fields` and
+//! `write_fields` in `appending.rt`), and written once their number is known. If a number had no room in a `usize`, a
+//! function would return None. Which numbers these are depends on the steps alone (`Fits`), so the second pass succeeds
+//! if the first one did.
+#![tactic(auto)]
+
+mod apdus;
+mod appending;
+mod cursor;
+mod field;
+mod frames;
+mod heads;
+pub mod layers;
+mod messages;
+mod names;
+mod open_values;
+mod parts;
+mod primitives;
+mod services;
+mod values;
+
+pub use appending::append_fields;
+pub use field::Field;
+pub use names::Name;
