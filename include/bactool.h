@@ -22,11 +22,11 @@
  *   - A pointer and a length are that many octets. The call reads them, and nobody may change them meanwhile. A pointer
  *     and a room are that many octets, which the call may write. NULL with length or room 0 is taken as no octets. No
  *     other pointer may be NULL.
- *   - What a call writes, `out` and `outcome`, must not overlap anything else that is passed to it. What it reads may
- *     overlap, and is never written.
- *   - Each call except bactool_reason and bactool_version returns one of the codes below and fills in the whole of
- *     `outcome`. If the code is not BACTOOL_OK, `out` is as it was. If it is, the octets after those written are as
- *     they were. No text ends in a NUL.
+ *   - What a call writes, `out`, `fields` and `outcome`, must not overlap anything else that is passed to it. What it
+ *     reads may overlap, and is never written.
+ *   - Each call except bactool_reason, bactool_name and bactool_version returns one of the codes below and fills in the whole of
+ *     `outcome`. If the code is not BACTOOL_OK, `out` and `fields` are as they were. If it is, what is after the
+ *     octets and the fields that are written is as it was. No text ends in a NUL.
  *
  * Link with -lbactool; `pkg-config --cflags --libs bactool` prints the flags.
  */
@@ -42,8 +42,8 @@ extern "C" {
 #endif
 
 /* The version of this header: 10,000 times the major number, plus 100 times the minor number, plus the patch number.
-   Here it is 0.1.0. */
-#define BACTOOL_VERSION 100
+   Here it is 0.2.0. */
+#define BACTOOL_VERSION 200
 
 /* What comes of a call. */
 enum bactool_code {
@@ -79,6 +79,127 @@ struct bactool_outcome {
     size_t place;  /* the offset, counted from 0, of the first octet that no frame can have there, or of the first one
                       that differs from the canonical octets; the length if the octets are only too short */
     size_t count;  /* the number of octets that are written, or that would be written if the room were not too small */
+    size_t fields; /* the number of fields that are written by bactool_decode, or that would be */
+};
+
+/*
+ * The names of fields. The fields of a frame are the parts of its text, in their order; docs/FORMATS.md has their table.
+ * In the comments a word in quotes is how the text begins the field. The numbers never change.
+ */
+enum bactool_name {
+    BACTOOL_FIELD_NETWORK_PRIORITY = 1, /* the network priority of the frame, 0 to 3 (clause 6.2.2) ("prio=") */
+    BACTOOL_FIELD_REPLY_EXPECTED = 2, /* whether a reply is expected: 0 or 1 (clause 6.2.2) ("reply=") */
+    /* the destination: its network, with the address on it as contents. An address without octets is that of every
+       device on the network ("dest=") */
+    BACTOOL_FIELD_DESTINATION = 3,
+    BACTOOL_FIELD_HOP_COUNT = 4, /* the hop count of the destination (clause 6.2.2) ("hops=") */
+    BACTOOL_FIELD_SOURCE = 5, /* the source: its network, with the address on it as contents ("src=") */
+    BACTOOL_FIELD_CONFIRMED_REQUEST = 10, /* a Confirmed-Request in one piece ("conf") */
+    BACTOOL_FIELD_UNCONFIRMED_REQUEST = 11, /* an Unconfirmed-Request ("unconf") */
+    BACTOOL_FIELD_SIMPLE_ACK = 12, /* a SimpleACK ("simple") */
+    BACTOOL_FIELD_COMPLEX_ACK = 13, /* a ComplexACK in one piece ("ack") */
+    BACTOOL_FIELD_SEGMENT_ACK = 14, /* a SegmentACK ("segack") */
+    BACTOOL_FIELD_ERROR = 15, /* an Error ("error") */
+    BACTOOL_FIELD_REJECT = 16, /* a Reject ("reject") */
+    BACTOOL_FIELD_ABORT = 17, /* an Abort ("abort") */
+    BACTOOL_FIELD_REQUEST_SEGMENT = 18, /* a segment of a Confirmed-Request ("conf-seg") */
+    BACTOOL_FIELD_ACK_SEGMENT = 19, /* a segment of a ComplexACK ("ack-seg") */
+    BACTOOL_FIELD_INVOKE_ID = 20, /* the invoke id ("id=") */
+    BACTOOL_FIELD_SEGMENTED_ACCEPTED = 21, /* whether a segmented answer is accepted: 0 or 1 ("sa=") */
+    /* how many segments of an answer are accepted, as the number 0 to 7 that encodes it ("segs=") */
+    BACTOOL_FIELD_MAX_SEGMENTS = 22,
+    /* how long an APDU of the answer may be, as the number 0 to 15 that encodes it ("resp=") */
+    BACTOOL_FIELD_MAX_RESPONSE = 23,
+    BACTOOL_FIELD_SEQUENCE = 24, /* the sequence number of a segment ("seq=") */
+    BACTOOL_FIELD_WINDOW = 25, /* the proposed or actual window, 1 to 127 ("win=") */
+    BACTOOL_FIELD_MORE = 26, /* whether more segments follow: 0 or 1 ("more=") */
+    BACTOOL_FIELD_NEGATIVE = 27, /* whether a segment was received out of order: 0 or 1 ("nak=") */
+    BACTOOL_FIELD_SERVER = 28, /* whether the server sent it: 0 or 1 ("srv=") */
+    /* why a request was rejected, a transaction aborted, or a frame not passed on ("reason=") */
+    BACTOOL_FIELD_REASON = 29,
+    BACTOOL_FIELD_CHOICE = 30, /* the service choice, where no word names the service ("choice=") */
+    BACTOOL_FIELD_OCTETS = 31, /* the octets of an opaque service, or the piece of a segment, as contents ("octets=") */
+    BACTOOL_FIELD_NETWORK_MESSAGE = 40, /* a network message, with its message type ("net type=") */
+    BACTOOL_FIELD_NETWORK = 41, /* the number of a network ("network=") */
+    BACTOOL_FIELD_NETWORKS = 42, /* a list of networks begins ("networks=(") */
+    BACTOOL_FIELD_LISTED_NETWORK = 43, /* one network of a list */
+    BACTOOL_FIELD_PERFORMANCE = 44, /* how well a connection performs ("performance=") */
+    BACTOOL_FIELD_PORTS = 45, /* a routing table begins ("ports=(") */
+    BACTOOL_FIELD_PORT_ID = 46, /* the number of a port of a routing table ("id=") */
+    BACTOOL_FIELD_PORT_INFO = 47, /* the information on a port, as contents ("info=") */
+    BACTOOL_FIELD_TIME = 48, /* how long a connection is to stay, in minutes; 0 means until it is ended ("time=") */
+    BACTOOL_FIELD_FLAG = 49, /* whether the number of a network was configured or learned ("flag=") */
+    BACTOOL_FIELD_VENDOR = 50, /* a vendor identifier ("vendor=") */
+    BACTOOL_FIELD_DATA = 51, /* the octets of a network message without a layout, as contents ("data=") */
+    BACTOOL_FIELD_READ_PROPERTY = 60, /* a ReadProperty or its answer ("ReadProperty") */
+    BACTOOL_FIELD_READ_PROPERTY_MULTIPLE = 61, /* a ReadPropertyMultiple or its answer ("ReadPropertyMultiple") */
+    BACTOOL_FIELD_WRITE_PROPERTY = 62, /* a WriteProperty ("WriteProperty") */
+    BACTOOL_FIELD_WRITE_PROPERTY_MULTIPLE = 63, /* a WritePropertyMultiple ("WritePropertyMultiple") */
+    BACTOOL_FIELD_WHO_IS = 64, /* a Who-Is ("Who-Is") */
+    BACTOOL_FIELD_I_AM = 65, /* an I-Am ("I-Am") */
+    BACTOOL_FIELD_SUBSCRIBE_COV = 66, /* a SubscribeCOV ("SubscribeCOV") */
+    BACTOOL_FIELD_CONFIRMED_COV_NOTIFICATION = 67, /* a ConfirmedCOVNotification ("ConfirmedCOVNotification") */
+    BACTOOL_FIELD_UNCONFIRMED_COV_NOTIFICATION = 68, /* an UnconfirmedCOVNotification ("UnconfirmedCOVNotification") */
+    /* a service whose octets are kept as they are. Its choice is a field of its own ("opaque") */
+    BACTOOL_FIELD_OPAQUE = 69,
+    /* an object identifier, as its 32 bits: 10 for the type and 22 for the instance ("object=") */
+    BACTOOL_FIELD_OBJECT = 80,
+    BACTOOL_FIELD_PROPERTY = 81, /* a property identifier ("property=") */
+    BACTOOL_FIELD_INDEX = 82, /* the index of an element of an array ("index=") */
+    BACTOOL_FIELD_PRIORITY = 83, /* the priority of a write, 1 to 16 ("priority=") */
+    BACTOOL_FIELD_PROCESS = 84, /* the number of the subscriber's process ("process=") */
+    /* the device that sends a notification, as the 32 bits of its object identifier ("device=") */
+    BACTOOL_FIELD_DEVICE = 85,
+    BACTOOL_FIELD_CONFIRMED = 86, /* whether notifications are to be confirmed: 0 or 1 ("confirmed=") */
+    BACTOOL_FIELD_LIFETIME = 87, /* how many seconds a subscription is to last; 0 is without end ("lifetime=") */
+    BACTOOL_FIELD_REMAINING = 88, /* how many seconds a subscription continues; 0 is without end ("remaining=") */
+    BACTOOL_FIELD_LOW = 89, /* the lowest instance that is sought ("low=") */
+    BACTOOL_FIELD_HIGH = 90, /* the highest instance that is sought ("high=") */
+    BACTOOL_FIELD_MAX_APDU = 91, /* how many octets of an APDU a device accepts ("apdu=") */
+    BACTOOL_FIELD_SEGMENTATION = 92, /* which segmentation a device supports ("segmentation=") */
+    BACTOOL_FIELD_ERROR_CLASS = 93, /* the class of an error ("class=") */
+    BACTOOL_FIELD_ERROR_CODE = 94, /* the code of an error ("code=") */
+    BACTOOL_FIELD_SPECIFICATIONS = 110, /* a list of access specifications begins ("specs=(") */
+    BACTOOL_FIELD_PROPERTIES = 111, /* a list of references to properties begins ("properties=(") */
+    BACTOOL_FIELD_RESULTS = 112, /* a list of results begins ("results=(") */
+    BACTOOL_FIELD_VALUES = 113, /* a list of values of properties begins ("values=(") */
+    BACTOOL_FIELD_LIST_END = 114, /* a list ends (")") */
+    BACTOOL_FIELD_ITEM = 115, /* an item of a list begins ("(") */
+    BACTOOL_FIELD_ITEM_END = 116, /* an item of a list ends (")") */
+    BACTOOL_FIELD_VALUE = 117, /* an open value begins ("value={") */
+    BACTOOL_FIELD_VALUE_END = 118, /* an open value ends ("}") */
+    /* why a property has no value begins: the class and the code of an error ("error=(") */
+    BACTOOL_FIELD_PROPERTY_ERROR = 119,
+    BACTOOL_FIELD_PROPERTY_ERROR_END = 120, /* why a property has no value ends (")") */
+    BACTOOL_FIELD_GROUP = 121, /* a group with this number begins in an open value ("[N]{") */
+    BACTOOL_FIELD_GROUP_END = 122, /* a group ends. It has this number ("}") */
+    BACTOOL_FIELD_NULL = 130, /* a Null ("null") */
+    BACTOOL_FIELD_BOOLEAN = 131, /* a Boolean: 0 or 1 ("true" or "false") */
+    BACTOOL_FIELD_UNSIGNED = 132, /* an Unsigned Integer ("u:") */
+    BACTOOL_FIELD_SIGNED = 133, /* a Signed Integer, as 64 bits of two's complement ("i:") */
+    BACTOOL_FIELD_REAL = 134, /* the 32 bits of a Real ("r:") */
+    BACTOOL_FIELD_DOUBLE = 135, /* the 64 bits of a Double ("d:") */
+    BACTOOL_FIELD_OCTET_STRING = 136, /* an Octet String: its octets as contents ("o:") */
+    /* a Character String: the number of its character set, and the octets after that number as contents ("s:") */
+    BACTOOL_FIELD_CHARACTER_STRING = 137,
+    /* a Bit String: how many bits, and the octets that hold them as contents, each from bit 7 downwards. Unused bits
+       are 0 ("b:") */
+    BACTOOL_FIELD_BIT_STRING = 138,
+    BACTOOL_FIELD_ENUMERATED = 139, /* an Enumerated ("e:") */
+    BACTOOL_FIELD_DATE = 140, /* a Date: its four octets as contents ("D:") */
+    BACTOOL_FIELD_TIME_OF_DAY = 141, /* a Time: its four octets as contents ("T:") */
+    BACTOOL_FIELD_OBJECT_IDENTIFIER = 142, /* an object identifier, as its 32 bits ("id:") */
+    /* a context primitive: the number of its tag, and its octets as contents ("[N]") */
+    BACTOOL_FIELD_CONTEXT_PRIMITIVE = 143
+};
+
+/* A part of the text of a frame, and where its octets are in the canonical octets of the frame. */
+struct bactool_field {
+    uint32_t name;   /* an enum bactool_name */
+    uint64_t number; /* the number that it says, or 0 if it says none */
+    size_t place;    /* the offset of its first octet, counted from 0 */
+    size_t head;     /* how many octets its head has, such as a tag */
+    size_t length;   /* how many octets its contents have, after the head */
 };
 
 /*
@@ -112,6 +233,37 @@ uint32_t bactool_check(const uint8_t *octets, size_t length, bool strict, struct
  */
 uint32_t bactool_normalise(const uint8_t *octets, size_t length, uint8_t *out, size_t room,
                            struct bactool_outcome *outcome);
+
+/*
+ * Writes, at the front of `out`, the canonical octets of the frame that the octets spell, as bactool_normalise does,
+ * and at the front of `fields` its fields, in the order of its text. A number is in its field, and contents such as a
+ * string are in `out`, after the head of their field. To learn how much room is needed, call with room 0 and `most` 0.
+ *
+ *   BACTOOL_OK          both are written: `count` octets and `fields` fields
+ *   BACTOOL_NO_ROOM     `room` or `most` is too small: nothing is written, and `count` and `fields` are what is needed
+ *   BACTOOL_REFUSED     the octets passed are refused: `why` and `place`
+ *   BACTOOL_NO_MEMORY   memory was refused
+ *
+ *     uint8_t canonical[1497];
+ *     struct bactool_field fields[256];
+ *     if (bactool_decode(octets, length, canonical, sizeof canonical, fields, 256, &outcome) == BACTOOL_OK) {
+ *         const struct bactool_field *object = bactool_find(fields, outcome.fields, BACTOOL_FIELD_OBJECT);
+ *         if (object != NULL)
+ *             printf("object %u:%u\n", (unsigned)(object->number >> 22), (unsigned)(object->number & 0x3FFFFF));
+ *     }
+ */
+uint32_t bactool_decode(const uint8_t *octets, size_t length, uint8_t *out, size_t room, struct bactool_field *fields,
+                        size_t most, struct bactool_outcome *outcome);
+
+/* Returns the first of `count` fields with this name, or NULL. */
+static inline const struct bactool_field *bactool_find(const struct bactool_field *fields, size_t count,
+                                                       enum bactool_name name)
+{
+    for (size_t i = 0; i < count; i++)
+        if (fields[i].name == (uint32_t)name)
+            return &fields[i];
+    return NULL;
+}
 
 /*
  * Writes, at the front of `out`, the text of the frame that the octets spell, as `bactool show` prints it: one line,
@@ -155,6 +307,17 @@ uint32_t bactool_same_meaning(const uint8_t *left, size_t left_length, const uin
  */
 size_t bactool_reason(uint32_t why, char *out, size_t room);
 
+/*
+ * Writes the word of the name with the number `name`, such as "object", at the front of `out`, if `room` is at least its
+ * length. It is what the text of a frame has before the `=`, `(`, `{` or `:` of the field; a field that has no word there
+ * has one that says what it is, such as "end". A room of 32 is enough for each word. Returns the length of the word, even
+ * if nothing is written, or 0 if no name has the number.
+ *
+ *     char word[32];
+ *     printf("%.*s\n", (int)bactool_name(fields[0].name, word, sizeof word), word);
+ */
+size_t bactool_name(uint32_t name, char *out, size_t room);
+
 /* Returns the version of the library as a number, by the same rule as BACTOOL_VERSION. */
 uint32_t bactool_version(void);
 
@@ -181,6 +344,12 @@ static inline char *bactool_text(char *out)
     return out != NULL ? out : &none;
 }
 
+static inline struct bactool_field *bactool_fields(struct bactool_field *fields)
+{
+    static struct bactool_field none;
+    return fields != NULL ? fields : &none;
+}
+
 static inline uint32_t bactool_check_any(const uint8_t *octets, size_t length, bool strict,
                                          struct bactool_outcome *outcome)
 {
@@ -191,6 +360,13 @@ static inline uint32_t bactool_normalise_any(const uint8_t *octets, size_t lengt
                                              struct bactool_outcome *outcome)
 {
     return bactool_normalise(bactool_octets(octets), length, bactool_room(out), room, outcome);
+}
+
+static inline uint32_t bactool_decode_any(const uint8_t *octets, size_t length, uint8_t *out, size_t room,
+                                          struct bactool_field *fields, size_t most, struct bactool_outcome *outcome)
+{
+    return bactool_decode(bactool_octets(octets), length, bactool_room(out), room, bactool_fields(fields), most,
+                          outcome);
 }
 
 static inline uint32_t bactool_show_any(const uint8_t *octets, size_t length, char *out, size_t room,
@@ -210,11 +386,18 @@ static inline size_t bactool_reason_any(uint32_t why, char *out, size_t room)
     return bactool_reason(why, bactool_text(out), room);
 }
 
+static inline size_t bactool_name_any(uint32_t name, char *out, size_t room)
+{
+    return bactool_name(name, bactool_text(out), room);
+}
+
 #define bactool_check(...) bactool_check_any(__VA_ARGS__)
 #define bactool_normalise(...) bactool_normalise_any(__VA_ARGS__)
+#define bactool_decode(...) bactool_decode_any(__VA_ARGS__)
 #define bactool_show(...) bactool_show_any(__VA_ARGS__)
 #define bactool_same_meaning(...) bactool_same_meaning_any(__VA_ARGS__)
 #define bactool_reason(...) bactool_reason_any(__VA_ARGS__)
+#define bactool_name(...) bactool_name_any(__VA_ARGS__)
 
 #ifdef __cplusplus
 }

@@ -1,1 +1,2 @@
 mod OutcomeLemmas
+pub mod FrameLemmas

@@ -3,11 +3,13 @@ use Rattle.std.specs.Prelude.{◌≡◌, ◌≢◌, ◌⊎◌, ℕ, ◌<◌, ◌
 use Rattle.bac_tag.specs.declared.refusals.Refusal.{Refusal}
 use Rattle.bac_tag.specs.declared.refusals.Why.{Why}
 use Rattle.bac_tag.specs.declared.refusals.Why.TheVariants.{Short, Trailing, Version, Address, PduType, Window, Tag, Length, Content, Depth, NotCanonical, OutOfMemory}
-use Rattle.bac_tag.specs.Spelling.{IsWholeRefusal, IsCanonical as IsCanonicalOf}
+use Rattle.bac_tag.specs.Spelling.{IsLeast, IsWholeRefusal, IsCanonical as IsCanonicalOf}
 use Rattle.bac_npdu.specs.Frames.{FrameValue, SpellsFrame}
 use Rattle.bac_npdu.specs.Decoded.{IsReasoned}
 use Rattle.bac_npdu.specs.Meanings.{IsFirstFlaw}
 use Rattle.bac_text.specs.FrameText.{text}
+use Rattle.bac_fields.specs.declared.field.Field.{Field}
+use Rattle.bac_fields.specs.FrameFields.{placed_fields}
 use Rattle.bac_c.specs.declared.outcomes.Outcome.{Outcome}
 
 -- the number of a reason, as in the header
@@ -29,23 +31,27 @@ number_of OutOfMemory = 12
 
 -- the code says all
 abbrev pub nothing : Outcome
-nothing = record { why = 0; place = 0; count = 0 }
+nothing = record { why = 0; place = 0; count = 0; fields = 0 }
 
 -- a place alone
 abbrev pub differs_at : ℕ → Outcome
-differs_at place = record { why = 0; place = place; count = 0 }
+differs_at place = record { why = 0; place = place; count = 0; fields = 0 }
 
 -- a refusal alone
 abbrev pub refused_as : Refusal → Outcome
-refused_as refusal = record { why = number_of refusal.why; place = refusal.place; count = 0 }
+refused_as refusal = record { why = number_of refusal.why; place = refusal.place; count = 0; fields = 0 }
 
 -- a number of octets alone
 abbrev pub counted : ℕ → Outcome
-counted count = record { why = 0; place = 0; count = count }
+counted count = record { why = 0; place = 0; count = count; fields = 0 }
+
+-- a number of octets and one of fields
+abbrev pub decoded : ℕ → ℕ → Outcome
+decoded count fields = record { why = 0; place = 0; count = count; fields = fields }
 
 -- memory was refused
 abbrev pub without_memory : Outcome
-without_memory = record { why = number_of OutOfMemory; place = 0; count = 0 }
+without_memory = record { why = number_of OutOfMemory; place = 0; count = 0; fields = 0 }
 
 -- ---- refusals
 
@@ -90,3 +96,32 @@ pub record LacksRoom (Wanted : List ℕ → Type 0) (old : List ℕ) (outcome : 
   pub wanted : Wanted octets
   pub lacking : length old < length octets
   pub told : outcome ≡ counted (length octets)
+
+-- ---- fields
+
+-- What is told of a frame that the octets spell: its canonical octets and its fields, and how many they are.
+pub record IsTold (octets : List ℕ) (canonical : List ℕ) (fields : List Field) (outcome : Outcome) : Type 0 where
+  pub frame : FrameValue
+  pub spelled : SpellsFrame frame octets
+  pub is_least : IsLeast (SpellsFrame frame) canonical
+  pub fields_are : fields ≡ placed_fields frame
+  pub told : outcome ≡ decoded (length canonical) (length fields)
+
+-- the new list has these items in front, and behind them what was there
+abbrev pub IsFront : {X : Type 0} → List X → List X → List X → Type 0
+IsFront items old new = new ≡ items ++ drop (length items) old
+
+-- The new lists have the canonical octets and the fields of the frame in front, and behind them what was there.
+pub record IsDecoded (octets : List ℕ) (old new : List ℕ) (was are : List Field) (outcome : Outcome) : Type 0 where
+  pub canonical : List ℕ
+  pub fields : List Field
+  pub of_frame : IsTold octets canonical fields outcome
+  pub new_is : IsFront canonical old new
+  pub fields_are : IsFront fields was are
+
+-- One of the lists has no room for them.
+pub record LacksEither (octets : List ℕ) (old : List ℕ) (was : List Field) (outcome : Outcome) : Type 0 where
+  pub canonical : List ℕ
+  pub fields : List Field
+  pub of_frame : IsTold octets canonical fields outcome
+  pub lacking : (length old < length canonical) ⊎ (length was < length fields)

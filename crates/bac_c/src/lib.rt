@@ -30,6 +30,8 @@
 mod checking;
 mod codes;
 mod comparing;
+mod decoding;
+mod field_names;
 mod normalising;
 mod outcomes;
 mod reasons;
@@ -43,6 +45,8 @@ pub use codes::{
     BACTOOL_REFUSED, BACTOOL_RIGHT_REFUSED, BACTOOL_TOLERATED,
 };
 pub use comparing::bactool_same_meaning;
+pub use decoding::bactool_decode;
+pub use field_names::bactool_name;
 pub use normalising::bactool_normalise;
 pub use outcomes::Outcome;
 pub use reasons::bactool_reason;

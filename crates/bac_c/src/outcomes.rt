@@ -1,7 +1,7 @@
 //! What a call reports beside its code.
 
 ghost use Rattle.std.specs.Prelude.{◌≡◌};
-ghost use Rattle.bac_c.specs.Outcomes.{counted as counted_value, differs_at as differing, nothing as nothing_told, refused_as};
+ghost use Rattle.bac_c.specs.Outcomes.{counted as counted_value, decoded as decoded_value, differs_at as differing, nothing as nothing_told, refused_as};
 
 use bac_tag::Refusal;
 
@@ -16,6 +16,8 @@ pub struct Outcome {
     pub place: usize,
     /// The number of octets that are written, or that would be written if the room were not too small.
     pub count: usize,
+    /// The number of fields that are written, or that would be written if there were room for all.
+    pub fields: usize,
 }
 
 impl Outcome {
@@ -27,6 +29,7 @@ impl Outcome {
             why: 0,
             place: 0,
             count: 0,
+            fields: 0,
         }
     }
 
@@ -38,6 +41,7 @@ impl Outcome {
             why: 0,
             place,
             count: 0,
+            fields: 0,
         }
     }
 
@@ -49,6 +53,7 @@ impl Outcome {
             why: refusal.why as u32,
             place: refusal.place,
             count: 0,
+            fields: 0,
         }
     }
 
@@ -60,6 +65,19 @@ impl Outcome {
             why: 0,
             place: 0,
             count,
+            fields: 0,
+        }
+    }
+
+    /// Returns the outcome for `count` octets and so many fields that are written, or would be.
+    pub(crate) fn decoded(count: usize, fields: usize) -> Outcome
+        ensures { result ≡ decoded_value count fields }
+    {
+        Outcome {
+            why: 0,
+            place: 0,
+            count,
+            fields,
         }
     }
 }
