@@ -81,6 +81,24 @@ fn append_places(frame: &Frame, fields: &mut Vec<Field>) -> Result<(), OutOfMemo
 ///
 /// # Errors
 /// `OutOfMemory` if memory is refused. `octets` and `fields` then stay as they were.
+///
+/// # Examples
+/// ```rust
+/// use bac_fields::{Name, append_fields};
+/// use bac_npdu::decode_frame;
+///
+/// // A Who-Is to every device on every network.
+/// let octets = [0x01, 0x20, 0xFF, 0xFF, 0x00, 0xFF, 0x10, 0x08];
+/// let frame = decode_frame(rt.alloc(), &octets)?;
+/// let mut canonical = Vec::new(rt.alloc());
+/// let mut fields = Vec::new(rt.alloc());
+/// append_fields(&frame, &mut canonical, &mut fields)?;
+/// assert_eq!(rt; canonical.as_slice(), octets.as_slice());
+/// // Its line is `prio=0 reply=0 dest=65535/* hops=255 unconf Who-Is`.
+/// assert_eq!(rt; fields.len(), 6);
+/// assert_eq!(rt; fields[2].name, Name::Destination.number());
+/// assert_eq!(rt; (fields[2].number, fields[2].place), (0xFFFF, 2));
+/// ```
 pub fn append_fields(
     frame: &Frame,
     octets: &mut Vec<u8>,

@@ -1,6 +1,7 @@
-//! The examples of the doc comments of bac_apdu, bac_segment, bac_npdu and bac_text, with the same lines.
+//! The examples of the doc comments of bac_apdu, bac_segment, bac_npdu, bac_text and bac_fields, with the same lines.
 
 use bac_apdu::{Apdu, SegHead, decode_apdu, encode_apdu};
+use bac_fields::{Name, append_fields};
 use bac_npdu::{
     Body, Frame, NetMessage, NetPriority, Side, decode_frame, decode_strict, encode_frame,
     normalise_frame, same_meaning,
@@ -157,5 +158,22 @@ fn a_frame_is_shown(rt: HostRuntime) -> Result<(), Fail> {
     let mut line = Vec::new(rt.alloc());
     append_text(&frame, &mut line)?;
     assert!(rt; line.ends_with(b"dest=65535/* hops=255 unconf Who-Is"));
+    Ok(())
+}
+
+// Of `bac_fields::append_fields`.
+#[test]
+fn fields_are_appended(rt: HostRuntime) -> Result<(), Fail> {
+    // A Who-Is to every device on every network.
+    let octets = [0x01, 0x20, 0xFF, 0xFF, 0x00, 0xFF, 0x10, 0x08];
+    let frame = decode_frame(rt.alloc(), &octets)?;
+    let mut canonical = Vec::new(rt.alloc());
+    let mut fields = Vec::new(rt.alloc());
+    append_fields(&frame, &mut canonical, &mut fields)?;
+    assert_eq!(rt; canonical.as_slice(), octets.as_slice());
+    // Its line is `prio=0 reply=0 dest=65535/* hops=255 unconf Who-Is`.
+    assert_eq!(rt; fields.len(), 6);
+    assert_eq!(rt; fields[2].name, Name::Destination.number());
+    assert_eq!(rt; (fields[2].number, fields[2].place), (0xFFFF, 2));
     Ok(())
 }

@@ -1,0 +1,73 @@
+//! Fields of many elements and of many octets, and what was there before them.
+
+use bac_fields::{Field, Name, append_fields};
+use bac_npdu::decode_frame;
+use bac_tables::enclosed;
+use std::alloc::Global;
+use std::process::Abort;
+
+/// An answer with the property 85 of the object 0:5, up to the opening tag of its value.
+const ANSWER: [u8; 13] = [1, 0, 0x30, 1, 0x0C, 0x0C, 0, 0, 0, 5, 0x19, 0x55, 0x3E];
+
+/// What `octets` and `fields` hold before anything is appended.
+const BEFORE: Field = Field {
+    name: 1,
+    number: 2,
+    place: 3,
+    head: 4,
+    length: 5,
+};
+
+/// Stops the test unless the frame with these octets, which are canonical, has so many fields, and what was in the vectors
+/// stays before what is appended. Returns the field with this index.
+fn field_of(rt: &impl Abort, alloc: Global, octets: &[u8], count: usize, index: usize) -> Field {
+    let frame = decode_frame(alloc, octets).expect(rt, "a frame");
+    let mut canonical = Vec::from_slice(alloc, &[7]).expect(rt, "memory");
+    let mut fields = Vec::from_slice(alloc, &[BEFORE]).expect(rt, "memory");
+    append_fields(&frame, &mut canonical, &mut fields).expect(rt, "memory");
+    assert_eq!(rt; canonical.first(), Some(&7));
+    assert_eq!(rt; canonical.get(1..).unwrap_or(&[]), octets);
+    assert_eq!(rt; fields.first(), Some(&BEFORE));
+    assert_eq!(rt; fields.len(), 1 + count);
+    *fields.get(1 + index).expect(rt, "a field")
+}
+
+/// A value of so many Nulls has a field for each.
+fn nulls_have_their_fields(rt: &impl Abort, alloc: Global, size: usize) {
+    let nulls = vec![in alloc; 0; size].expect(rt, "memory");
+    let octets = enclosed(alloc, &ANSWER, &nulls, &[], &[0x3F]).expect(rt, "memory");
+    let end = Field {
+        name: Name::ValueEnd.number(),
+        number: 0,
+        place: 13 + size,
+        head: 1,
+        length: 0,
+    };
+    let found = field_of(rt, alloc, &octets, 9 + size, 8 + size);
+    assert_eq!(rt; found, end);
+}
+
+#[test]
+fn many_elements_have_their_fields(rt: HostRuntime) {
+    nulls_have_their_fields(&rt, rt.alloc(), 0);
+    nulls_have_their_fields(&rt, rt.alloc(), 1);
+    nulls_have_their_fields(&rt, rt.alloc(), 1_000);
+    nulls_have_their_fields(&rt, rt.alloc(), 100_000);
+}
+
+// The head of an Octet String of a mebibyte is its tag, FF and four octets of length (clause 20.2.1.3.1).
+#[test]
+fn many_octets_have_one_field(rt: HostRuntime) {
+    let octets = vec![in rt.alloc(); 0xAB; 1_048_576].expect(&rt, "memory");
+    let head = [0x65, 0xFF, 0x00, 0x10, 0x00, 0x00];
+    let whole = enclosed(rt.alloc(), &ANSWER, &head, &octets, &[0x3F]).expect(&rt, "memory");
+    let string = Field {
+        name: Name::OctetString.number(),
+        number: 0,
+        place: 13,
+        head: 6,
+        length: 1_048_576,
+    };
+    let found = field_of(&rt, rt.alloc(), &whole, 10, 8);
+    assert_eq!(rt; found, string);
+}
