@@ -63,7 +63,7 @@ try-helpers:
 # Where make install puts what it installs; DESTDIR is put before it.
 PREFIX ?= /usr/local
 TO = $(DESTDIR)$(PREFIX)
-INSTALLED = bin/bactool include/bactool.h lib/libbactool.a lib/libbactool.so lib/libbactool.so.0 \
+INSTALLED = bin/bactool include/bactool.h lib/libbactool.a lib/libbactool.so lib/libbactool.so.1 \
 	lib/pkgconfig/bactool.pc share/man/man1/bactool.1 share/bactool/npdus-from-capture share/bactool/with-names \
 	share/bactool/bactool.py share/bash-completion/completions/bactool share/zsh/site-functions/_bactool
 VERSION := $(shell cat VERSION)
@@ -82,8 +82,8 @@ install:
 	@install -m 755 bin/bactool $(TO)/bin/bactool
 	@install -m 644 include/bactool.h $(TO)/include/bactool.h
 	@install -m 644 lib/libbactool.a $(TO)/lib/libbactool.a
-	@install -m 755 lib/libbactool.so.0 $(TO)/lib/libbactool.so.0
-	@ln -sf libbactool.so.0 $(TO)/lib/libbactool.so
+	@install -m 755 lib/libbactool.so.1 $(TO)/lib/libbactool.so.1
+	@ln -sf libbactool.so.1 $(TO)/lib/libbactool.so
 	@sed 's|@PREFIX@|$(PREFIX)|; s|@VERSION@|$(VERSION)|' include/bactool.pc.in > $(TO)/lib/pkgconfig/bactool.pc
 	@chmod 644 $(TO)/lib/pkgconfig/bactool.pc
 	@install -m 644 docs/bactool.1 $(TO)/share/man/man1/bactool.1

@@ -24,11 +24,13 @@
  *     other pointer may be NULL.
  *   - What a call writes, `out`, `fields` and `outcome`, must not overlap anything else that is passed to it. What it
  *     reads may overlap, and is never written.
- *   - Each call except bactool_reason, bactool_name and bactool_version returns one of the codes below and fills in the whole of
- *     `outcome`. If the code is not BACTOOL_OK, `out` and `fields` are as they were. If it is, what is after the
- *     octets and the fields that are written is as it was. No text ends in a NUL.
+ *   - Each call except bactool_reason, bactool_name and bactool_version returns one of the codes below and fills in the
+ *     whole of `outcome`. If the code is not BACTOOL_OK, `out` and `fields` are as they were. If it is, what is after
+ *     the octets and the fields that are written is as it was. No text ends in a NUL.
  *
- * Link with -lbactool; `pkg-config --cflags --libs bactool` prints the flags.
+ * Link with -lbactool; `pkg-config --cflags --libs bactool` prints the flags. The shared library is libbactool.so.1.
+ * The 1 changes with each release in which a struct, a number or a call of this header is no longer what it was. A call
+ * or a name that is new does not change it.
  */
 #ifndef BACTOOL_H
 #define BACTOOL_H
@@ -83,8 +85,8 @@ struct bactool_outcome {
 };
 
 /*
- * The names of fields. The fields of a frame are the parts of its text, in their order; docs/FORMATS.md has their table.
- * In the comments a word in quotes is how the text begins the field. The numbers never change.
+ * The names of fields. The fields of a frame are the parts of its text, in their order; docs/FORMATS.md has their
+ * table. In the comments a word in quotes is how the text begins the field. The numbers never change.
  */
 enum bactool_name {
     BACTOOL_FIELD_NETWORK_PRIORITY = 1, /* the network priority of the frame, 0 to 3 (clause 6.2.2) ("prio=") */
@@ -228,7 +230,7 @@ uint32_t bactool_check(const uint8_t *octets, size_t length, bool strict, struct
  *   BACTOOL_NO_MEMORY   memory was refused
  *
  *     uint8_t canonical[1497];
- *     if (length <= sizeof canonical && bactool_normalise(octets, length, canonical, sizeof canonical, &outcome) == BACTOOL_OK)
+ *     if (bactool_normalise(octets, length, canonical, sizeof canonical, &outcome) == BACTOOL_OK)
  *         send(socket, canonical, outcome.count, 0);
  */
 uint32_t bactool_normalise(const uint8_t *octets, size_t length, uint8_t *out, size_t room,
@@ -308,10 +310,10 @@ uint32_t bactool_same_meaning(const uint8_t *left, size_t left_length, const uin
 size_t bactool_reason(uint32_t why, char *out, size_t room);
 
 /*
- * Writes the word of the name with the number `name`, such as "object", at the front of `out`, if `room` is at least its
- * length. It is what the text of a frame has before the `=`, `(`, `{` or `:` of the field; a field that has no word there
- * has one that says what it is, such as "end". A room of 32 is enough for each word. Returns the length of the word, even
- * if nothing is written, or 0 if no name has the number.
+ * Writes the word of the name with the number `name`, such as "object", at the front of `out`, if `room` is at least
+ * its length. It is what the text of a frame has before the `=`, `(`, `{` or `:` of the field; a field that has no word
+ * there has one that says what it is, such as "end". A room of 32 is enough for each word. Returns the length of the
+ * word, even if nothing is written, or 0 if no name has the number.
  *
  *     char word[32];
  *     printf("%.*s\n", (int)bactool_name(fields[0].name, word, sizeof word), word);
@@ -322,9 +324,9 @@ size_t bactool_name(uint32_t name, char *out, size_t room);
 uint32_t bactool_version(void);
 
 /*
- * The library itself needs an address even if there are no octets. These functions give it one for NULL. The calls above
- * go through them, by macros that take any expression as an argument, a compound literal too. A caller in another language
- * passes any address in place of NULL.
+ * The library itself needs an address even if there are no octets. These functions give it one for NULL. The calls
+ * above go through them, by macros that take any expression as an argument, a compound literal too. A caller in another
+ * language passes any address in place of NULL.
  */
 static inline const uint8_t *bactool_octets(const uint8_t *octets)
 {

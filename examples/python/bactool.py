@@ -17,7 +17,12 @@ OK, TOLERATED, DIFFERENT, REFUSED, LEFT_REFUSED, RIGHT_REFUSED, NO_ROOM, NO_MEMO
 class Outcome(ctypes.Structure):
     """struct bactool_outcome"""
 
-    _fields_ = [("why", ctypes.c_uint32), ("place", ctypes.c_size_t), ("count", ctypes.c_size_t)]
+    _fields_ = [
+        ("why", ctypes.c_uint32),
+        ("place", ctypes.c_size_t),
+        ("count", ctypes.c_size_t),
+        ("fields", ctypes.c_size_t),
+    ]
 
 
 class Refused(Exception):
@@ -35,7 +40,7 @@ class CutRecord(Exception):
 class Bactool:
     """The calls of the library. Octets are `bytes`, or what `bytes` takes; any call may run in any thread."""
 
-    def __init__(self, path="libbactool.so.0"):
+    def __init__(self, path="libbactool.so.1"):
         self.library = ctypes.CDLL(path)
         octets = [ctypes.c_char_p, ctypes.c_size_t]
         outcome = [ctypes.POINTER(Outcome)]

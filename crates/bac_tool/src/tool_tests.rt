@@ -544,7 +544,7 @@ fn text_of(rt: &impl Abort, alloc: Global, line: &str) -> Vec<u8> {
 fn the_version_is_written(rt: HostRuntime) {
     for line in ["bactool|--version", "bactool|-V"] {
         let text = text_of(&rt, rt.alloc(), line);
-        assert_same(&rt, text.as_slice(), b"bactool 0.1.0\n", line);
+        assert_same(&rt, text.as_slice(), b"bactool 0.2.0\n", line);
     }
 }
 

@@ -71,7 +71,7 @@ fn bare_command<'a>(alloc: Global) -> Command<'a>
         .about(
             "Shows, checks, normalises and packs files of BACnet frames, from standard input to standard output",
         )
-        .version("0.1.0")
+        .version("0.2.0")
         .subcommand_required(true)
         .after_help(MEANINGS)
 }

@@ -9,6 +9,7 @@ struct Outcome {
     why: u32,
     place: usize,
     count: usize,
+    fields: usize,
 }
 
 #[rustfmt::skip]
