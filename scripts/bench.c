@@ -1,6 +1,7 @@
 /*
  * The calls of libbactool on each record of a file of frames, for scripts/bench: `bench WORD ROUNDS FRAMES`, where the
- * word is show, check or normalise. It prints the least time that a round over all the records took, in microseconds.
+ * word is show, check, normalise or decode. It prints the least time that a round over all the records took, in
+ * microseconds.
  *
  * The file is read before the first round, and what a call writes is left in one place, so that the calls alone are
  * measured.
@@ -15,6 +16,7 @@
 /* Room for what a call writes: the records of scripts/bench are short. */
 static char line[1 << 16];
 static uint8_t canonical[1 << 16];
+static struct bactool_field fields[1 << 12];
 
 static void show(const uint8_t *octets, size_t length, struct bactool_outcome *told)
 {
@@ -31,10 +33,17 @@ static void normalise(const uint8_t *octets, size_t length, struct bactool_outco
     bactool_normalise(octets, length, canonical, sizeof canonical, told);
 }
 
+static void decode(const uint8_t *octets, size_t length, struct bactool_outcome *told)
+{
+    bactool_decode(octets, length, canonical, sizeof canonical, fields, sizeof fields / sizeof fields[0], told);
+}
+
 static const struct {
     const char *word;
     void (*call)(const uint8_t *octets, size_t length, struct bactool_outcome *told);
-} calls[] = {{"show", show}, {"check", check}, {"normalise", normalise}};
+} calls[] = {{"show", show}, {"check", check}, {"normalise", normalise}, {"decode", decode}};
+
+static const size_t known = sizeof calls / sizeof calls[0];
 
 /* The octets of a file, of which the length is told in `size`, or NULL. */
 static uint8_t *octets_of(const char *name, size_t *size)
@@ -72,11 +81,11 @@ int main(int count, char **words)
 {
     size_t call = 0, size = 0;
     int rounds = count == 4 ? atoi(words[2]) : 0;
-    while (count == 4 && call < 3 && strcmp(calls[call].word, words[1]) != 0)
+    while (count == 4 && call < known && strcmp(calls[call].word, words[1]) != 0)
         call++;
-    uint8_t *octets = rounds > 0 && call < 3 ? octets_of(words[3], &size) : NULL;
+    uint8_t *octets = rounds > 0 && call < known ? octets_of(words[3], &size) : NULL;
     if (octets == NULL) {
-        fprintf(stderr, "usage: bench show|check|normalise ROUNDS FRAMES\n");
+        fprintf(stderr, "usage: bench show|check|normalise|decode ROUNDS FRAMES\n");
         return 2;
     }
     double least = round_of(call, octets, size);
