@@ -6,6 +6,7 @@
  * It is linked with --wrap for malloc and realloc, so that memory can be refused.
  */
 #define _GNU_SOURCE
+#include "line-of-fields.h"
 #include <bactool.h>
 #include <pthread.h>
 #include <stdio.h>
@@ -15,6 +16,10 @@
 #include <unistd.h>
 
 enum { LONGEST = 65535, TEXT = 1 << 20, KEPT = 0xA5, THREADS = 4, BEHIND = 16 };
+
+/* A frame with 65,535 octets has fewer fields: an item with a property and an empty value is five fields and four
+   octets. Where memory is refused, there is room for some. */
+enum { FIELDS = 1 << 17, SOME_FIELDS = 1 << 10 };
 
 static _Atomic unsigned long faults;
 
@@ -94,20 +99,35 @@ static bool is_kept(struct yard yard, size_t room)
     return all_kept(yard.end - front, front);
 }
 
+/* Octets that are passed, octets and fields that are written, and what was written at first. */
 struct bench {
-    struct yard left, right, out;
+    struct yard left, right, out, fields;
+    struct bactool_field *known;
+    char *line;
 };
 
 static struct bench new_bench(void)
 {
-    return (struct bench){new_yard(LONGEST), new_yard(LONGEST), new_yard(TEXT)};
+    struct bench bench = {new_yard(LONGEST), new_yard(LONGEST), new_yard(TEXT),
+                          new_yard(FIELDS * sizeof(struct bactool_field)), NULL, NULL};
+    bench.known = (struct bactool_field *)new_yard(FIELDS * sizeof(struct bactool_field)).end - FIELDS;
+    bench.line = (char *)new_yard(TEXT).end - TEXT;
+    return bench;
 }
 
 /* ---- one input */
 
+/* An outcome before a call, which fills in the whole of it. */
+#define UNTOLD {77, 77, 77, 77}
+
+static bool tells(struct bactool_outcome told, uint32_t why, size_t place, size_t count, size_t fields)
+{
+    return told.why == why && told.place == place && told.count == count && told.fields == fields;
+}
+
 static bool says(struct bactool_outcome told, uint32_t why, size_t place, size_t length)
 {
-    return told.why == why && told.place == place && told.count == length;
+    return tells(told, why, place, length, 0);
 }
 
 /* What is written, at the given room: whole, and what follows is kept, or nothing. */
@@ -128,7 +148,7 @@ static void try_rooms(struct bench bench, written_by *write, const uint8_t *octe
 {
     const size_t rooms[] = {0, wanted == 0 ? 0 : wanted - 1, wanted, wanted + 7};
     for (size_t k = 0; k < sizeof rooms / sizeof *rooms; k++) {
-        struct bactool_outcome told = {77, 77, 77};
+        struct bactool_outcome told = UNTOLD;
         uint8_t *out = cleared(bench.out, rooms[k]);
         uint32_t code = write(octets, length, out, rooms[k], &told);
         EXPECT(says(told, 0, 0, wanted));
@@ -141,6 +161,130 @@ static void try_rooms(struct bench bench, written_by *write, const uint8_t *octe
     }
 }
 
+/* ---- fields */
+
+/* Which names were among the fields that were tried. */
+static _Atomic bool was_seen[NAMES];
+
+static struct bactool_field *cleared_fields(struct bench bench, size_t most)
+{
+    return (struct bactool_field *)cleared(bench.fields, most * sizeof(struct bactool_field));
+}
+
+static bool are_same(const struct bactool_field *left, const struct bactool_field *right, size_t count)
+{
+    for (size_t k = 0; k < count; k++)
+        if (left[k].name != right[k].name || left[k].number != right[k].number || left[k].place != right[k].place
+            || left[k].head != right[k].head || left[k].length != right[k].length)
+            return false;
+    return true;
+}
+
+/* Decodes into so many octets and so many fields. Both are written, or neither; what follows them is kept. Where there
+   is no room, NULL is passed if `is_null`. */
+static void try_room(struct bench bench, const uint8_t *octets, size_t length, const uint8_t *canonical, size_t count,
+                     size_t fields, size_t room, size_t most, bool is_null)
+{
+    struct bactool_outcome told = UNTOLD;
+    uint8_t *out = cleared(bench.out, room);
+    struct bactool_field *written = cleared_fields(bench, most);
+    uint32_t code = bactool_decode(octets, length, room == 0 && is_null ? NULL : out, room,
+                                   most == 0 && is_null ? NULL : written, most, &told);
+    EXPECT(tells(told, 0, 0, count, fields));
+    if (room < count || most < fields) {
+        EXPECT(code == BACTOOL_NO_ROOM);
+        EXPECT(is_kept(bench.out, room) && is_kept(bench.fields, most * sizeof *written));
+        return;
+    }
+    EXPECT(code == BACTOOL_OK);
+    EXPECT(memcmp(out, canonical, count) == 0);
+    EXPECT(are_same(written, bench.known, fields));
+    EXPECT(all_kept(out - BEHIND, BEHIND) && all_kept(out + count, room - count));
+    EXPECT(all_kept((uint8_t *)written - BEHIND, BEHIND));
+    EXPECT(all_kept((uint8_t *)(written + fields), (most - fields) * sizeof *written));
+}
+
+/* Whether the number of a field is what its contents say, the most significant octet first. What says it otherwise, such
+   as a bit of a head, or says a length, is left out. */
+static bool is_number_of(struct bactool_field field, const uint8_t *contents)
+{
+    enum form form = named[field.name].form;
+    uint64_t number = form == SIGNED && field.length > 0 && contents[0] >= 0x80 ? UINT64_MAX : 0;
+    for (size_t k = 0; k < field.length && k < 8; k++)
+        number = number << 8 | contents[k];
+    bool is_service = 60 <= field.name && field.name < BACTOOL_FIELD_OPAQUE;
+    bool is_said = is_service || form == PLAIN || form == OBJECT || form == MESSAGE || form == UNSIGNED
+                || form == SIGNED || form == BITS_32 || form == BITS_64 || form == IDENTIFIER
+                || (form == NUMBER && field.name >= BACTOOL_FIELD_REASON) || field.name == BACTOOL_FIELD_INVOKE_ID
+                || field.name == BACTOOL_FIELD_SEQUENCE || field.name == BACTOOL_FIELD_WINDOW
+                || field.name == BACTOOL_FIELD_HOP_COUNT;
+    return !is_said || (field.length > 0 && number == field.number);
+}
+
+/* Whether a field lies in the head of a frame or of an APDU, where several may be parts of one octet. */
+static bool is_in_head(uint32_t name)
+{
+    return name < BACTOOL_FIELD_CHOICE && name != BACTOOL_FIELD_REASON;
+}
+
+/* Each field lies in the octets. Behind the heads each begins where the one before it ends, and the last one ends with
+   the frame; only four tags of a WritePropertyMultiple error belong to none. */
+static void try_places(const uint8_t *canonical, size_t count, const struct bactool_field *fields, size_t most)
+{
+    size_t end = 0, tags = 0;
+    bool is_error = bactool_find(fields, most, BACTOOL_FIELD_ERROR) != NULL;
+    for (size_t k = 0; k < most; k++) {
+        struct bactool_field field = fields[k];
+        EXPECT(field.name < NAMES && named[field.name].form != NO_FIELD);
+        was_seen[field.name] = true;
+        EXPECT(field.place <= count && field.head <= count && field.length <= count);
+        EXPECT(field.place + field.head + field.length <= count);
+        EXPECT(is_number_of(field, canonical + field.place + field.head));
+        if (!is_in_head(field.name) && field.place != end) {
+            EXPECT(is_error && field.place == end + (field.name == BACTOOL_FIELD_OBJECT ? 2 : 1));
+            tags += field.place - end;
+        }
+        if (field.place + field.head + field.length > end || !is_in_head(field.name))
+            end = field.place + field.head + field.length;
+    }
+    EXPECT(end + (tags > 0) == count && (tags == 0 || tags == 3));
+}
+
+/* Decodes octets that are accepted: the fields, the line that they make, and every room for short frames. */
+static void try_decoded(struct bench bench, const uint8_t *octets, size_t length, const uint8_t *canonical,
+                        size_t count, bool in_each_room)
+{
+    struct bactool_outcome told = UNTOLD;
+    EXPECT(bactool_decode(octets, length, NULL, 0, NULL, 0, &told) == BACTOOL_NO_ROOM);
+    size_t fields = told.fields;
+    EXPECT(tells(told, 0, 0, count, fields) && 2 < fields && fields < FIELDS);
+    EXPECT(bactool_decode(octets, length, cleared(bench.out, count), count, bench.known, FIELDS, &told) == BACTOOL_OK);
+    EXPECT(tells(told, 0, 0, count, fields));
+    try_places(canonical, count, bench.known, fields);
+
+    size_t line_length = line_of_fields(canonical, bench.known, fields, bench.line);
+    uint8_t *line = cleared(bench.out, TEXT);
+    EXPECT(bactool_show(octets, length, (char *)line, TEXT, &told) == BACTOOL_OK && told.count == line_length);
+    EXPECT(memcmp(line, bench.line, line_length) == 0);
+
+    const size_t rooms[][2] = {
+        {0, 0}, {count, fields}, {count - 1, fields}, {count, fields - 1}, {count + 7, fields + 1}};
+    for (size_t k = 0; k < sizeof rooms / sizeof *rooms; k++)
+        try_room(bench, octets, length, canonical, count, fields, rooms[k][0], rooms[k][1], true);
+    if (!in_each_room)
+        return;
+    size_t step = 1 + count / 512, steps = 1 + fields / 512;
+    for (size_t room = 0; room < count; room += step)
+        try_room(bench, octets, length, canonical, count, fields, room, fields, room % 2 == 0);
+    for (size_t most = 0; most < fields; most += steps)
+        try_room(bench, octets, length, canonical, count, fields, count, most, most % 2 == 0);
+    try_room(bench, octets, length, canonical, count, fields, 0, 0, false);
+    try_room(bench, octets, length, canonical, count, fields, 0, fields, false);
+    try_room(bench, octets, length, canonical, count, fields, count, 0, false);
+}
+
+/* ---- one input, by each call */
+
 static size_t first_difference(const uint8_t *left, size_t left_length, const uint8_t *right, size_t right_length)
 {
     size_t k = 0;
@@ -152,14 +296,18 @@ static size_t first_difference(const uint8_t *left, size_t left_length, const ui
 /* Octets that are refused: every call says so alike, and writes nothing. */
 static void try_refused(struct bench bench, const uint8_t *octets, size_t length, struct bactool_outcome found)
 {
-    struct bactool_outcome told = {77, 77, 77};
+    struct bactool_outcome told = UNTOLD;
     EXPECT(BACTOOL_SHORT <= found.why && found.why <= BACTOOL_DEPTH);
     EXPECT(found.place <= length && (found.why == BACTOOL_SHORT) == (found.place == length));
     EXPECT(bactool_check(octets, length, true, &told) == BACTOOL_REFUSED && says(told, found.why, found.place, 0));
     uint8_t *out = cleared(bench.out, length);
     EXPECT(normalise(octets, length, out, length, &told) == BACTOOL_REFUSED && says(told, found.why, found.place, 0));
     EXPECT(show(octets, length, out, length, &told) == BACTOOL_REFUSED && says(told, found.why, found.place, 0));
-    EXPECT(is_kept(bench.out, length));
+    EXPECT(bactool_decode(octets, length, out, length, cleared_fields(bench, 7), 7, &told) == BACTOOL_REFUSED);
+    EXPECT(says(told, found.why, found.place, 0));
+    EXPECT(bactool_decode(octets, length, NULL, 0, NULL, 0, &told) == BACTOOL_REFUSED);
+    EXPECT(says(told, found.why, found.place, 0));
+    EXPECT(is_kept(bench.out, length) && is_kept(bench.fields, 7 * sizeof(struct bactool_field)));
     EXPECT(bactool_same_meaning(octets, length, octets, length, &told) == BACTOOL_LEFT_REFUSED);
     EXPECT(says(told, found.why, found.place, 0));
     static const uint8_t who_is[] = {0x01, 0x00, 0x10, 0x08};
@@ -168,7 +316,8 @@ static void try_refused(struct bench bench, const uint8_t *octets, size_t length
 }
 
 /* Octets that are accepted: what is written is canonical, spells the same frame, and first differs at `place`. */
-static void try_accepted(struct bench bench, const uint8_t *octets, size_t length, uint32_t code, size_t place)
+static void try_accepted(struct bench bench, const uint8_t *octets, size_t length, uint32_t code, size_t place,
+                         bool in_each_room)
 {
     struct bactool_outcome told;
     uint8_t *out = cleared(bench.out, length);
@@ -188,22 +337,23 @@ static void try_accepted(struct bench bench, const uint8_t *octets, size_t lengt
     try_rooms(bench, normalise, octets, length, canonical_length);
     EXPECT(show(octets, length, out, 0, &told) == BACTOOL_NO_ROOM && told.count > 0 && told.count < TEXT);
     try_rooms(bench, show, octets, length, told.count);
+    try_decoded(bench, octets, length, canonical, canonical_length, in_each_room);
 }
 
 /* Returns whether the octets are accepted. */
-static bool try_input(struct bench bench, const uint8_t *input, size_t length)
+static bool try_input(struct bench bench, const uint8_t *input, size_t length, bool in_each_room)
 {
     const uint8_t *octets = placed(bench.left, input, length);
-    struct bactool_outcome told = {77, 77, 77};
+    struct bactool_outcome told = UNTOLD;
     uint32_t code = bactool_check(octets, length, false, &told);
     switch (code) {
     case BACTOOL_OK:
     case BACTOOL_TOLERATED:
         EXPECT(says(told, 0, code == BACTOOL_OK ? 0 : told.place, 0));
-        try_accepted(bench, octets, length, code, told.place);
+        try_accepted(bench, octets, length, code, told.place, in_each_room);
         break;
     case BACTOOL_REFUSED:
-        EXPECT(told.count == 0);
+        EXPECT(says(told, told.why, told.place, 0));
         try_refused(bench, octets, length, told);
         break;
     default:
@@ -215,14 +365,92 @@ static bool try_input(struct bench bench, const uint8_t *input, size_t length)
 
 /* ---- inputs at the edges */
 
+/* A ReadProperty-ACK with these elements as its value. */
+static bool try_answer(struct bench bench, const uint8_t *elements, size_t length)
+{
+    static const uint8_t head[] = {0x01, 0x00, 0x30, 0x01, 0x0C, 0x0C, 0x00, 0x00, 0x00, 0x05, 0x19, 0x55, 0x3E};
+    uint8_t octets[sizeof head + 256];
+    memcpy(octets, head, sizeof head);
+    memcpy(octets + sizeof head, elements, length);
+    octets[sizeof head + length] = 0x3F;
+    return try_input(bench, octets, sizeof head + length + 1, false);
+}
+
+/* Values at the ends of their types: numbers with the most digits, bits that begin with zeros, the longest heads. */
+static void try_values(struct bench bench)
+{
+    static const uint8_t numbers[] = {
+        0x25, 0x08, 0xFF, 0xFF, 0xFF, 0xFF, 0xFF, 0xFF, 0xFF, 0xFF, 0x21, 0x00,
+        0x35, 0x08, 0x80, 0x00, 0x00, 0x00, 0x00, 0x00, 0x00, 0x00, 0x31, 0xFF,
+        0x35, 0x08, 0x7F, 0xFF, 0xFF, 0xFF, 0xFF, 0xFF, 0xFF, 0xFF, 0x32, 0x00, 0x80,
+        0x94, 0xFF, 0xFF, 0xFF, 0xFF, 0x44, 0x00, 0x00, 0x00, 0x01, 0x44, 0xFF, 0xFF, 0xFF, 0xFF,
+        0x55, 0x08, 0x00, 0x00, 0x00, 0x00, 0x00, 0x00, 0x00, 0x01,
+        0x55, 0x08, 0xFF, 0xFF, 0xFF, 0xFF, 0xFF, 0xFF, 0xFF, 0xFF, 0xC4, 0xFF, 0xFF, 0xFF, 0xFF};
+    static const uint8_t others[] = {
+        0x60, 0x71, 0x00, 0x72, 0xFF, 0x41, 0x81, 0x00, 0x82, 0x07, 0x80, 0x83, 0x00, 0x00, 0xFF, 0x82, 0x03, 0xFF,
+        0x08, 0xE8, 0xF8, 0x0F, 0xF9, 0xFE, 0x00, 0xFE, 0xFE, 0x1E, 0x1F, 0x10, 0x11, 0xFF, 0xFE};
+    EXPECT(try_answer(bench, numbers, sizeof numbers));
+    EXPECT(try_answer(bench, others, sizeof others));
+    EXPECT(try_answer(bench, others, 0));
+    for (size_t length = 5; length < 250; length += 7) {
+        const uint8_t head[] = {0x65, (uint8_t)length};
+        uint8_t string[256];
+        memset(string, 0x55, sizeof string);
+        memcpy(string, head, sizeof head);
+        EXPECT(try_answer(bench, string, sizeof head + length));
+    }
+}
+
+/* Strings of up to four octets, from those where another rule of UTF-8, or of the line, begins or ends. */
+static void try_strings(struct bench bench)
+{
+    static const uint8_t first[] = {0x00, 0x1F, 0x20, 0x21, 0x22, 0x23, 0x5B, 0x5C, 0x5D, 0x7E,
+                                    0x7F, 0x80, 0xBF, 0xC0, 0xC1, 0xC2, 0xDF, 0xE0, 0xE1, 0xEC,
+                                    0xED, 0xEE, 0xEF, 0xF0, 0xF1, 0xF3, 0xF4, 0xF5, 0xFF};
+    static const uint8_t second[] = {0x7F, 0x80, 0x8F, 0x90, 0x9F, 0xA0, 0xBF, 0xC0};
+    static const uint8_t later[] = {0x7F, 0x80, 0xBF, 0xC0};
+    for (unsigned octet = 0; octet < 256; octet++)
+        EXPECT(try_answer(bench, (const uint8_t[]){0x72, 0x00, (uint8_t)octet}, 3));
+    for (size_t k = 0; k < sizeof first << 7; k++) {
+        uint8_t string[] = {0x75, 0x00, 0x00, first[k >> 7], second[k >> 4 & 7], later[k >> 2 & 3], later[k & 3]};
+        for (size_t length = k % 16 == 0 ? 2 : k % 4 == 0 ? 3 : 4; length <= (first[k >> 7] < 0xF0 ? 3 : 4); length++) {
+            string[1] = (uint8_t)(1 + length);
+            EXPECT(try_answer(bench, string, 3 + length));
+        }
+    }
+}
+
+/* A long frame with as many fields as there can be: a ReadPropertyMultiple-ACK with an object and as many properties as
+   have room, each with an empty value. */
+static void try_most_fields(struct bench bench)
+{
+    static const uint8_t head[] = {0x01, 0x00, 0x30, 0x01, 0x0E, 0x0C, 0x00, 0x00, 0x00, 0x05, 0x1E};
+    static const uint8_t property[] = {0x29, 0x55, 0x4E, 0x4F};
+    static uint8_t octets[LONGEST];
+    size_t length = sizeof head;
+    memcpy(octets, head, sizeof head);
+    for (; length + sizeof property < LONGEST; length += sizeof property)
+        memcpy(octets + length, property, sizeof property);
+    octets[length++] = 0x1F;
+    EXPECT(try_input(bench, octets, length, false));
+    /* prio, reply, ack, id, the service, the list, an item, its object and list; five for each; the three that end */
+    size_t fields = 9 + (length - sizeof head - 1) / sizeof property * 5 + 3;
+    struct bactool_outcome told = UNTOLD;
+    EXPECT(bactool_decode(octets, length, NULL, 0, NULL, 0, &told) == BACTOOL_NO_ROOM);
+    EXPECT(tells(told, 0, 0, length, fields));
+}
+
 static void try_edges(struct bench bench)
 {
     static uint8_t zeros[LONGEST], longest[LONGEST] = {0x01, 0x00, 0x10, 0x09};
-    EXPECT(!try_input(bench, zeros, 0));
-    EXPECT(!try_input(bench, zeros, LONGEST));
-    EXPECT(try_input(bench, longest, LONGEST)); /* an opaque request with 65,531 octets */
+    EXPECT(!try_input(bench, zeros, 0, false));
+    EXPECT(!try_input(bench, zeros, LONGEST, false));
+    EXPECT(try_input(bench, longest, LONGEST, false)); /* an opaque request with 65,531 octets */
+    try_most_fields(bench);
+    try_values(bench);
+    try_strings(bench);
 
-    struct bactool_outcome told = {77, 77, 77};
+    struct bactool_outcome told = UNTOLD;
     EXPECT(bactool_check(NULL, 0, false, &told) == BACTOOL_REFUSED && says(told, BACTOOL_SHORT, 0, 0));
     EXPECT(bactool_normalise(NULL, 0, NULL, 0, &told) == BACTOOL_REFUSED && says(told, BACTOOL_SHORT, 0, 0));
     EXPECT(bactool_show(NULL, 0, NULL, 0, &told) == BACTOOL_REFUSED && says(told, BACTOOL_SHORT, 0, 0));
@@ -230,7 +458,41 @@ static void try_edges(struct bench bench)
     EXPECT(bactool_same_meaning(longest, 4, NULL, 0, &told) == BACTOOL_RIGHT_REFUSED && says(told, BACTOOL_SHORT, 0, 0));
     EXPECT(bactool_normalise(longest, 4, NULL, 0, &told) == BACTOOL_NO_ROOM && says(told, 0, 0, 4));
     EXPECT(bactool_show(longest, 4, NULL, 0, &told) == BACTOOL_NO_ROOM && told.count > 0);
+    EXPECT(bactool_decode(NULL, 0, NULL, 0, NULL, 0, &told) == BACTOOL_REFUSED && says(told, BACTOOL_SHORT, 0, 0));
+    EXPECT(bactool_decode(longest, 4, NULL, 0, NULL, 0, &told) == BACTOOL_NO_ROOM && tells(told, 0, 0, 4, 6));
+    EXPECT(bactool_find(NULL, 0, BACTOOL_FIELD_OBJECT) == NULL);
     EXPECT(bactool_version() == BACTOOL_VERSION);
+}
+
+/* A text with this number, by a call that writes it where it has room: in each room. */
+static void try_text(struct bench bench, size_t (*text)(uint32_t, char *, size_t), uint32_t number, const char *wanted)
+{
+    size_t length = strlen(wanted);
+    for (size_t room = 0; room <= length + 2; room++) {
+        uint8_t *out = cleared(bench.out, room);
+        EXPECT(text(number, (char *)out, room) == length);
+        if (room < length) {
+            EXPECT(is_kept(bench.out, room));
+        } else {
+            EXPECT(memcmp(out, wanted, length) == 0 && all_kept(out + length, room - length));
+        }
+    }
+    EXPECT(text(number, NULL, 0) == length);
+}
+
+static size_t reason(uint32_t why, char *out, size_t room) { return bactool_reason(why, out, room); }
+static size_t name(uint32_t number, char *out, size_t room) { return bactool_name(number, out, room); }
+
+static void try_names(struct bench bench)
+{
+    for (uint32_t number = 0; number < NAMES; number++) {
+        const char *word = named[number].word;
+        try_text(bench, name, number, word != NULL ? word : "");
+        EXPECT(word == NULL || strlen(word) <= 32);
+    }
+    const uint32_t others[] = {NAMES, 256 + BACTOOL_FIELD_OBJECT, UINT32_MAX - 1, UINT32_MAX};
+    for (size_t k = 0; k < sizeof others / sizeof *others; k++)
+        try_text(bench, name, others[k], "");
 }
 
 static void try_reasons(struct bench bench)
@@ -252,29 +514,22 @@ static void try_reasons(struct bench bench)
         [BACTOOL_OUT_OF_MEMORY + 1] = "",
     };
     const uint32_t count = sizeof names / sizeof *names;
-    for (uint32_t why = 0; why < count; why++) {
-        size_t length = strlen(names[why]);
-        for (size_t room = 0; room <= length + 2; room++) {
-            uint8_t *out = cleared(bench.out, room);
-            EXPECT(bactool_reason(why, (char *)out, room) == length);
-            if (room < length) {
-                EXPECT(is_kept(bench.out, room));
-            } else {
-                EXPECT(memcmp(out, names[why], length) == 0 && all_kept(out + length, room - length));
-            }
-        }
-        EXPECT(bactool_reason(why, NULL, 0) == length);
-    }
-    EXPECT(bactool_reason(UINT32_MAX, NULL, 0) == 0);
+    for (uint32_t why = 0; why < count; why++)
+        try_text(bench, reason, why, names[why]);
+    try_text(bench, reason, UINT32_MAX, "");
 }
 
-/* One of the four calls that decode, with room for half a yard. */
+enum { CALLS = 5 };
+
+/* One of the five calls that read a frame, with room for half a yard, and for some fields. */
 static uint32_t call(int job, struct bench bench, const uint8_t *octets, size_t length, struct bactool_outcome *told)
 {
     uint8_t *out = cleared(bench.out, TEXT / 2);
+    struct bactool_field *fields = cleared_fields(bench, SOME_FIELDS);
     return job == 0   ? bactool_check(octets, length, false, told)
            : job == 1 ? normalise(octets, length, out, TEXT / 2, told)
            : job == 2 ? show(octets, length, out, TEXT / 2, told)
+           : job == 3 ? bactool_decode(octets, length, out, TEXT / 2, fields, SOME_FIELDS, told)
                       : bactool_same_meaning(octets, length, octets, length, told);
 }
 
@@ -282,28 +537,31 @@ static uint32_t call(int job, struct bench bench, const uint8_t *octets, size_t 
    nothing; where others are granted it may also do without, and then it ends as with all of them. */
 static void try_without_memory(struct bench bench, const uint8_t *input, size_t length)
 {
-    static uint8_t whole[TEXT / 2];
+    static uint8_t whole[TEXT / 2], all_fields[SOME_FIELDS * sizeof(struct bactool_field)];
     const uint8_t *octets = placed(bench.left, input, length);
-    for (int job = 0; job < 8; job++) {
-        struct bactool_outcome wanted = {77, 77, 77};
-        uint32_t ends = call(job % 4, bench, octets, length, &wanted);
-        EXPECT(ends == BACTOOL_OK || ends == BACTOOL_TOLERATED || ends == BACTOOL_REFUSED || ends == BACTOOL_LEFT_REFUSED);
+    for (int job = 0; job < 2 * CALLS; job++) {
+        struct bactool_outcome wanted = UNTOLD;
+        uint32_t ends = call(job % CALLS, bench, octets, length, &wanted);
+        EXPECT(ends == BACTOOL_OK || ends == BACTOOL_TOLERATED || ends == BACTOOL_REFUSED
+               || ends == BACTOOL_LEFT_REFUSED || (ends == BACTOOL_NO_ROOM && wanted.fields > SOME_FIELDS));
         memcpy(whole, bench.out.end - sizeof whole, sizeof whole);
-        alone = job < 4;
+        memcpy(all_fields, bench.fields.end - sizeof all_fields, sizeof all_fields);
+        alone = job < CALLS;
         was_refused = true;
         for (long refused = 0; was_refused; refused++) {
-            struct bactool_outcome told = {77, 77, 77};
+            struct bactool_outcome told = UNTOLD;
             was_refused = false;
             left = refused;
-            uint32_t code = call(job % 4, bench, octets, length, &told);
+            uint32_t code = call(job % CALLS, bench, octets, length, &told);
             left = -1;
             refusals += was_refused;
             if (was_refused && (!alone || code == BACTOOL_NO_MEMORY)) {
                 EXPECT(code == BACTOOL_NO_MEMORY && says(told, BACTOOL_OUT_OF_MEMORY, 0, 0));
-                EXPECT(is_kept(bench.out, TEXT / 2));
+                EXPECT(is_kept(bench.out, TEXT / 2) && is_kept(bench.fields, sizeof all_fields));
             } else {
-                EXPECT(code == ends && says(told, wanted.why, wanted.place, wanted.count));
+                EXPECT(code == ends && tells(told, wanted.why, wanted.place, wanted.count, wanted.fields));
                 EXPECT(memcmp(bench.out.end - sizeof whole, whole, sizeof whole) == 0);
+                EXPECT(memcmp(bench.fields.end - sizeof all_fields, all_fields, sizeof all_fields) == 0);
             }
         }
     }
@@ -371,7 +629,7 @@ static void *try_share(void *given)
     uint8_t *input = __real_malloc(LONGEST + 16);
     for (unsigned long k = 0; k < share->count; k++) {
         size_t length = draw(&share->state, input);
-        share->accepted += try_input(bench, input, length);
+        share->accepted += try_input(bench, input, length, false);
     }
     free(input);
     return NULL;
@@ -388,11 +646,14 @@ int main(int count_of_words, char **words)
         return 2;
     try_edges(bench);
     try_reasons(bench);
+    try_names(bench);
     for (size_t k = 0; k < record_count; k++) {
         size_t length = (size_t)file[records[k]] << 8 | file[records[k] + 1];
-        EXPECT(try_input(bench, file + records[k] + 2, length));
+        EXPECT(try_input(bench, file + records[k] + 2, length, true));
         try_without_memory(bench, file + records[k] + 2, length);
     }
+    for (size_t k = 0; k < NAMES; k++)
+        EXPECT(was_seen[k] == (named[k].form != NO_FIELD));
     pthread_t threads[THREADS];
     struct share shares[THREADS];
     unsigned long accepted = 0;
