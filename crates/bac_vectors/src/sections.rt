@@ -4,7 +4,7 @@ use crate::faults::RowFault;
 use crate::octets::joined;
 use crate::told::Told;
 use crate::{
-    apdus, frames, fronts, heads, meanings, open_values, services, streams, texts, values,
+    apdus, fields, frames, fronts, heads, meanings, open_values, services, streams, texts, values,
 };
 use bac_service::Kind;
 use bac_stream::Mode;
@@ -28,6 +28,8 @@ pub enum Section<'a> {
     Frames,
     /// `[text]`: the text of a frame.
     Texts,
+    /// `[fields]`: the fields of a frame.
+    Fields,
     /// `[same_meaning]`: whether two inputs spell one frame.
     Meanings,
     /// `[stream tolerant]` and `[stream strict]`: the records of a stream, in whatever pieces it comes.
@@ -50,6 +52,7 @@ impl<'a> Section<'a> {
             ("bac_apdu", "") => Some(Section::Apdus),
             ("bac_npdu", "") => Some(Section::Frames),
             ("text", "") => Some(Section::Texts),
+            ("fields", "") => Some(Section::Fields),
             ("same_meaning", "") => Some(Section::Meanings),
             ("stream", "tolerant") => Some(Section::Streams(Mode::Tolerant)),
             ("stream", "strict") => Some(Section::Streams(Mode::Strict)),
@@ -67,6 +70,7 @@ impl<'a> Section<'a> {
             Section::Meanings => meanings::found(alloc, row.octets),
             Section::Heads => heads::found(alloc, &joined(alloc, front, row.octets)?),
             Section::Texts => texts::found(alloc, &joined(alloc, front, row.octets)?),
+            Section::Fields => fields::found(alloc, &joined(alloc, front, row.octets)?),
             Section::Streams(mode) => {
                 streams::found(alloc, mode, &joined(alloc, front, row.octets)?)
             }
