@@ -1,4 +1,6 @@
-//! Safe Rust over libbactool: a function for each of its six calls. `include/bactool.h` says what each call does.
+//! Safe Rust over libbactool: a function for each of its eight calls. `include/bactool.h` says what each call does.
+
+pub mod names;
 
 use std::fmt;
 
@@ -12,12 +14,26 @@ struct Outcome {
     fields: usize,
 }
 
+/// `struct bactool_field`
+#[repr(C)]
+#[derive(Clone, Copy, Default)]
+struct Part {
+    name: u32,
+    number: u64,
+    place: usize,
+    head: usize,
+    length: usize,
+}
+
 #[rustfmt::skip]
 extern "C" {
     fn bactool_check(octets: *const u8, length: usize, strict: bool, outcome: &mut Outcome) -> u32;
     fn bactool_normalise(octets: *const u8, length: usize, out: *mut u8, room: usize, outcome: &mut Outcome) -> u32;
     fn bactool_show(octets: *const u8, length: usize, out: *mut u8, room: usize, outcome: &mut Outcome) -> u32;
     fn bactool_same_meaning(left: *const u8, left_length: usize, right: *const u8, right_length: usize, outcome: &mut Outcome) -> u32;
+    fn bactool_decode(octets: *const u8, length: usize, out: *mut u8, room: usize, fields: *mut Part, most: usize,
+        outcome: &mut Outcome) -> u32;
+    fn bactool_name(name: u32, out: *mut u8, room: usize) -> usize;
     fn bactool_reason(why: u32, out: *mut u8, room: usize) -> usize;
     fn bactool_version() -> u32;
 }
@@ -71,6 +87,71 @@ pub fn normalise(octets: &[u8]) -> Result<Vec<u8>, Refusal> {
     })
 }
 
+/// A frame as its canonical octets and its fields.
+pub struct Frame {
+    octets: Vec<u8>,
+    parts: Vec<Part>,
+}
+
+/// A field of a frame: a part of its text.
+#[derive(Clone, Copy, Debug, PartialEq, Eq)]
+pub struct Field<'a> {
+    /// One of the numbers in `names`.
+    pub name: u32,
+    /// The number that it says, or 0 if it says none.
+    pub number: u64,
+    /// The offset of its first octet in the canonical octets of the frame.
+    pub place: usize,
+    /// The octets before its contents, such as a tag.
+    pub head: &'a [u8],
+    pub contents: &'a [u8],
+}
+
+impl Frame {
+    /// Returns the canonical octets.
+    pub fn octets(&self) -> &[u8] {
+        &self.octets
+    }
+
+    /// Returns the fields in the order of the text.
+    pub fn fields(&self) -> impl Iterator<Item = Field<'_>> {
+        self.parts.iter().map(|part| {
+            let (head, rest) = self.octets[part.place..].split_at(part.head);
+            Field {
+                name: part.name,
+                number: part.number,
+                place: part.place,
+                head,
+                contents: &rest[..part.length],
+            }
+        })
+    }
+}
+
+/// Returns the frame as its fields.
+pub fn decode(octets: &[u8]) -> Result<Frame, Refusal> {
+    // There are never more canonical octets than octets.
+    let (mut out, mut parts) = (vec![0; octets.len()], vec![Part::default(); 64]);
+    let mut outcome = Outcome::default();
+    loop {
+        // SAFETY: as above, and `parts` is memory of its own for so many fields.
+        let code = unsafe {
+            let (room, most) = (out.len(), parts.len());
+            let (out, parts) = (out.as_mut_ptr(), parts.as_mut_ptr());
+            bactool_decode(octets.as_ptr(), octets.len(), out, room, parts, most, &mut outcome)
+        };
+        match code {
+            OK => {
+                out.truncate(outcome.count);
+                parts.truncate(outcome.fields);
+                return Ok(Frame { octets: out, parts });
+            }
+            NO_ROOM => parts.resize(outcome.fields, Part::default()),
+            _ => return Err(refusal(outcome)),
+        }
+    }
+}
+
 /// Returns the text of the frame.
 pub fn show(octets: &[u8]) -> Result<String, Refusal> {
     let line = written(256, |out, outcome| {
@@ -102,6 +183,15 @@ pub fn reason(why: u32) -> String {
     let length = unsafe { bactool_reason(why, name.as_mut_ptr(), name.len()) };
     name.truncate(length);
     String::from_utf8_lossy(&name).into_owned()
+}
+
+/// Returns the word of a name of fields, or no text if no name has the number.
+pub fn name(number: u32) -> String {
+    let mut word = vec![0; 32];
+    // SAFETY: `word` is memory of its own for so many octets.
+    let length = unsafe { bactool_name(number, word.as_mut_ptr(), word.len()) };
+    word.truncate(length);
+    String::from_utf8_lossy(&word).into_owned()
 }
 
 /// Returns the version of the library: 10,000 times the major number, plus 100 times the minor one, plus the patch number.

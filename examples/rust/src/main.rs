@@ -1,5 +1,8 @@
-//! `bactool check|show|normalise < FRAMES`: writes what the program `bactool` writes of a frame file on standard input.
-//! The status is that of `bactool`: 0, 1 if a record is refused, and 2 if the words, the input or the output are at fault.
+//! `bactool check|show|normalise|values < FRAMES`: writes what the program `bactool` writes of a frame file on standard
+//! input, or what `examples/c/values.c` prints of it. The status is that of `bactool`: 0, 1 if a record is refused, and 2
+//! if the words, the input or the output are at fault.
+mod values;
+
 use bactool::Refusal;
 use std::io::{self, BufWriter, Read, Write};
 use std::process::ExitCode;
@@ -10,6 +13,7 @@ enum Job {
     Check,
     Show,
     Normalise,
+    Values,
 }
 
 fn main() -> ExitCode {
@@ -18,8 +22,9 @@ fn main() -> ExitCode {
         ["check"] => Job::Check,
         ["show"] => Job::Show,
         ["normalise"] => Job::Normalise,
+        ["values"] => Job::Values,
         _ => {
-            eprintln!("usage: bactool check|show|normalise < FRAMES");
+            eprintln!("usage: bactool check|show|normalise|values < FRAMES");
             return ExitCode::from(2);
         }
     };
@@ -47,11 +52,13 @@ fn run(job: Job) -> io::Result<bool> {
         };
         if let Err(refusal) = written(job, number, octets, &mut output)? {
             is_refused = true;
+            match job {
+                Job::Check | Job::Show => writeln!(output, "{number} refused {refusal}")?,
+                Job::Normalise | Job::Values => eprintln!("bactool: record {number}: refused {refusal}"),
+            }
             if job == Job::Normalise {
-                eprintln!("bactool: record {number}: refused {refusal}");
                 break;
             }
-            writeln!(output, "{number} refused {refusal}")?;
         }
         rest = next;
     }
@@ -82,6 +89,10 @@ fn written(
                 output.write_all(&(canonical.len() as u16).to_be_bytes())?;
                 output.write_all(&canonical)?;
             }
+            Err(refusal) => return Ok(Err(refusal)),
+        },
+        Job::Values => match bactool::decode(octets) {
+            Ok(frame) => values::write_values(number, &frame, output)?,
             Err(refusal) => return Ok(Err(refusal)),
         },
     }
