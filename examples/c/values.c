@@ -5,8 +5,9 @@
  *     cc examples/c/values.c $(pkg-config --cflags --libs bactool) -o values
  *     ./values < examples/every-kind.frames
  *
- * After `value` come its elements: numbers are decimal, text is in quotes, with \xHH in the place of what would break
- * the line, and the others are as `bactool show` has them. A property without a value has `error`.
+ * After `value` come its elements. Numbers are decimal, an object is TYPE:INSTANCE, and text is in quotes, with \xHH in
+ * the place of what would break the line; the others are as `bactool show` has them. A property without a value has
+ * `error`.
  *
  * The status is 0 if each record is accepted, 1 if one is refused, and 2 if the input cannot be read or ends within a
  * record, if the output cannot be written, or if memory is refused.
@@ -71,7 +72,7 @@ static void print_double(uint64_t bits)
     printf("%s", isnan(value) ? "nan" : text);
 }
 
-/* Character set 0 is UTF-8. The octets of another set are printed as they are. */
+/* Character set 0 is UTF-8, which is not checked here. Of another set the octets are printed. */
 static void print_text(uint64_t set, const uint8_t *octets, size_t length)
 {
     if (set != 0) {
