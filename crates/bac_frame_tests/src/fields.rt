@@ -18,9 +18,9 @@ const BEFORE: Field = Field {
     length: 5,
 };
 
-/// Stops the test unless the frame with these octets, which are canonical, has so many fields, and what was in the vectors
-/// stays before what is appended. Returns the field with this index.
-fn field_of(rt: &impl Abort, alloc: Global, octets: &[u8], count: usize, index: usize) -> Field {
+/// Returns the fields of the frame with these octets, which are canonical. Stops the test unless what was in the vectors
+/// stays before what is appended.
+fn appended(rt: &impl Abort, alloc: Global, octets: &[u8]) -> Vec<Field> {
     let frame = decode_frame(alloc, octets).expect(rt, "a frame");
     let mut canonical = Vec::from_slice(alloc, &[7]).expect(rt, "memory");
     let mut fields = Vec::from_slice(alloc, &[BEFORE]).expect(rt, "memory");
@@ -28,31 +28,31 @@ fn field_of(rt: &impl Abort, alloc: Global, octets: &[u8], count: usize, index: 
     assert_eq!(rt; canonical.first(), Some(&7));
     assert_eq!(rt; canonical.get(1..).unwrap_or(&[]), octets);
     assert_eq!(rt; fields.first(), Some(&BEFORE));
-    assert_eq!(rt; fields.len(), 1 + count);
-    *fields.get(1 + index).expect(rt, "a field")
+    Vec::from_slice(alloc, fields.get(1..).unwrap_or(&[])).expect(rt, "memory")
 }
 
-/// A value of so many Nulls has a field for each.
-fn nulls_have_their_fields(rt: &impl Abort, alloc: Global, size: usize) {
+/// A value of so many Nulls has a field for each, and ends at this place.
+fn nulls_have_their_fields(rt: &impl Abort, alloc: Global, size: usize, count: usize, place: usize) {
     let nulls = vec![in alloc; 0; size].expect(rt, "memory");
     let octets = enclosed(alloc, &ANSWER, &nulls, &[], &[0x3F]).expect(rt, "memory");
     let end = Field {
         name: Name::ValueEnd.number(),
         number: 0,
-        place: 13 + size,
+        place,
         head: 1,
         length: 0,
     };
-    let found = field_of(rt, alloc, &octets, 9 + size, 8 + size);
-    assert_eq!(rt; found, end);
+    let fields = appended(rt, alloc, &octets);
+    assert_eq!(rt; fields.len(), count);
+    assert_eq!(rt; fields.last(), Some(&end));
 }
 
 #[test]
 fn many_elements_have_their_fields(rt: HostRuntime) {
-    nulls_have_their_fields(&rt, rt.alloc(), 0);
-    nulls_have_their_fields(&rt, rt.alloc(), 1);
-    nulls_have_their_fields(&rt, rt.alloc(), 1_000);
-    nulls_have_their_fields(&rt, rt.alloc(), 100_000);
+    nulls_have_their_fields(&rt, rt.alloc(), 0, 9, 13);
+    nulls_have_their_fields(&rt, rt.alloc(), 1, 10, 14);
+    nulls_have_their_fields(&rt, rt.alloc(), 1_000, 1_009, 1_013);
+    nulls_have_their_fields(&rt, rt.alloc(), 100_000, 100_009, 100_013);
 }
 
 // The head of an Octet String of a mebibyte is its tag, FF and four octets of length (clause 20.2.1.3.1).
@@ -68,6 +68,7 @@ fn many_octets_have_one_field(rt: HostRuntime) {
         head: 6,
         length: 1_048_576,
     };
-    let found = field_of(&rt, rt.alloc(), &whole, 10, 8);
-    assert_eq!(rt; found, string);
+    let fields = appended(&rt, rt.alloc(), &whole);
+    assert_eq!(rt; fields.len(), 10);
+    assert_eq!(rt; fields.get(8), Some(&string));
 }
