@@ -32,7 +32,13 @@ fn appended(rt: &impl Abort, alloc: Global, octets: &[u8]) -> Vec<Field> {
 }
 
 /// A value of so many Nulls has a field for each, and ends at this place.
-fn nulls_have_their_fields(rt: &impl Abort, alloc: Global, size: usize, count: usize, place: usize) {
+fn nulls_have_their_fields(
+    rt: &impl Abort,
+    alloc: Global,
+    size: usize,
+    count: usize,
+    place: usize,
+) {
     let nulls = vec![in alloc; 0; size].expect(rt, "memory");
     let octets = enclosed(alloc, &ANSWER, &nulls, &[], &[0x3F]).expect(rt, "memory");
     let end = Field {
