@@ -24,10 +24,11 @@ const BLANK: Field = Field {
     length: 0,
 };
 
-/// Returns how many fields the frame with this head and this body has. None if a number has no room in a `usize`.
+/// Returns how many fields the frame with this head and this body has. None exactly if a number has no room in a `usize`.
 fn count_fields(head: &FrameHead<'_>, body: &Body) -> Option<usize>
     ensures count { IfSome result (λ count. count ≡ length (placed_fields (frame_with head.now (body_value body.now)))) }
     ensures fits { IsSome result → FrameFits (frame_with head.now (body_value body.now)) }
+    ensures unfit { IfNone result (FrameFits (frame_with head.now (body_value body.now)) → ⊥) }
 {
     Some(tell_frame(head, body, START, &mut [])?.count)
 }
@@ -44,12 +45,13 @@ fn fill(head: &FrameHead<'_>, body: &Body, room: &mut [Field])
 }
 
 /// Writes the fields of the frame with this head and this body at the front of the room, if it has room for all of them.
-/// Returns how many they are. None if a number has no room in a `usize`, which no frame in memory comes to.
+/// Returns how many they are. None exactly if a number has no room in a `usize`, which no frame in memory comes to.
 pub fn write_fields(head: &FrameHead<'_>, body: &Body, room: &mut [Field]) -> Option<usize>
     ensures count { IfSome result (λ count. count ≡ length (placed_fields (frame_with head.now (body_value body.now)))) }
     ensures written { IfSome result (λ count. count ≤ length room.old → room.new ≡ placed_fields (frame_with head.now (body_value body.now)) ++ drop count room.old) }
     ensures short { IfSome result (λ count. length room.old < count → room.new ≡ room.old) }
     ensures none { IfNone result (room.new ≡ room.old) }
+    ensures unfit { IfNone result (FrameFits (frame_with head.now (body_value body.now)) → ⊥) }
 {
     let count = count_fields(head, body)?;
     if count <= room.len() {
