@@ -1,8 +1,8 @@
 mod ControlLemmas
-mod WrittenLemmas
+pub mod WrittenLemmas
 mod MessageLemmas
 mod NumberLemmas
-mod FrameLemmas
+pub mod FrameLemmas
 mod PartLemmas
 mod NetworksLemmas
 mod TablesLemmas
@@ -17,7 +17,7 @@ mod HeadRefusedLemmas
 mod HeadReadLemmas
 mod BodyLemmas
 mod FrameReadLemmas
-mod OnceLemmas
+pub mod OnceLemmas
 mod FormerLemmas
 mod SmallLemmas
 mod MemoryLemmas

@@ -1,2 +1,2 @@
 mod TextLemmas
-mod WalkLemmas
+pub mod WalkLemmas
