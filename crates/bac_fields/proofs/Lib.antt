@@ -1,3 +1,13 @@
 pub mod FieldLemmas
 pub mod ToldLemmas
 pub mod WalkLemmas
+pub mod EventRanges
+pub mod LineLemmas
+pub mod ValueLines
+pub mod ServiceLines
+pub mod FrameLines
+pub mod PlaceLemmas
+pub mod ValuePlaces
+pub mod ServicePlaces
+pub mod FramePlaces
+pub mod OneFrame

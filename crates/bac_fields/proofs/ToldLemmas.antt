@@ -1,5 +1,5 @@
 -- How many fields are written, and where.
-use Rattle.std.specs.Prelude.{nat_lt, Option, None, Some, IfSome, MatchOption, is_some}
+use Rattle.std.specs.Prelude.{nat_lt, Option, None, Some, IfNone, IfSome, MatchOption, is_some}
 use Rattle.std.proofs.Common.{◌≡◌, ◌≤◌, ◌<◌, ◌+◌, ◌++◌, ℕ, suc, true, false, zero-add, List, [], ◌∷◌, length, take, drop, refl, sym, ap, ◌∙◌, append_assoc, arith}
 use Rattle.std.proofs.Math.ListN.{set}
 use Rattle.std.proofs.lemmas.Bool.{cond-true, lt-ltb}
@@ -73,3 +73,7 @@ refuted (Some e) steps room told none fits = let e : true ≡ false = none in cc
 -- numbers that have room have it whatever the room for fields is
 pub writes_where_it_fits : {steps : List Step} {room new : List Field} {end : Option Cursor} → Writes steps room start new end → is_some end ≡ false → Fits (record { room = []; count = 0; place = 0 }) steps → ⊥
 writes_where_it_fits {steps} {room} {new} {end} written none fits = refuted end steps room written.fits none fits
+
+pub if_none : {T P : Type 0} (r : Option T) → P → IfNone r P
+if_none None p = p
+if_none (Some x) p = tt

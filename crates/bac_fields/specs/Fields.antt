@@ -34,7 +34,7 @@ two_octets_field name number = record { name = name; number = number; head = [];
 abbrev pub octets_field : Name → List ℕ → FieldValue
 octets_field name octets = record { name = name; number = 0; head = []; contents = octets }
 
--- octets behind their number
+-- octets after their number
 abbrev pub counted_field : Name → List ℕ → FieldValue
 counted_field name octets = record { name = name; number = 0; head = length octets ∷ []; contents = octets }
 
@@ -57,11 +57,11 @@ opening_field name tag number = record { name = name; number = number; head = na
 abbrev pub closing_field : Name → ℕ → ℕ → FieldValue
 closing_field name tag number = record { name = name; number = number; head = narrow_opening 1 tag 7; contents = [] }
 
--- a number that an octet of the head of a frame or of an APDU holds, alone or beside others
+-- a number that an octet of the head of a frame or of an APDU holds, by itself or with others
 abbrev pub held_field : Name → ℕ → FieldValue
 held_field name number = record { name = name; number = number; head = []; contents = [] }
 
--- a network, and an address on it behind the number of its octets
+-- a network, and an address on it after the number of its octets
 abbrev pub address_field : Name → ℕ → List ℕ → FieldValue
 address_field name network address =
     record { name = name; number = network; head = (network / 256) ∷ (network % 256) ∷ length address ∷ []; contents = address }

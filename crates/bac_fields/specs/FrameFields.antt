@@ -14,7 +14,7 @@ abbrev pub source_size : Option SourceValue → ℕ
 source_size None = 0
 source_size (Some source) = 3 + length source.address
 
--- a destination; its hop count is behind the source
+-- a destination; its hop count is after the source
 abbrev pub destination_steps : ℕ → Option DestinationValue → List Step
 destination_steps size None = []
 destination_steps size (Some destination) = next (address_field name.Destination destination.network destination.address) ∷ aside size name.HopCount destination.hops ∷ []

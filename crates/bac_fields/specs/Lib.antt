@@ -17,3 +17,5 @@ pub mod ServiceFields
 pub mod ApduFields
 pub mod MessageFields
 pub mod FrameFields
+pub mod Line
+pub mod Places

@@ -97,7 +97,7 @@ number_of name.TimeOfDay = 141
 number_of name.ObjectIdentifier = 142
 number_of name.ContextPrimitive = 143
 
--- The word of a name: what the line has before the sign behind it, or what says what the field is.
+-- The word of a name: what the line has before the sign after it, or what says what the field is.
 abbrev pub word_of : Name → List ℕ
 word_of name.NetworkPriority = codes "prio"
 word_of name.ReplyExpected = codes "reply"

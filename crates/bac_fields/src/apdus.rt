@@ -36,8 +36,8 @@ impl HasFields for ConfirmedRequest {
 
     fn tell(&self, cursor: Cursor, room: &mut [Field]) -> Option<Cursor> {
         let word = Aside(0, Name::ConfirmedRequest, 0);
-        let behind = (Pass(3), self.service());
-        (word, (self.head(), behind)).tell(cursor, room)
+        let rest = (Pass(3), self.service());
+        (word, (self.head(), rest)).tell(cursor, room)
     }
 }
 
@@ -62,8 +62,8 @@ impl HasFields for ComplexAck {
     fn tell(&self, cursor: Cursor, room: &mut [Field]) -> Option<Cursor> {
         let word = Aside(0, Name::ComplexAck, 0);
         let invoke = Aside(1, Name::InvokeId, u64::from(self.invoke()));
-        let behind = (Pass(2), self.service());
-        (word, (invoke, behind)).tell(cursor, room)
+        let rest = (Pass(2), self.service());
+        (word, (invoke, rest)).tell(cursor, room)
     }
 }
 
@@ -76,8 +76,8 @@ impl HasFields for ErrorPdu {
     fn tell(&self, cursor: Cursor, room: &mut [Field]) -> Option<Cursor> {
         let word = Aside(0, Name::Error, 0);
         let invoke = Aside(1, Name::InvokeId, u64::from(self.invoke()));
-        let behind = (Pass(2), self.service());
-        (word, (invoke, behind)).tell(cursor, room)
+        let rest = (Pass(2), self.service());
+        (word, (invoke, rest)).tell(cursor, room)
     }
 }
 
@@ -153,8 +153,8 @@ impl<const N: u8> HasFields for Behind<'_, N> {
         let more = Aside(0, Name::More, u64::from(segment.more));
         let choice = Aside(at + 2, Name::Choice, u64::from(segment.choice));
         let piece = Octets(Name::Octets, segment.piece.as_slice());
-        let behind = (Pass(at + 3), piece);
-        (seq, (window, (more, (choice, behind)))).tell(cursor, room)
+        let rest = (Pass(at + 3), piece);
+        (seq, (window, (more, (choice, rest)))).tell(cursor, room)
     }
 }
 

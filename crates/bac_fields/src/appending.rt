@@ -60,6 +60,17 @@ pub fn write_fields(head: &FrameHead<'_>, body: &Body, room: &mut [Field]) -> Op
     Some(count)
 }
 
+/// Writes the fields of the frame with this head and this body at the front of the room, in one pass. Returns how many
+/// they are. If they are more than the room is long, it may hold some of them. None exactly if a number has no room in a
+/// `usize`, which no frame in memory comes to.
+pub fn write_fields_at_once(head: &FrameHead<'_>, body: &Body, room: &mut [Field]) -> Option<usize>
+    ensures count { IfSome result (λ count. count ≡ length (placed_fields (frame_with head.now (body_value body.now)))) }
+    ensures written { IfSome result (λ count. count ≤ length room.old → room.new ≡ placed_fields (frame_with head.now (body_value body.now)) ++ drop count room.old) }
+    ensures unfit { IfNone result (FrameFits (frame_with head.now (body_value body.now)) → ⊥) }
+{
+    Some(tell_frame(head, body, START, room)?.count)
+}
+
 /// Appends the fields of a frame. If memory is refused, `fields` stays as it was.
 fn append_places(frame: &Frame, fields: &mut Vec<Field>) -> Result<(), OutOfMemory>
     ensures ok { OnOk result (fields.new.items ≡ fields.old.items ++ placed_fields (value_of frame.now)) }

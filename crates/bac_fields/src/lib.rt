@@ -2,7 +2,7 @@
 //! name, a number, and the place of its octets in the frame.
 //!
 //! [`append_fields`] appends the fields of a frame. docs/FORMATS.md has the table of the names, with what the number of
-//! each is and what contents it has. The call that only the library for C needs is in [`layers`].
+//! each is and what contents it has. The calls that only the library for C needs are in [`layers`].
 //!
 //! In the example `rt` is the program's `HostRuntime`.
 //!
@@ -18,8 +18,14 @@
 //! A `Cursor` (`cursor.rt`) says how many fields are written and where the next octets are. A field for which there is
 //! no room is counted only. So the fields are counted by the same code, with no room at all (`append_fields` and
 //! `write_fields` in `appending.rt`), and written once their number is known. If a number had no room in a `usize`, a
-//! function would return None. Which numbers these are depends on the steps alone (`Fits`), so the second pass succeeds
-//! if the first one did.
+//! function would return None. Which numbers these are depends only on the steps (`Fits`), so the second pass succeeds if
+//! the first one did. A frame has at most two fields for each of its canonical octets, and two more. So
+//! `write_fields_at_once` needs no first pass where there is room for as many.
+//!
+//! The laws (`laws.rt`) say what the definitions have to do with each other: the line of a frame is its fields, printed
+//! (`Line.antt`), each field is where its place says (`Places.antt`), and the fields tell the frame. Their proofs go over
+//! the definitions type by type, in `LineLemmas.antt` and the files of names in `Lines`, in `PlaceLemmas.antt` and those
+//! in `Places`, and in `OneFrame.antt`.
 #![tactic(auto)]
 
 mod apdus;
@@ -28,6 +34,7 @@ mod cursor;
 mod field;
 mod frames;
 mod heads;
+pub mod laws;
 pub mod layers;
 mod messages;
 mod names;

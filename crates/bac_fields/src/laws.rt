@@ -1,0 +1,38 @@
+//! Laws of the definitions.
+
+ghost use Rattle.std.specs.Prelude.{◌≡◌, ℕ, ◌+◌, ◌*◌, ◌^◌, ◌<◌, ◌≤◌, List, length};
+ghost use Rattle.bac_tag.specs.Spelling.{IsLeast};
+ghost use Rattle.bac_npdu.specs.Frames.{FrameValue, SpellsFrame};
+ghost use Rattle.bac_text.specs.FrameText.{text};
+ghost use Rattle.bac_fields.specs.FrameFields.{fields, frame_steps, placed_fields, FrameFits};
+ghost use Rattle.bac_fields.specs.Line.{printed};
+ghost use Rattle.bac_fields.specs.Places.{AreAt};
+
+/// The line of each frame that some octets spell is its fields, printed.
+pub fn the_line_is_the_fields()
+    ensures { (f : FrameValue) (b : List ℕ) → SpellsFrame f b → printed (fields f) ≡ text f }
+{}
+
+/// In the canonical octets of a frame, each field is at its place: a field with octets of its own has its head and its
+/// contents there, and one of the heads of the frame and of the APDU is a number that the octet holds there. After the
+/// last field there is nothing.
+pub fn the_places_are_right()
+    ensures { (f : FrameValue) (c : List ℕ) → IsLeast (SpellsFrame f) c → AreAt c 0 (frame_steps f) }
+{}
+
+/// Frames with the same fields are the same.
+pub fn fields_tell_the_frame()
+    ensures { (f g : FrameValue) (b c : List ℕ) → SpellsFrame f b → SpellsFrame g c → fields f ≡ fields g → f ≡ g }
+{
+    bac_service::laws::services_have_one_value();
+}
+
+/// A frame has at most two fields for each of its canonical octets, and two more.
+pub fn frames_have_few_fields()
+    ensures { (f : FrameValue) (c : List ℕ) → IsLeast (SpellsFrame f) c → length (placed_fields f) ≤ 2 * length c + 2 }
+{}
+
+/// If a `usize` has room for as many, each number of the fields has room in one.
+pub fn frames_in_memory_fit()
+    ensures { (f : FrameValue) (c : List ℕ) → IsLeast (SpellsFrame f) c → 2 * length c + 2 < 2 ^ 64 → FrameFits f }
+{}
