@@ -239,7 +239,8 @@ uint32_t bactool_normalise(const uint8_t *octets, size_t length, uint8_t *out, s
 /*
  * Writes, at the front of `out`, the canonical octets of the frame that the octets spell, as bactool_normalise does,
  * and at the front of `fields` its fields, in the order of its text. A number is in its field, and contents such as a
- * string are in `out`, after the head of their field. To learn how much room is needed, call with room 0 and `most` 0.
+ * string are in `out`, after the head of their field. A room of `length`, and a `most` of 2 * `length` + 2, are always
+ * enough, and with them it is fastest. To learn how much room is needed, call with room 0 and `most` 0.
  *
  *   BACTOOL_OK          both are written: `count` octets and `fields` fields
  *   BACTOOL_NO_ROOM     `room` or `most` is too small: nothing is written, and `count` and `fields` are what is needed

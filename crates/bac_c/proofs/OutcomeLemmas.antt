@@ -1,5 +1,6 @@
 -- What the calls for C tell.
 use Rattle.std.proofs.Common.{◌≡◌, ◌≢◌, ◌↔◌, ℕ, List}
+use Rattle.std.specs.Prelude.{Result, Ok, Err, IfErr}
 use Rattle.bac_tag.specs.declared.refusals.Refusal.{Refusal}
 use Rattle.bac_tag.specs.declared.refusals.Why.TheVariants.{Version, Address, PduType, Window, OutOfMemory}
 use Rattle.bac_tag.specs.Spelling.{IsWholeRefusal}
@@ -18,3 +19,11 @@ hopeless octets refusal memory refused versions addresses types windows reasons 
   reasoned = record { of_version = versions; of_address = addresses; of_type = types; of_window = windows; others = reasons };
   memory = memory;
 }
+
+-- the same, of what a call returns
+pub hopeless_result : {X : Type 0} (octets : List ℕ) (result : Result X Refusal) → IfErr result (λ refusal. refusal.why ≢ OutOfMemory → IsWholeRefusal SpellsFrame octets refusal)
+    → IfErr result (λ refusal. (refusal.why ≡ Version) ↔ IsVersionPlace octets refusal.place) → IfErr result (λ refusal. (refusal.why ≡ Address) ↔ IsAddressPlace octets refusal.place)
+    → IfErr result (λ refusal. (refusal.why ≡ PduType) ↔ IsPduTypePlace octets refusal.place) → IfErr result (λ refusal. (refusal.why ≡ Window) ↔ IsFrameWindowPlace octets refusal.place)
+    → IfErr result (λ refusal. IsFrameReason refusal.why) → IfErr result (λ refusal. refusal.why ≢ OutOfMemory → IsHopeless octets refusal)
+hopeless_result octets (Ok x) refused versions addresses types windows reasons = tt
+hopeless_result octets (Err refusal) refused versions addresses types windows reasons = λ memory. hopeless octets refusal memory (refused memory) versions addresses types windows reasons

@@ -33,15 +33,15 @@ number_of OutOfMemory = 12
 abbrev pub nothing : Outcome
 nothing = record { why = 0; place = 0; count = 0; fields = 0 }
 
--- a place alone
+-- only a place
 abbrev pub differs_at : ℕ → Outcome
 differs_at place = record { why = 0; place = place; count = 0; fields = 0 }
 
--- a refusal alone
+-- only a refusal
 abbrev pub refused_as : Refusal → Outcome
 refused_as refusal = record { why = number_of refusal.why; place = refusal.place; count = 0; fields = 0 }
 
--- a number of octets alone
+-- only a number of octets
 abbrev pub counted : ℕ → Outcome
 counted count = record { why = 0; place = 0; count = count; fields = 0 }
 
@@ -83,7 +83,7 @@ Tells Refuses outcome = (refusal : Refusal) × Refuses refusal × (outcome ≡ r
 abbrev pub IsTextOf : List ℕ → List ℕ → Type 0
 IsTextOf octets line = (frame : FrameValue) × SpellsFrame frame octets × (line ≡ text frame)
 
--- The new list has octets of the kind in front, and behind them what stood there. The outcome tells how many they are.
+-- The new list has octets of the kind in front, and after them what was there. The outcome tells how many they are.
 pub record IsWritten (Wanted : List ℕ → Type 0) (old new : List ℕ) (outcome : Outcome) : Type 0 where
   pub octets : List ℕ
   pub wanted : Wanted octets
@@ -107,11 +107,11 @@ pub record IsTold (octets : List ℕ) (canonical : List ℕ) (fields : List Fiel
   pub fields_are : fields ≡ placed_fields frame
   pub told : outcome ≡ decoded (length canonical) (length fields)
 
--- the new list has these items in front, and behind them what was there
+-- the new list has these items in front, and after them what was there
 abbrev pub IsFront : {X : Type 0} → List X → List X → List X → Type 0
 IsFront items old new = new ≡ items ++ drop (length items) old
 
--- The new lists have the canonical octets and the fields of the frame in front, and behind them what was there.
+-- The new lists have the canonical octets and the fields of the frame in front, and after them what was there.
 pub record IsDecoded (octets : List ℕ) (old new : List ℕ) (was are : List Field) (outcome : Outcome) : Type 0 where
   pub canonical : List ℕ
   pub fields : List Field

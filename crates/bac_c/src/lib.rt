@@ -32,6 +32,7 @@ mod codes;
 mod comparing;
 mod decoding;
 mod field_names;
+mod in_place;
 mod normalising;
 mod outcomes;
 mod reasons;
