@@ -174,21 +174,12 @@ static void print_values(unsigned number, const uint8_t *octets, const struct ba
 /* Prints the values of one record. Returns the status for it. */
 static int print_record(unsigned number, const uint8_t *frame, size_t length)
 {
-    static uint8_t octets[LONGEST]; /* there are never more canonical octets than were read */
-    static struct bactool_field *fields;
-    static size_t most;
+    /* There are never more canonical octets than were read, nor more than two fields for each of them and two more. */
+    static uint8_t octets[LONGEST];
+    static struct bactool_field fields[2 * LONGEST + 2];
     struct bactool_outcome outcome;
     char name[16];
-    uint32_t code = bactool_decode(frame, length, octets, sizeof octets, fields, most, &outcome);
-    if (code == BACTOOL_NO_ROOM) {
-        struct bactool_field *more = realloc(fields, outcome.fields * sizeof *fields);
-        if (more != NULL) {
-            fields = more;
-            most = outcome.fields;
-            code = bactool_decode(frame, length, octets, sizeof octets, fields, most, &outcome);
-        }
-    }
-    switch (code) {
+    switch (bactool_decode(frame, length, octets, sizeof octets, fields, 2 * length + 2, &outcome)) {
     case BACTOOL_OK:
         if (has_values(fields, outcome.fields))
             print_values(number, octets, fields, outcome.fields);

@@ -137,13 +137,10 @@ class Bactool:
         """
         outcome, octets = Outcome(), bytes(octets)
         out = ctypes.create_string_buffer(len(octets) + 1)
-        most = 64
-        while True:
-            fields = (Field * most)()
-            code = self.library.bactool_decode(octets, len(octets), out, len(octets), fields, most, outcome)
-            if self._accepted(code, outcome) == OK:
-                return self._nested(out.raw, fields[: outcome.fields])
-            most = outcome.fields
+        most = 2 * len(octets) + 2  # no frame has more fields
+        fields = (Field * most)()
+        self._accepted(self.library.bactool_decode(octets, len(octets), out, len(octets), fields, most, outcome), outcome)
+        return self._nested(out.raw, fields[: outcome.fields])
 
     def same_meaning(self, left, right):
         """Returns whether both inputs spell one frame."""

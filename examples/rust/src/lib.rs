@@ -130,26 +130,22 @@ impl Frame {
 
 /// Returns the frame as its fields.
 pub fn decode(octets: &[u8]) -> Result<Frame, Refusal> {
-    // There are never more canonical octets than octets.
-    let (mut out, mut parts) = (vec![0; octets.len()], vec![Part::default(); 64]);
+    // There are never more canonical octets than octets, nor more than two fields for each of them and two more.
+    let mut out = vec![0; octets.len()];
+    let mut parts = vec![Part::default(); 2 * octets.len() + 2];
     let mut outcome = Outcome::default();
-    loop {
-        // SAFETY: as above, and `parts` is memory of its own for so many fields.
-        let code = unsafe {
-            let (room, most) = (out.len(), parts.len());
-            let (out, parts) = (out.as_mut_ptr(), parts.as_mut_ptr());
-            bactool_decode(octets.as_ptr(), octets.len(), out, room, parts, most, &mut outcome)
-        };
-        match code {
-            OK => {
-                out.truncate(outcome.count);
-                parts.truncate(outcome.fields);
-                return Ok(Frame { octets: out, parts });
-            }
-            NO_ROOM => parts.resize(outcome.fields, Part::default()),
-            _ => return Err(refusal(outcome)),
-        }
+    // SAFETY: as above, and `parts` is memory of its own for so many fields.
+    let code = unsafe {
+        let (room, most) = (out.len(), parts.len());
+        let (out, parts) = (out.as_mut_ptr(), parts.as_mut_ptr());
+        bactool_decode(octets.as_ptr(), octets.len(), out, room, parts, most, &mut outcome)
+    };
+    if code != OK {
+        return Err(refusal(outcome));
     }
+    out.truncate(outcome.count);
+    parts.truncate(outcome.fields);
+    Ok(Frame { octets: out, parts })
 }
 
 /// Returns the text of the frame.
