@@ -41,11 +41,32 @@ impl Decoded {
     }
 }
 
+/// As [`write_if_room`], counting the fields before the first is written.
+fn count_and_write(
+    head: &FrameHead<'_>,
+    body: &Body,
+    size: usize,
+    room: usize,
+    fields: &mut [Field],
+) -> Option<(usize, bool)>
+    ensures count { IfSome result (λ told. told.0 ≡ length (placed_fields (frame_with head.now (body_value body.now)))) }
+    ensures filled { IfSome result (λ told. IsFilledIf size room (frame_with head.now (body_value body.now)) fields.old fields.new told.1) }
+    ensures none { IfNone result (fields.new ≡ fields.old) }
+{
+    if room < size {
+        let count = write_fields(head, body, &mut [])?;
+        return Some((count, false));
+    }
+    let count = write_fields(head, body, fields)?;
+    Some((count, count <= fields.len()))
+}
+
 /// Writes the fields of the frame with this head and this body at the front of `fields`, if it is long enough and `room`
 /// is at least `size`, the number of the frame's canonical octets. Returns how many fields there are, and whether they are
 /// written. None if a number has no room.
 ///
 /// If `fields` is long enough for every frame of so many octets, the fields are not counted first.
+#[inline(always)]
 fn write_if_room(
     head: &FrameHead<'_>,
     body: &Body,
@@ -57,16 +78,11 @@ fn write_if_room(
     ensures filled { IfSome result (λ told. IsFilledIf size room (frame_with head.now (body_value body.now)) fields.old fields.new told.1) }
     ensures none { IfNone result ((fields.new ≡ fields.old) ⊎ (HasRoomFor size fields.old × (FrameFits (frame_with head.now (body_value body.now)) → ⊥))) }
 {
-    if room < size {
-        let count = write_fields(head, body, &mut [])?;
-        return Some((count, false));
-    }
-    if size < fields.len() / 2 {
+    if size <= room && size < fields.len() / 2 {
         let count = write_fields_at_once(head, body, fields)?;
         return Some((count, true));
     }
-    let count = write_fields(head, body, fields)?;
-    Some((count, count <= fields.len()))
+    count_and_write(head, body, size, room, fields)
 }
 
 /// Returns the canonical octets of the frame with this head and this body, which are at most `size`. None if memory is
