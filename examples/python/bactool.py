@@ -110,7 +110,7 @@ class Bactool:
     def decode(self, octets):
         """Returns the frame as a dict, which says all that its text says, and of which JSON can be made.
 
-        The keys are the words of the text, in its order. A word that stands alone, such as `conf` or `ReadProperty`, is
+        The keys are the words of the text, in its order. A word without a value, such as `conf` or `ReadProperty`, is
         True. What follows another one is
 
             an int          a number; the type of a network message too (`net`)

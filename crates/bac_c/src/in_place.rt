@@ -167,6 +167,7 @@ fn decode_with_mark(
 /// Room for fields.
 #[derive(Drop)]
 struct FieldRoom<'a> {
+    /// The room that C passes. What is after the fields that are written stays as it was.
     fields: &'a mut [Field],
 }
 

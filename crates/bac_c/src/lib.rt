@@ -1,10 +1,10 @@
 //! The library for C. `include/bactool.h` declares these calls and says for a C program what they do.
 //!
-//! Each call uses one call of the library, and [`bactool_show`] uses two. It repeats the contract of that call for what
-//! C passes and gets back: octets as a pointer and a length, an [`Outcome`] through a pointer, and one of the codes
-//! below as the result. A frame is one NPDU (clause 6 of the standard), with an APDU or a network message in it. No
-//! call keeps a pointer, has a state, or keeps memory after it returns, so any calls may run in any threads at the same
-//! time.
+//! Each call uses one call of the library, but [`bactool_show`] two, and [`bactool_decode`] those that write a frame
+//! where it is decoded (`in_place.rt`). It repeats the contract of what it uses for what C passes and gets back: octets
+//! as a pointer and a length, an [`Outcome`] through a pointer, and one of the codes below as the result. A frame is
+//! one NPDU (clause 6 of the standard), with an APDU or a network message in it. No call keeps a pointer, has a state,
+//! or keeps memory after it returns, so any calls may run in any threads at the same time.
 //!
 //! # How it works
 //!
