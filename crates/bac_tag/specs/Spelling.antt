@@ -22,30 +22,86 @@ pub record AppendsLeast (Among : List ℕ → Type 0) (old new : List ℕ) : Typ
   pub is_least : IsLeast Among more
   pub new_is : new ≡ old ++ more
 
-module _ {X : Type 0} where
+module _ {A X : Type 0} where
   -- the list spells some value
-  abbrev pub IsSpelling : (X → List ℕ → Type 0) → List ℕ → Type 0
+  abbrev pub IsSpelling : (X → List A → Type 0) → List A → Type 0
   IsSpelling Spells b = (x : X) × Spells x b
 
   -- b begins a list that spells a value
-  pub record IsViable (Spells : X → List ℕ → Type 0) (b : List ℕ) : Type 0 where
+  pub record IsViable (Spells : X → List A → Type 0) (b : List A) : Type 0 where
     pub value : X
-    pub rest : List ℕ
+    pub rest : List A
     pub spelled : Spells value (b ++ rest)
 
   -- no front of the input spells a value
-  abbrev pub NoFront : (X → List ℕ → Type 0) → List ℕ → Type 0
-  NoFront Spells input = (x : X) (b rest : List ℕ) → input ≡ b ++ rest → Spells x b → ⊥
+  abbrev pub NoFront : (X → List A → Type 0) → List A → Type 0
+  NoFront Spells input = (x : X) (b rest : List A) → input ≡ b ++ rest → Spells x b → ⊥
 
   -- A spelling shows where it ends: none begins another one, nor spells two values.
-  abbrev pub EndsItself : (X → List ℕ → Type 0) → Type 0
-  EndsItself Spells = (x y : X) (b c r s : List ℕ) → Spells x b → Spells y c → b ++ r ≡ c ++ s → (b ≡ c) × (x ≡ y)
+  abbrev pub EndsItself : (X → List A → Type 0) → Type 0
+  EndsItself Spells = (x y : X) (b c r s : List A) → Spells x b → Spells y c → b ++ r ≡ c ++ s → (b ≡ c) × (x ≡ y)
 
   -- a value and the number of octets, at the front of the input, that spell it
-  pub record Takes (Spells : X → List ℕ → Type 0) (input : List ℕ) (found : X × ℕ) : Type 0 where
+  pub record Takes (Spells : X → List A → Type 0) (input : List A) (found : X × ℕ) : Type 0 where
     pub within : found.1 ≤ length input
     pub spelled : Spells found.0 (take found.1 input)
 
+  -- So many octets of the input begin a spelling, and one more do not.
+  pub record IsFurthest (Spells : X → List A → Type 0) (input : List A) (place : ℕ) : Type 0 where
+    pub within : place ≤ length input
+    pub begins : IsViable Spells (take place input)
+    pub ends : place < length input → IsViable Spells (take (place + 1) input) → ⊥
+
+  -- No front of the input is a spelling. The place is that of the first octet with which none can be
+  -- begun, and Short is told exactly where the input ends before there is one.
+  pub record IsRefusal (Spells : X → List A → Type 0) (input : List A) (refusal : Refusal) : Type 0 where
+    pub none : NoFront Spells input
+    pub furthest : IsFurthest Spells input refusal.place
+    pub short : (refusal.why ≡ Short) ↔ (refusal.place ≡ length input)
+
+  -- The input as a whole spells no value. The place is that of the first octet with which no spelling can be begun. Short is
+  -- told exactly where the input ends before there is one, Trailing exactly where the octets in front of it spell a value.
+  pub record IsWholeRefusal (Spells : X → List A → Type 0) (input : List A) (refusal : Refusal) : Type 0 where
+    pub none : (x : X) → Spells x input → ⊥
+    pub furthest : IsFurthest Spells input refusal.place
+    pub short : (refusal.why ≡ Short) ↔ (refusal.place ≡ length input)
+    pub trailing : (refusal.why ≡ Trailing) ↔ ((refusal.place < length input) × IsSpelling Spells (take refusal.place input))
+
+-- a list of the first kind, and behind it one of the second
+pub record Joins {A : Type 0} (First Second : List A → Type 0) (b : List A) : Type 0 where
+  pub front : List A
+  pub back : List A
+  pub first : First front
+  pub second : Second back
+  pub octets : b ≡ front ++ back
+
+-- two parts, one behind the other
+abbrev pub Joined : {A X Y : Type 0} → (X → List A → Type 0) → (Y → List A → Type 0) → X × Y → List A → Type 0
+Joined First Second pair = Joins (First pair.0) (Second pair.1)
+
+-- the same, where the second part goes by the value of the first
+abbrev pub JoinedBy : {A X Y : Type 0} → (X → List A → Type 0) → (X → Y → List A → Type 0) → X × Y → List A → Type 0
+JoinedBy First Second pair = Joins (First pair.0) (Second pair.0 pair.1)
+
+-- a spelling of the first part, followed by a list that is viable for the second
+pub record IsPartway {A X Y : Type 0} (First : X → List A → Type 0) (Second : X → Y → List A → Type 0) (b : List A) : Type 0 where
+  pub value : X
+  pub front : List A
+  pub back : List A
+  pub first : First value front
+  pub viable : IsViable (Second value) back
+  pub octets : b ≡ front ++ back
+
+-- whatever the first part is, the second can follow
+abbrev pub CanFollow : {A X Y : Type 0} → (X → List A → Type 0) → (X → Y → List A → Type 0) → Type 0
+CanFollow {A = A} {X = X} {Y = Y} First Second = (x : X) (b : List A) → First x b → (y : Y) × (d : List A) × Second x y d
+
+-- the spellings of either of two cases
+abbrev pub OneOf : {A X Y : Type 0} → (X → List A → Type 0) → (Y → List A → Type 0) → X ⊎ Y → List A → Type 0
+OneOf First Second (inl x) b = First x b
+OneOf First Second (inr y) b = Second y b
+
+module _ {X : Type 0} where
   -- so many octets of the input are the canonical ones of some value
   pub record TakesLeast (Spells : X → List ℕ → Type 0) (input : List ℕ) (taken : ℕ) : Type 0 where
     pub value : X
@@ -55,58 +111,3 @@ module _ {X : Type 0} where
   -- the octets as a whole are the canonical ones of some value
   abbrev pub IsCanonical : (X → List ℕ → Type 0) → List ℕ → Type 0
   IsCanonical Spells octets = (x : X) × IsLeast (Spells x) octets
-
-  -- So many octets of the input begin a spelling, and one more do not.
-  pub record IsFurthest (Spells : X → List ℕ → Type 0) (input : List ℕ) (place : ℕ) : Type 0 where
-    pub within : place ≤ length input
-    pub begins : IsViable Spells (take place input)
-    pub ends : place < length input → IsViable Spells (take (place + 1) input) → ⊥
-
-  -- No front of the input is a spelling. The place is that of the first octet with which none can be
-  -- begun, and Short is told exactly where the input ends before there is one.
-  pub record IsRefusal (Spells : X → List ℕ → Type 0) (input : List ℕ) (refusal : Refusal) : Type 0 where
-    pub none : NoFront Spells input
-    pub furthest : IsFurthest Spells input refusal.place
-    pub short : (refusal.why ≡ Short) ↔ (refusal.place ≡ length input)
-
-  -- The input as a whole spells no value. The place is that of the first octet with which no spelling can be begun. Short is
-  -- told exactly where the input ends before there is one, Trailing exactly where the octets in front of it spell a value.
-  pub record IsWholeRefusal (Spells : X → List ℕ → Type 0) (input : List ℕ) (refusal : Refusal) : Type 0 where
-    pub none : (x : X) → Spells x input → ⊥
-    pub furthest : IsFurthest Spells input refusal.place
-    pub short : (refusal.why ≡ Short) ↔ (refusal.place ≡ length input)
-    pub trailing : (refusal.why ≡ Trailing) ↔ ((refusal.place < length input) × IsSpelling Spells (take refusal.place input))
-
--- a list of the first kind, and behind it one of the second
-pub record Joins (First Second : List ℕ → Type 0) (b : List ℕ) : Type 0 where
-  pub front : List ℕ
-  pub back : List ℕ
-  pub first : First front
-  pub second : Second back
-  pub octets : b ≡ front ++ back
-
--- two parts, one behind the other
-abbrev pub Joined : {X Y : Type 0} → (X → List ℕ → Type 0) → (Y → List ℕ → Type 0) → X × Y → List ℕ → Type 0
-Joined First Second pair = Joins (First pair.0) (Second pair.1)
-
--- the same, where the second part goes by the value of the first
-abbrev pub JoinedBy : {X Y : Type 0} → (X → List ℕ → Type 0) → (X → Y → List ℕ → Type 0) → X × Y → List ℕ → Type 0
-JoinedBy First Second pair = Joins (First pair.0) (Second pair.0 pair.1)
-
--- a spelling of the first part, followed by a list that is viable for the second
-pub record IsPartway {X Y : Type 0} (First : X → List ℕ → Type 0) (Second : X → Y → List ℕ → Type 0) (b : List ℕ) : Type 0 where
-  pub value : X
-  pub front : List ℕ
-  pub back : List ℕ
-  pub first : First value front
-  pub viable : IsViable (Second value) back
-  pub octets : b ≡ front ++ back
-
--- whatever the first part is, the second can follow
-abbrev pub CanFollow : {X Y : Type 0} → (X → List ℕ → Type 0) → (X → Y → List ℕ → Type 0) → Type 0
-CanFollow {X = X} {Y = Y} First Second = (x : X) (b : List ℕ) → First x b → (y : Y) × (d : List ℕ) × Second x y d
-
--- the spellings of either of two cases
-abbrev pub OneOf : {X Y : Type 0} → (X → List ℕ → Type 0) → (Y → List ℕ → Type 0) → X ⊎ Y → List ℕ → Type 0
-OneOf First Second (inl x) b = First x b
-OneOf First Second (inr y) b = Second y b
