@@ -20,7 +20,7 @@ pub fn the_places_are_right()
     ensures { (f : FrameValue) (c : List ℕ) → IsLeast (SpellsFrame f) c → AreAt c 0 (frame_steps f) }
 {}
 
-/// Frames with the same fields are the same.
+/// Two frames that some octets spell are the same if their fields are.
 pub fn fields_tell_the_frame()
     ensures { (f g : FrameValue) (b c : List ℕ) → SpellsFrame f b → SpellsFrame g c → fields f ≡ fields g → f ≡ g }
 {

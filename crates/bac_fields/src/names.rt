@@ -1,6 +1,6 @@
 //! The names of fields.
 
-ghost use Rattle.std.specs.Prelude.{◌≡◌, IfSome};
+ghost use Rattle.std.specs.Prelude.{◌≡◌, ◌≤◌, ◌<◌, IfSome, Some};
 ghost use Rattle.bac_fields.specs.Names.{number_of, word_of};
 
 /// What a field says. In the doc comments a word in code style is how the line of `show` begins the field. The numbers
@@ -221,103 +221,16 @@ impl Name {
         ensures number { IfSome result (λ name. number_of name ≡ number) }
     {
         match number {
-            1 => Some(Name::NetworkPriority),
-            2 => Some(Name::ReplyExpected),
-            3 => Some(Name::Destination),
-            4 => Some(Name::HopCount),
-            5 => Some(Name::Source),
-            10 => Some(Name::ConfirmedRequest),
-            11 => Some(Name::UnconfirmedRequest),
-            12 => Some(Name::SimpleAck),
-            13 => Some(Name::ComplexAck),
-            14 => Some(Name::SegmentAck),
-            15 => Some(Name::Error),
-            16 => Some(Name::Reject),
-            17 => Some(Name::Abort),
-            18 => Some(Name::RequestSegment),
-            19 => Some(Name::AckSegment),
-            20 => Some(Name::InvokeId),
-            21 => Some(Name::SegmentedAccepted),
-            22 => Some(Name::MaxSegments),
-            23 => Some(Name::MaxResponse),
-            24 => Some(Name::Sequence),
-            25 => Some(Name::Window),
-            26 => Some(Name::More),
-            27 => Some(Name::Negative),
-            28 => Some(Name::Server),
-            29 => Some(Name::Reason),
-            30 => Some(Name::Choice),
-            31 => Some(Name::Octets),
-            40 => Some(Name::NetworkMessage),
-            41 => Some(Name::Network),
-            42 => Some(Name::Networks),
-            43 => Some(Name::ListedNetwork),
-            44 => Some(Name::Performance),
-            45 => Some(Name::Ports),
-            46 => Some(Name::PortId),
-            47 => Some(Name::PortInfo),
-            48 => Some(Name::Time),
-            49 => Some(Name::Flag),
-            50 => Some(Name::Vendor),
-            51 => Some(Name::Data),
-            60 => Some(Name::ReadProperty),
-            61 => Some(Name::ReadPropertyMultiple),
-            62 => Some(Name::WriteProperty),
-            63 => Some(Name::WritePropertyMultiple),
-            64 => Some(Name::WhoIs),
-            65 => Some(Name::IAm),
-            66 => Some(Name::SubscribeCov),
-            67 => Some(Name::ConfirmedCovNotification),
-            68 => Some(Name::UnconfirmedCovNotification),
-            69 => Some(Name::Opaque),
-            80 => Some(Name::Object),
-            81 => Some(Name::Property),
-            82 => Some(Name::Index),
-            83 => Some(Name::Priority),
-            84 => Some(Name::Process),
-            85 => Some(Name::Device),
-            86 => Some(Name::Confirmed),
-            87 => Some(Name::Lifetime),
-            88 => Some(Name::Remaining),
-            89 => Some(Name::Low),
-            90 => Some(Name::High),
-            91 => Some(Name::MaxApdu),
-            92 => Some(Name::Segmentation),
-            93 => Some(Name::ErrorClass),
-            94 => Some(Name::ErrorCode),
-            110 => Some(Name::Specifications),
-            111 => Some(Name::Properties),
-            112 => Some(Name::Results),
-            113 => Some(Name::Values),
-            114 => Some(Name::ListEnd),
-            115 => Some(Name::Item),
-            116 => Some(Name::ItemEnd),
-            117 => Some(Name::Value),
-            118 => Some(Name::ValueEnd),
-            119 => Some(Name::PropertyError),
-            120 => Some(Name::PropertyErrorEnd),
-            121 => Some(Name::Group),
-            122 => Some(Name::GroupEnd),
-            130 => Some(Name::Null),
-            131 => Some(Name::Boolean),
-            132 => Some(Name::Unsigned),
-            133 => Some(Name::Signed),
-            134 => Some(Name::Real),
-            135 => Some(Name::Double),
-            136 => Some(Name::OctetString),
-            137 => Some(Name::CharacterString),
-            138 => Some(Name::BitString),
-            139 => Some(Name::Enumerated),
-            140 => Some(Name::Date),
-            141 => Some(Name::TimeOfDay),
-            142 => Some(Name::ObjectIdentifier),
-            143 => Some(Name::ContextPrimitive),
-            _ => None,
+            0..=39 => head_of_number(number),
+            40..=59 => message_of_number(number),
+            60..=109 => service_of_number(number),
+            _ => value_of_number(number),
         }
     }
 
     /// Returns its word: what the line has before the `=`, `(`, `{` or `:` of the field. A field that has no word there
     /// has one that says what it is.
+    // One match, so that a name without a word is an error.
     pub fn word(self) -> &'static str
         ensures { result.now ≡ word_of self }
     {
@@ -414,5 +327,136 @@ impl Name {
             Name::ObjectIdentifier => "id",
             Name::ContextPrimitive => "context",
         }
+    }
+}
+
+/// Returns the name of the frame, or of the head of an APDU with this number, which is below 40, or None.
+fn head_of_number(number: u32) -> Option<Name>
+    ensures some { number < 40 → (name : Name) → number ≡ number_of name → result ≡ Some name }
+    ensures number { IfSome result (λ name. number_of name ≡ number) }
+{
+    match number {
+        1 => Some(Name::NetworkPriority),
+        2 => Some(Name::ReplyExpected),
+        3 => Some(Name::Destination),
+        4 => Some(Name::HopCount),
+        5 => Some(Name::Source),
+        10 => Some(Name::ConfirmedRequest),
+        11 => Some(Name::UnconfirmedRequest),
+        12 => Some(Name::SimpleAck),
+        13 => Some(Name::ComplexAck),
+        14 => Some(Name::SegmentAck),
+        15 => Some(Name::Error),
+        16 => Some(Name::Reject),
+        17 => Some(Name::Abort),
+        18 => Some(Name::RequestSegment),
+        19 => Some(Name::AckSegment),
+        20 => Some(Name::InvokeId),
+        21 => Some(Name::SegmentedAccepted),
+        22 => Some(Name::MaxSegments),
+        23 => Some(Name::MaxResponse),
+        24 => Some(Name::Sequence),
+        25 => Some(Name::Window),
+        26 => Some(Name::More),
+        27 => Some(Name::Negative),
+        28 => Some(Name::Server),
+        29 => Some(Name::Reason),
+        30 => Some(Name::Choice),
+        31 => Some(Name::Octets),
+        _ => None,
+    }
+}
+
+/// Returns the name of a network message with this number, which is 40 to 59, or None.
+fn message_of_number(number: u32) -> Option<Name>
+    ensures some { (40 ≤ number) × (number < 60) → (name : Name) → number ≡ number_of name → result ≡ Some name }
+    ensures number { IfSome result (λ name. number_of name ≡ number) }
+{
+    match number {
+        40 => Some(Name::NetworkMessage),
+        41 => Some(Name::Network),
+        42 => Some(Name::Networks),
+        43 => Some(Name::ListedNetwork),
+        44 => Some(Name::Performance),
+        45 => Some(Name::Ports),
+        46 => Some(Name::PortId),
+        47 => Some(Name::PortInfo),
+        48 => Some(Name::Time),
+        49 => Some(Name::Flag),
+        50 => Some(Name::Vendor),
+        51 => Some(Name::Data),
+        _ => None,
+    }
+}
+
+/// Returns the name of a service or of one of its parts with this number, which is 60 to 109, or None.
+fn service_of_number(number: u32) -> Option<Name>
+    ensures some { (60 ≤ number) × (number < 110) → (name : Name) → number ≡ number_of name → result ≡ Some name }
+    ensures number { IfSome result (λ name. number_of name ≡ number) }
+{
+    match number {
+        60 => Some(Name::ReadProperty),
+        61 => Some(Name::ReadPropertyMultiple),
+        62 => Some(Name::WriteProperty),
+        63 => Some(Name::WritePropertyMultiple),
+        64 => Some(Name::WhoIs),
+        65 => Some(Name::IAm),
+        66 => Some(Name::SubscribeCov),
+        67 => Some(Name::ConfirmedCovNotification),
+        68 => Some(Name::UnconfirmedCovNotification),
+        69 => Some(Name::Opaque),
+        80 => Some(Name::Object),
+        81 => Some(Name::Property),
+        82 => Some(Name::Index),
+        83 => Some(Name::Priority),
+        84 => Some(Name::Process),
+        85 => Some(Name::Device),
+        86 => Some(Name::Confirmed),
+        87 => Some(Name::Lifetime),
+        88 => Some(Name::Remaining),
+        89 => Some(Name::Low),
+        90 => Some(Name::High),
+        91 => Some(Name::MaxApdu),
+        92 => Some(Name::Segmentation),
+        93 => Some(Name::ErrorClass),
+        94 => Some(Name::ErrorCode),
+        _ => None,
+    }
+}
+
+/// Returns the name of structure, or of an element of an open value with this number, which is 110 and above, or None.
+fn value_of_number(number: u32) -> Option<Name>
+    ensures some { 110 ≤ number → (name : Name) → number ≡ number_of name → result ≡ Some name }
+    ensures number { IfSome result (λ name. number_of name ≡ number) }
+{
+    match number {
+        110 => Some(Name::Specifications),
+        111 => Some(Name::Properties),
+        112 => Some(Name::Results),
+        113 => Some(Name::Values),
+        114 => Some(Name::ListEnd),
+        115 => Some(Name::Item),
+        116 => Some(Name::ItemEnd),
+        117 => Some(Name::Value),
+        118 => Some(Name::ValueEnd),
+        119 => Some(Name::PropertyError),
+        120 => Some(Name::PropertyErrorEnd),
+        121 => Some(Name::Group),
+        122 => Some(Name::GroupEnd),
+        130 => Some(Name::Null),
+        131 => Some(Name::Boolean),
+        132 => Some(Name::Unsigned),
+        133 => Some(Name::Signed),
+        134 => Some(Name::Real),
+        135 => Some(Name::Double),
+        136 => Some(Name::OctetString),
+        137 => Some(Name::CharacterString),
+        138 => Some(Name::BitString),
+        139 => Some(Name::Enumerated),
+        140 => Some(Name::Date),
+        141 => Some(Name::TimeOfDay),
+        142 => Some(Name::ObjectIdentifier),
+        143 => Some(Name::ContextPrimitive),
+        _ => None,
     }
 }
