@@ -17,6 +17,6 @@ mod LawLemmas
 pub mod CaseLemmas
 mod HeldLemmas
 pub mod SameLemmas
-mod AppendingLemmas
+pub mod AppendingLemmas
 mod VisitLemmas
 pub mod FormerLemmas

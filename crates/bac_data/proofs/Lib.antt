@@ -1,10 +1,10 @@
 pub mod EventLemmas
 pub mod OpenLemmas
-mod BalancedLemmas
+pub mod BalancedLemmas
 mod ViableLemmas
 pub mod LeastLemmas
 mod ResultLemmas
-mod BuildingLemmas
+pub mod BuildingLemmas
 pub mod EventLeastLemmas
 mod ReadingLemmas
 mod NextHeadLemmas
