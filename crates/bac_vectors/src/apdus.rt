@@ -1,5 +1,6 @@
 //! APDUs (clause 20.1).
 
+use crate::octets::{FIRST, is_appended};
 use crate::told::Told;
 use bac_apdu::layers::is_canonical_apdu;
 use bac_apdu::{Apdu, append_apdu, decode_apdu, decode_apdu_marked, encode_apdu};
@@ -25,26 +26,44 @@ pub fn told(alloc: Global, octets: &[u8]) -> Result<Told, OutOfMemory> {
 
 /// Returns true if the octets are refused so, also without their mark.
 fn is_refused(alloc: Global, octets: &[u8], refusal: Refusal) -> bool {
-    matches!(decode_apdu(alloc, octets), Err(other) if other == refusal)
+    match decode_apdu(alloc, octets) {
+        Ok(_) => false,
+        Err(other) => other == refusal,
+    }
 }
 
 /// Returns true if the octets are those of the APDU, also without their mark, and it is equal to its copy.
 fn is_like(alloc: Global, octets: &[u8], apdu: &Apdu) -> Result<bool, OutOfMemory> {
     let copy = apdu.clone()?;
-    let found = decode_apdu(alloc, octets);
-    Ok(copy == *apdu && matches!(found, Ok(found) if found == copy))
+    Ok(copy == *apdu && is_decoded(alloc, octets, &copy))
 }
 
-/// Returns the canonical octets of the APDU, which are those of an equal one, and are appended after another octet.
+/// Returns true if the octets are those of the APDU without their mark.
+fn is_decoded(alloc: Global, octets: &[u8], apdu: &Apdu) -> bool {
+    match decode_apdu(alloc, octets) {
+        Ok(found) => found == *apdu,
+        Err(_) => false,
+    }
+}
+
+/// Returns the canonical octets of the APDU, unless a call reports something else of them.
 fn written(alloc: Global, apdu: &Apdu, mark: Option<usize>) -> Result<Told, OutOfMemory> {
     let written = encode_apdu(alloc, apdu)?;
-    if !is_like(alloc, &written, apdu)? {
-        return Ok(Told::Otherwise("encode_apdu"));
+    let call = dissenting(alloc, apdu, &written)?;
+    Ok(Told::unless(call, written, mark))
+}
+
+/// Returns the name of a call that reports something else than that these octets are those of an equal APDU, and are
+/// appended after another octet.
+fn dissenting(
+    alloc: Global,
+    apdu: &Apdu,
+    written: &[u8],
+) -> Result<Option<&'static str>, OutOfMemory> {
+    if !is_like(alloc, written, apdu)? {
+        return Ok(Some("encode_apdu"));
     }
-    let mut out = Vec::from_slice(alloc, &[0xAA])?;
+    let mut out = Vec::from_slice(alloc, &[FIRST])?;
     append_apdu(apdu, &mut out)?;
-    if out.split_first() != Some((&0xAA, written.as_slice())) {
-        return Ok(Told::Otherwise("append_apdu"));
-    }
-    Ok(Told::Written(written, mark))
+    Ok((!is_appended(&out, written)).then_some("append_apdu"))
 }

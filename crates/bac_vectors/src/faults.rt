@@ -19,7 +19,7 @@ pub enum VectorFault {
 }
 
 /// Why a row comes to nothing.
-#[derive(Debug, Drop)]
+#[derive(Drop)]
 pub enum RowFault {
     /// Memory was refused.
     OutOfMemory,

@@ -2,13 +2,11 @@
 
 use crate::faults::RowFault;
 use crate::field_names::word_of;
+use crate::octets::{FIRST, is_appended};
 use bac_fields::{Field, append_fields};
 use bac_npdu::{Frame, decode_frame, encode_frame};
 use bac_tag::OutOfMemory;
 use std::alloc::{AllocError, Global};
-
-/// The octet before those that are appended.
-const FIRST_OCTET: u8 = 0xAA;
 
 /// The field before those that are appended.
 const FIRST_FIELD: Field = Field {
@@ -29,16 +27,20 @@ pub fn found(alloc: Global, octets: &[u8]) -> Result<String, RowFault> {
 
 /// Returns the fields of a frame that are appended after another one, or what is wrong with what is appended.
 fn appended(alloc: Global, frame: &Frame) -> Result<String, OutOfMemory> {
-    let mut octets = Vec::from_slice(alloc, &[FIRST_OCTET])?;
+    let mut octets = Vec::from_slice(alloc, &[FIRST])?;
     let mut fields = Vec::from_slice(alloc, &[FIRST_FIELD])?;
     append_fields(frame, &mut octets, &mut fields)?;
     let written = encode_frame(alloc, frame)?;
-    if octets.split_first() != Some((&FIRST_OCTET, written.as_slice())) {
-        return Ok(String::from_str(alloc, "append_fields writes other octets")?);
-    }
+    let is_written = is_appended(&octets, &written);
+    Ok(words_after(alloc, is_written, &fields)?)
+}
+
+/// Returns the fields after the first one in the words of a row, or what is wrong.
+fn words_after(alloc: Global, is_written: bool, fields: &[Field]) -> Result<String, AllocError> {
     match fields.split_first() {
-        Some((first, rest)) if *first == FIRST_FIELD => Ok(words_of(alloc, rest)?),
-        _ => Ok(String::from_str(alloc, "append_fields changes a field before its own")?),
+        _ if !is_written => String::from_str(alloc, "append_fields writes other octets"),
+        Some((first, rest)) if *first == FIRST_FIELD => words_of(alloc, rest),
+        _ => String::from_str(alloc, "append_fields changes a field before its own"),
     }
 }
 
@@ -46,22 +48,17 @@ fn appended(alloc: Global, frame: &Frame) -> Result<String, OutOfMemory> {
 fn words_of(alloc: Global, fields: &[Field]) -> Result<String, AllocError> {
     let mut words = String::new(alloc);
     for field in fields {
-        if !words.is_empty() {
-            words.push_str(" ")?;
-        }
-        words.push_str(&field_words(alloc, field)?)?;
+        push_field(alloc, &mut words, field)?;
     }
     Ok(words)
 }
 
-/// Returns a field as `NAME:NUMBER@PLACE+HEAD+LENGTH`, with the number of its name if there is no word for it.
-fn field_words(alloc: Global, field: &Field) -> Result<String, AllocError> {
-    let mut words = match word_of(field.name) {
-        Some(word) => String::from_str(alloc, word)?,
-        None => format!(in alloc; "{}", field.name)?,
-    };
+/// Appends a field as `NAME:NUMBER@PLACE+HEAD+LENGTH`, with a blank before it unless it is the first.
+fn push_field(alloc: Global, words: &mut String, field: &Field) -> Result<(), AllocError> {
+    let blank = if words.is_empty() { "" } else { " " };
+    // Every name of the table has a word.
+    let word = word_of(field.name).unwrap_or("no name");
     let (number, place) = (field.number, field.place);
     let (head, length) = (field.head, field.length);
-    words.push_str(&format!(in alloc; ":{number}@{place}+{head}+{length}")?)?;
-    Ok(words)
+    words.push_str(&format!(in alloc; "{blank}{word}:{number}@{place}+{head}+{length}")?)
 }

@@ -1,5 +1,6 @@
 //! Frames: one NPDU each (clause 6.2).
 
+use crate::octets::{FIRST, is_appended, record_of};
 use crate::told::Told;
 use bac_npdu::{
     Frame, append_frame, decode_frame, decode_marked, decode_strict, encode_frame, normalise_frame,
@@ -12,24 +13,29 @@ use std::alloc::{AllocError, Global};
 /// Returns what octets come to as a frame.
 pub fn told(alloc: Global, octets: &[u8]) -> Result<Told, OutOfMemory> {
     match decode_marked(alloc, octets) {
-        Ok((frame, mark)) => {
-            let written = encode_frame(alloc, &frame)?;
-            if let Some(call) = dissenting(alloc, octets, &frame, mark, &written)? {
-                return Ok(Told::Otherwise(call));
-            }
-            Ok(Told::Written(written, mark))
-        }
-        Err(refusal) => {
-            if let Some(call) = accepting(alloc, octets, refusal)? {
-                return Ok(Told::Otherwise(call));
-            }
-            Ok(Told::Refused(refusal))
-        }
+        Ok((frame, mark)) => written(alloc, octets, &frame, mark),
+        Err(refusal) => match accepting(alloc, octets, refusal)? {
+            Some(call) => Ok(Told::Otherwise(call)),
+            None => Ok(Told::Refused(refusal)),
+        },
     }
 }
 
+/// Returns the canonical octets of the frame, unless a call reports something else than that the octets are those of this
+/// frame, and first differ from its canonical octets at `mark`.
+fn written(
+    alloc: Global,
+    octets: &[u8],
+    frame: &Frame,
+    mark: Option<usize>,
+) -> Result<Told, OutOfMemory> {
+    let written = encode_frame(alloc, frame)?;
+    let call = dissenting(alloc, octets, frame, mark, &written)?;
+    Ok(Told::unless(call, written, mark))
+}
+
 /// Returns the name of a call that reports something else than that the octets are those of this frame, and first
-/// differ from its canonical octets at `mark`.
+/// differ at `mark` from these canonical ones.
 fn dissenting(
     alloc: Global,
     octets: &[u8],
@@ -37,7 +43,7 @@ fn dissenting(
     mark: Option<usize>,
     written: &[u8],
 ) -> Result<Option<&'static str>, OutOfMemory> {
-    if !is_appended(alloc, frame, written)? {
+    if !is_written_after(alloc, frame, written)? {
         return Ok(Some("append_frame"));
     }
     if !is_plain(alloc, octets, frame, written)? {
@@ -53,14 +59,17 @@ fn dissenting(
     if !matches!(same_meaning(alloc, octets, written), Ok(true)) {
         return Ok(Some("same_meaning"));
     }
-    runs_dissenting(alloc, octets, mark, written)
+    match record_of(alloc, octets)? {
+        Some(record) => Ok(runs_dissenting(alloc, &record, mark, written)?),
+        None => Ok(None),
+    }
 }
 
 /// Returns true if these octets of the frame are appended after another octet.
-fn is_appended(alloc: Global, frame: &Frame, written: &[u8]) -> Result<bool, OutOfMemory> {
-    let mut out = Vec::from_slice(alloc, &[0xAA])?;
+fn is_written_after(alloc: Global, frame: &Frame, written: &[u8]) -> Result<bool, OutOfMemory> {
+    let mut out = Vec::from_slice(alloc, &[FIRST])?;
     append_frame(frame, &mut out)?;
-    Ok(out.split_first() == Some((&0xAA, written)))
+    Ok(is_appended(&out, written))
 }
 
 /// Returns true if the octets, decoded without their mark, are this frame, and it has these canonical octets.
@@ -71,51 +80,49 @@ fn is_plain(
     written: &[u8],
 ) -> Result<bool, OutOfMemory> {
     match decode_frame(alloc, octets) {
-        Ok(plain) => Ok(plain == *frame && encode_frame(alloc, &plain)?.as_slice() == written),
+        Ok(plain) => is_same(alloc, &plain, frame, written),
         Err(_) => Ok(false),
     }
 }
 
-/// Returns the name of a run over a file of one record with these octets that writes something else than that they differ
-/// there from these canonical ones. More octets than a record may have are not tried.
+/// Returns true if a frame is equal to another one, and has these canonical octets.
+fn is_same(
+    alloc: Global,
+    plain: &Frame,
+    frame: &Frame,
+    written: &[u8],
+) -> Result<bool, OutOfMemory> {
+    let again = encode_frame(alloc, plain)?;
+    Ok(*plain == *frame && again.as_slice() == written)
+}
+
+/// Returns the name of a run over a file of this record that writes something else than that its octets first differ at
+/// `mark` from these canonical ones.
 fn runs_dissenting(
     alloc: Global,
-    octets: &[u8],
+    record: &[u8],
     mark: Option<usize>,
     written: &[u8],
-) -> Result<Option<&'static str>, OutOfMemory> {
-    let Some(record) = record_of(alloc, octets)? else {
-        return Ok(None);
+) -> Result<Option<&'static str>, AllocError> {
+    let is_run = match mark {
+        Some(place) => is_tolerated(alloc, record, place)?,
+        None => is_checked(alloc, record, "1 ok\n", "1 ok\n"),
     };
-    let (tolerant, strict) = lines_of(alloc, mark)?;
-    if !is_checked(alloc, Mode::Tolerant, &record, &tolerant) {
+    if !is_run {
         return Ok(Some("run_check"));
     }
-    if !is_checked(alloc, Mode::Strict, &record, &strict) {
-        return Ok(Some("run_check --strict"));
-    }
-    if !is_normalised(alloc, &record, written) {
-        return Ok(Some("run_normalise"));
-    }
-    Ok(None)
+    Ok((!is_normalised(alloc, record, written)).then_some("run_normalise"))
 }
 
-/// Returns the lines of a record whose octets differ there from the canonical ones, and in mode Strict.
-fn lines_of(alloc: Global, mark: Option<usize>) -> Result<(String, String), AllocError> {
-    match mark {
-        None => {
-            let line = String::from_str(alloc, "1 ok\n")?;
-            Ok((line.clone()?, line))
-        }
-        Some(place) => {
-            let flaw = Why::NotCanonical.at(place);
-            let line = format!(in alloc; "1 tolerated at {place}\n")?;
-            Ok((line, format!(in alloc; "1 refused {flaw}\n")?))
-        }
-    }
+/// Returns true if the runs that check a file of this record tolerate it, and in mode Strict refuse it at this place.
+fn is_tolerated(alloc: Global, record: &[u8], place: usize) -> Result<bool, AllocError> {
+    let flaw = Why::NotCanonical.at(place);
+    let tolerant = format!(in alloc; "1 tolerated at {place}\n")?;
+    let strict = format!(in alloc; "1 refused {flaw}\n")?;
+    Ok(is_checked(alloc, record, &tolerant, &strict))
 }
 
-/// Returns true if the run that normalises a file of one record writes a record of these octets.
+/// Returns true if the run that normalises a file of this record writes a record of these octets.
 fn is_normalised(alloc: Global, record: &[u8], written: &[u8]) -> bool {
     let mut input = Counted::new(record);
     let mut output = Counted::new(Vec::new(alloc));
@@ -144,31 +151,25 @@ fn accepting(
     if normalise_frame(alloc, octets).err() != Some(refusal) {
         return Ok(Some("normalise_frame"));
     }
-    let Some(record) = record_of(alloc, octets)? else {
-        return Ok(None);
-    };
+    match record_of(alloc, octets)? {
+        Some(record) if !is_refused(alloc, &record, refusal)? => Ok(Some("run_check")),
+        _ => Ok(None),
+    }
+}
+
+/// Returns true if the runs that check a file of this record refuse it so.
+fn is_refused(alloc: Global, record: &[u8], refusal: Refusal) -> Result<bool, AllocError> {
     let line = format!(in alloc; "1 refused {refusal}\n")?;
-    if !is_checked(alloc, Mode::Tolerant, &record, &line) {
-        return Ok(Some("run_check"));
-    }
-    if !is_checked(alloc, Mode::Strict, &record, &line) {
-        return Ok(Some("run_check --strict"));
-    }
-    Ok(None)
+    Ok(is_checked(alloc, record, &line, &line))
 }
 
-/// Returns the record of octets: two of length, and then them. A record has at most 65,535 octets.
-fn record_of(alloc: Global, octets: &[u8]) -> Result<Option<Vec<u8>>, OutOfMemory> {
-    let Ok(length) = u16::try_from(octets.len()) else {
-        return Ok(None);
-    };
-    let mut record = Vec::from_slice(alloc, &length.to_be_bytes())?;
-    record.extend_from_slice(octets)?;
-    Ok(Some(record))
+/// Returns true if the runs that check a file of this record write these lines, the second one in mode Strict.
+fn is_checked(alloc: Global, record: &[u8], tolerant: &str, strict: &str) -> bool {
+    writes(alloc, Mode::Tolerant, record, tolerant) && writes(alloc, Mode::Strict, record, strict)
 }
 
-/// Returns true if the run that checks a file of one record writes this line.
-fn is_checked(alloc: Global, mode: Mode, record: &[u8], line: &str) -> bool {
+/// Returns true if the run that checks a file of this record in a mode writes this line.
+fn writes(alloc: Global, mode: Mode, record: &[u8], line: &str) -> bool {
     let mut input = Counted::new(record);
     let mut output = Counted::new(Vec::new(alloc));
     let is_run = run_check(alloc, mode, &mut input, &mut output).is_ok();

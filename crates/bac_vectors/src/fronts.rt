@@ -3,10 +3,10 @@
 use crate::faults::RowFault;
 use crate::octets::{joined, octets_of};
 use crate::sections::Section;
-use crate::told::Told;
-use bac_tables::{Row, place_of, places_of};
+use crate::told::{Told, digits};
+use bac_tables::{Row, enclosed, place_of, places_of};
 use bac_tag::Why;
-use std::alloc::Global;
+use std::alloc::{AllocError, Global};
 
 /// What a row says of octets.
 #[derive(Clone, Copy)]
@@ -50,8 +50,13 @@ pub fn found(
     let octets = joined(alloc, front, row.octets)?;
     match Saying::of(row.told) {
         Saying::Whole => whole(alloc, section, front, &octets, row.told),
-        Saying::Fronts(wholes) => each_front(alloc, section, &octets, wholes, row.told),
-        Saying::Below(least) => each_front_below(alloc, section, &octets, least, row.told),
+        Saying::Fronts(wholes) => {
+            let wholes = places_of(wholes)?;
+            each_front(alloc, section, &octets, &wholes, octets.len(), row.told)
+        }
+        Saying::Below(least) => {
+            each_front(alloc, section, &octets, &[], place_of(least)?, row.told)
+        }
         Saying::Heads(places) => each_head(alloc, section, &octets, places, row.told),
     }
 }
@@ -68,6 +73,11 @@ fn whole(
     if is_written(alloc, &told, front, words)? {
         return Ok(String::from_str(alloc, words)?);
     }
+    other_words(alloc, &told, front, octets)
+}
+
+/// Returns what is reported of octets, without those of the front.
+fn other_words(alloc: Global, told: &Told, front: &str, octets: &[u8]) -> Result<String, RowFault> {
     let before = octets_of(alloc, front)?.len();
     Ok(told.words(alloc, octets, before)?)
 }
@@ -79,42 +89,23 @@ fn is_written(alloc: Global, told: &Told, front: &str, words: &str) -> Result<bo
     };
     let place = place_of(place)?;
     let canonical = joined(alloc, front, written)?;
-    Ok(told.differs(&canonical, place))
+    Ok(told.is_written(&canonical, Some(place)))
 }
 
-/// Returns the words if the octets are canonical, and each front of them too, if it has one of these lengths, or else Short
-/// at its end. Else returns what the first front that is not comes to.
+/// Returns the words if the octets are canonical, and each front of them too, if it has one of these lengths or at least
+/// `least` octets, or else Short at its end. Else returns what the first front that is not comes to.
 fn each_front(
     alloc: Global,
     section: Section<'_>,
     octets: &[u8],
-    wholes: &str,
+    wholes: &[usize],
+    least: usize,
     words: &str,
 ) -> Result<String, RowFault> {
-    let wholes = places_of(wholes)?;
     for length in 0..=octets.len() {
         let front = octets.get(..length).unwrap_or(octets);
-        let is_whole = length == octets.len() || wholes.contains(&length);
+        let is_whole = length >= least || wholes.contains(&length);
         if let Some(found) = other_front(alloc, section, front, is_whole)? {
-            return Ok(found);
-        }
-    }
-    Ok(String::from_str(alloc, words)?)
-}
-
-/// Returns the words if each front of fewer octets than this number is Short at its end, and each other one is canonical, the
-/// octets themselves too. Else returns what the first front that is not comes to.
-fn each_front_below(
-    alloc: Global,
-    section: Section<'_>,
-    octets: &[u8],
-    least: &str,
-    words: &str,
-) -> Result<String, RowFault> {
-    let least = place_of(least)?;
-    for length in 0..=octets.len() {
-        let front = octets.get(..length).unwrap_or(octets);
-        if let Some(found) = other_front(alloc, section, front, length >= least)? {
             return Ok(found);
         }
     }
@@ -131,15 +122,21 @@ fn other_front(
     let told = section.told(alloc, front)?;
     let length = front.len();
     let holds = if is_whole {
-        told.is_itself(front)
+        told.is_written(front, None)
     } else {
         told.is_refused(Why::Short.at(length))
     };
     if holds {
         return Ok(None);
     }
+    Ok(Some(front_words(alloc, &told, front)?))
+}
+
+/// Returns what is reported of a front.
+fn front_words(alloc: Global, told: &Told, front: &[u8]) -> Result<String, AllocError> {
     let found = told.words(alloc, front, 0)?;
-    Ok(Some(format!(in alloc; "the front of {length} octets: {found}")?))
+    let length = front.len();
+    format!(in alloc; "the front of {length} octets: {found}")
 }
 
 /// Returns the words if each head of one octet at one of these places of canonical octets may be spelled with its number in
@@ -195,13 +192,22 @@ fn other_head(
     canonical: &[u8],
 ) -> Result<Option<String>, RowFault> {
     let (front, head, rest) = parts;
-    let mut octets = Vec::from_slice(alloc, front)?;
-    octets.extend_from_slice(head)?;
-    octets.extend_from_slice(rest)?;
+    let octets = enclosed(alloc, front, head, rest, &[])?;
     let told = section.told(alloc, &octets)?;
-    if told.differs(canonical, front.len()) {
+    if told.is_written(canonical, Some(front.len())) {
         return Ok(None);
     }
-    let found = told.words(alloc, &octets, 0)?;
-    Ok(Some(format!(in alloc; "with the head {head:?}: {found}")?))
+    Ok(Some(head_words(alloc, &told, &octets, head)?))
+}
+
+/// Returns what is reported of octets with a longer head.
+fn head_words(
+    alloc: Global,
+    told: &Told,
+    octets: &[u8],
+    head: &[u8],
+) -> Result<String, AllocError> {
+    let head = digits(alloc, head)?;
+    let found = told.words(alloc, octets, 0)?;
+    format!(in alloc; "with the head {head}: {found}")
 }

@@ -28,37 +28,63 @@ pub fn found(alloc: Global, octets: &[u8]) -> Result<String, RowFault> {
 /// Returns what a head is.
 fn words_of(alloc: Global, head: TagHead) -> Result<String, AllocError> {
     match head {
-        TagHead::App { number, len } => { format!(in alloc; "application {number} length {len}") }
+        TagHead::App { number, len } => with_length(alloc, "application", number, len),
         TagHead::AppBool(value) => format!(in alloc; "boolean {value}"),
-        TagHead::Ctx { number, len } => format!(in alloc; "context {number} length {len}"),
+        TagHead::Ctx { number, len } => with_length(alloc, "context", number, len),
         TagHead::Open(number) => format!(in alloc; "opening {number}"),
         TagHead::Close(number) => format!(in alloc; "closing {number}"),
     }
 }
 
-/// Returns where all the octets of a head differ from its least ones, or which call reports something else.
+/// Returns what a head with a length is.
+fn with_length(alloc: Global, class: &str, number: u8, len: u32) -> Result<String, AllocError> {
+    format!(in alloc; "{class} {number} length {len}")
+}
+
+/// Returns in words where all the octets of a head differ from its least ones, or which call reports something else.
 fn mark_of(alloc: Global, spelling: &[u8]) -> Result<String, AllocError> {
-    let Ok((head, taken)) = read_head(spelling) else {
-        return String::from_str(alloc, ", read_head tells otherwise");
-    };
-    if taken != spelling.len() || !head.is_valid() {
-        return String::from_str(alloc, ", is_valid tells otherwise");
+    match marked(spelling) {
+        Ok(None) => Ok(String::new(alloc)),
+        Ok(Some(place)) => format!(in alloc; ", differs at {place}"),
+        Err(call) => format!(in alloc; ", {call} tells otherwise"),
+    }
+}
+
+/// Returns where all the octets of a head differ from its least ones.
+///
+/// # Errors
+/// The name of a call that reports something else.
+fn marked(spelling: &[u8]) -> Result<Option<usize>, &'static str> {
+    match read_head(spelling) {
+        Ok((head, taken)) if taken == spelling.len() => {
+            let mark = mark_head(spelling, head);
+            if mark_read_head(spelling, head, head) != mark {
+                return Err("mark_read_head");
+            }
+            match dissenting_on_least(spelling, head, mark) {
+                Some(call) => Err(call),
+                None => Ok(mark),
+            }
+        }
+        _ => Err("read_head"),
+    }
+}
+
+/// Returns the name of a call that reports something else than that the octets of this head first differ there from its
+/// least ones.
+fn dissenting_on_least(
+    spelling: &[u8],
+    head: TagHead,
+    mark: Option<usize>,
+) -> Option<&'static str> {
+    if !head.is_valid() {
+        return Some("is_valid");
     }
     let least = write_head(head);
     if head_len(head) != least.len() {
-        return String::from_str(alloc, ", head_len tells otherwise");
+        return Some("head_len");
     }
-    let mark = mark_head(spelling, head);
-    if mark_read_head(spelling, head, head) != mark {
-        return String::from_str(alloc, ", mark_read_head tells otherwise");
-    }
-    if mark.is_none() != (least.as_slice() == spelling) {
-        return String::from_str(alloc, ", write_head tells otherwise");
-    }
-    match mark {
-        Some(place) => format!(in alloc; ", differs at {place}"),
-        None => Ok(String::new(alloc)),
-    }
+    (mark.is_none() != (least.as_slice() == spelling)).then_some("write_head")
 }
 
 /// Returns the name of a call of `bac_tag::layers` that reports something else than that the octets begin with this

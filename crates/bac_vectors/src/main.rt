@@ -49,7 +49,10 @@ fn main(rt: HostRuntime) -> ExitCode {
 
 /// Runs the files that the words name, and prints how many rows they have. Returns true if each row holds.
 fn run(rt: &(impl Print + Eprint + AllocGlobal + Env + Files)) -> Result<bool, VectorFault> {
-    let mut count = Count::default();
+    let mut count = Count {
+        rows: 0,
+        differing: 0,
+    };
     for name in std::env::args(rt)?.skip(1) {
         if let Err(fault) = run_file(rt, name.as_str(), &mut count) {
             eprintln!(rt; "bac_vectors: {name}: {fault}")?;

@@ -2,7 +2,7 @@
 
 use crate::faults::RowFault;
 use crate::octets::octets_of;
-use bac_npdu::{Side, decode_frame, same_meaning};
+use bac_npdu::{Frame, Side, decode_frame, same_meaning};
 use std::alloc::Global;
 
 /// Returns what is reported of `LEFT ~ RIGHT`: `same`, `different`, or `left REASON at PLACE` or
@@ -24,8 +24,16 @@ pub fn found(alloc: Global, inputs: &str) -> Result<String, RowFault> {
 
 /// Returns true if both inputs spell frames that are equal.
 fn are_equal(alloc: Global, left: &[u8], right: &[u8]) -> bool {
-    let Ok(one) = decode_frame(alloc, left) else {
-        return false;
-    };
-    matches!(decode_frame(alloc, right), Ok(other) if other == one)
+    match decode_frame(alloc, left) {
+        Ok(frame) => is_equal(alloc, right, &frame),
+        Err(_) => false,
+    }
+}
+
+/// Returns true if octets spell a frame that is equal to this one.
+fn is_equal(alloc: Global, octets: &[u8], frame: &Frame) -> bool {
+    match decode_frame(alloc, octets) {
+        Ok(found) => found == *frame,
+        Err(_) => false,
+    }
 }

@@ -1,8 +1,8 @@
-//! Octets as texts, of any number.
+//! Octets as texts, of any number, as records, and after another octet.
 
 use crate::faults::RowFault;
 use bac_tables::{octet_of, place_of};
-use std::alloc::Global;
+use std::alloc::{AllocError, Global};
 
 /// How many octets a row has at most.
 const MOST: usize = 2_097_152;
@@ -33,7 +33,7 @@ fn push_octets(alloc: Global, octets: &mut Vec<u8>, text: &str) -> Result<(), Ro
         return Ok(());
     }
     let mut group = octets.len();
-    for text in text.split(' ') {
+    for text in text.split(" ") {
         let word = Word::of(text)?;
         if word.opens {
             group = octets.len();
@@ -61,24 +61,16 @@ struct Word {
 impl Word {
     /// Returns the word that the text is.
     fn of(text: &str) -> Result<Word, RowFault> {
-        let (text, opens) = match text.strip_prefix('(') {
-            Some(rest) => (rest, true),
-            None => (text, false),
-        };
-        let (text, count) = match text.split_once('*') {
-            Some((rest, count)) => (rest, place_of(count)?),
-            None => (text, 1),
-        };
-        let (pair, closes) = match text.strip_suffix(')') {
-            Some(pair) => (pair, true),
-            None => (text, false),
-        };
-        let octet = octet_of(pair)?;
+        let opens = text.starts_with("(");
+        let text = text.strip_prefix("(").unwrap_or(text);
+        let (text, count) = text.split_once("*").unwrap_or((text, "1"));
+        let closes = text.ends_with(")");
+        let pair = text.strip_suffix(")").unwrap_or(text);
         Ok(Word {
-            octet,
+            octet: octet_of(pair)?,
             opens,
             closes,
-            count,
+            count: place_of(count)?,
         })
     }
 }
@@ -87,10 +79,39 @@ impl Word {
 fn repeat(alloc: Global, octets: &mut Vec<u8>, start: usize, count: usize) -> Result<(), RowFault> {
     let item = Vec::from_slice(alloc, octets.get(start..).unwrap_or(&[]))?;
     for _ in 1..count {
-        if octets.len() > MOST {
-            return Err(RowFault::Mistake);
-        }
-        octets.extend_from_slice(&item)?;
+        push_item(octets, &item)?;
     }
     Ok(())
+}
+
+/// Appends octets, unless a row has too many.
+fn push_item(octets: &mut Vec<u8>, item: &[u8]) -> Result<(), RowFault> {
+    if is_full(octets) {
+        return Err(RowFault::Mistake);
+    }
+    octets.extend_from_slice(item)?;
+    Ok(())
+}
+
+/// Returns true if there are too many octets for a row.
+fn is_full(octets: &[u8]) -> bool {
+    octets.len() > MOST
+}
+
+/// Returns the record of octets: two of length, and then them. More than 65,535 octets have no record.
+pub fn record_of(alloc: Global, octets: &[u8]) -> Result<Option<Vec<u8>>, AllocError> {
+    let Ok(length) = u16::try_from(octets.len()) else {
+        return Ok(None);
+    };
+    let mut record = Vec::from_slice(alloc, &length.to_be_bytes())?;
+    record.extend_from_slice(octets)?;
+    Ok(Some(record))
+}
+
+/// The octet that is in a vector before a call appends others.
+pub const FIRST: u8 = 0xAA;
+
+/// Returns true if octets are the first one, and after it these.
+pub fn is_appended(octets: &[u8], written: &[u8]) -> bool {
+    matches!(octets, [FIRST, rest @ ..] if rest == written)
 }

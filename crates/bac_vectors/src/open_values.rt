@@ -1,5 +1,7 @@
 //! Open values between their tags (clause 20.2.1.3.2).
 
+ghost use Rattle.std.specs.Prelude.{◌≤◌};
+
 use crate::faults::RowFault;
 use crate::told::Told;
 use bac_data::layers::canonical_any_len;
@@ -17,28 +19,53 @@ pub fn told(alloc: Global, number: u8, octets: &[u8]) -> Result<Told, RowFault> 
         return Err(RowFault::Mistake);
     }
     match read_any_marked(alloc, octets, number) {
-        Ok((value, taken, mark)) => {
-            if taken != octets.len() {
-                return Ok(Told::Otherwise("the end of the value"));
-            }
-            let mut out = Vec::new(alloc);
-            write_any(&value, number, &mut out)?;
-            // The tags of a value that is found at once have one octet.
-            let wanted = mark.is_none().then_some(taken);
-            if number < 15 && canonical_any_len(octets, number) != wanted {
-                return Ok(Told::Otherwise("canonical_any_len"));
-            }
-            match read_any(alloc, octets, number) {
-                Ok((plain, end)) if end == taken && is_like(&plain, &value)? => {
-                    Ok(Told::Written(out, mark))
-                }
-                _ => Ok(Told::Otherwise("read_any")),
-            }
+        Ok((_, taken, _)) if taken != octets.len() => {
+            Ok(Told::Otherwise("the end of the value"))
         }
-        Err(refusal) => match read_any(alloc, octets, number) {
-            Err(plain) if plain == refusal => Ok(Told::Refused(refusal)),
-            _ => Ok(Told::Otherwise("read_any")),
-        },
+        Ok((value, _, mark)) => Ok(written(alloc, number, octets, &value, mark)?),
+        Err(refusal) => Ok(match read_any(alloc, octets, number) {
+            Err(plain) if plain == refusal => Told::Refused(refusal),
+            _ => Told::Otherwise("read_any"),
+        }),
+    }
+}
+
+/// Returns the canonical octets of the value that all these octets are, unless a call reports something else.
+fn written(
+    alloc: Global,
+    number: u8,
+    octets: &[u8],
+    value: &Any,
+    mark: Option<usize>,
+) -> Result<Told, OutOfMemory>
+    requires { number ≤ 254 }
+{
+    let mut out = Vec::new(alloc);
+    write_any(value, number, &mut out)?;
+    let call = dissenting(alloc, number, octets, value, mark)?;
+    Ok(Told::unless(call, out, mark))
+}
+
+/// Returns the name of a call that reports something else than that all these octets are the value.
+fn dissenting(
+    alloc: Global,
+    number: u8,
+    octets: &[u8],
+    value: &Any,
+    mark: Option<usize>,
+) -> Result<Option<&'static str>, OutOfMemory>
+    requires { number ≤ 254 }
+{
+    // The tags of a value that is found at once have one octet.
+    let wanted = mark.is_none().then_some(octets.len());
+    if number < 15 && canonical_any_len(octets, number) != wanted {
+        return Ok(Some("canonical_any_len"));
+    }
+    match read_any(alloc, octets, number) {
+        Ok((plain, end)) if end == octets.len() => {
+            Ok((!is_like(&plain, value)?).then_some("read_any"))
+        }
+        _ => Ok(Some("read_any")),
     }
 }
 

@@ -8,7 +8,7 @@ use crate::{
 };
 use bac_service::Kind;
 use bac_stream::Mode;
-use bac_tables::Row;
+use bac_tables::{Row, place_of};
 use std::alloc::Global;
 
 /// Which call rows are about.
@@ -39,14 +39,14 @@ pub enum Section<'a> {
 impl<'a> Section<'a> {
     /// Returns the section that a line in brackets names.
     pub fn named(line: &'a str) -> Option<Section<'a>> {
-        let words = line.strip_prefix('[')?.strip_suffix(']')?;
-        let (call, rest) = words.split_once(' ').unwrap_or((words, ""));
+        let words = line.strip_prefix("[")?.strip_suffix("]")?;
+        let (call, rest) = words.split_once(" ").unwrap_or((words, ""));
         match (call, rest) {
             ("bac_tag", "") => Some(Section::Heads),
             ("bac_value", name) => Some(Section::Values(name)),
             ("bac_data", number) => Some(Section::OpenValues(number_of(number)?)),
             ("bac_service", rest) => {
-                let (kind, choice) = rest.split_once(' ')?;
+                let (kind, choice) = rest.split_once(" ")?;
                 Some(Section::Services(kind_of(kind)?, number_of(choice)?))
             }
             ("bac_apdu", "") => Some(Section::Apdus),
@@ -96,7 +96,7 @@ impl<'a> Section<'a> {
 
 /// Returns the number of 0 to 255 that the digits are.
 fn number_of(digits: &str) -> Option<u8> {
-    u8::from_str_radix(digits, 10).ok()
+    u8::try_from(place_of(digits).ok()?).ok()
 }
 
 /// Returns the kind of services with this name.

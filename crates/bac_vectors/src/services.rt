@@ -1,5 +1,6 @@
 //! Services (clause 21).
 
+use crate::octets::{FIRST, is_appended};
 use crate::told::Told;
 use bac_service::{
     Kind, Service, append_service, decode_service, decode_service_marked, encode_service,
@@ -28,26 +29,44 @@ pub fn told(alloc: Global, kind: Kind, choice: u8, octets: &[u8]) -> Result<Told
 
 /// Returns true if the octets are refused so, also without their mark.
 fn is_refused(alloc: Global, kind: Kind, choice: u8, octets: &[u8], refusal: Refusal) -> bool {
-    matches!(decode_service(alloc, kind, choice, octets), Err(other) if other == refusal)
+    match decode_service(alloc, kind, choice, octets) {
+        Ok(_) => false,
+        Err(other) => other == refusal,
+    }
 }
 
 /// Returns true if the octets are those of the service, also without their mark, and it is equal to its copy.
 fn is_like(alloc: Global, octets: &[u8], service: &Service) -> Result<bool, OutOfMemory> {
     let copy = service.clone()?;
-    let found = decode_service(alloc, service.kind(), service.choice(), octets);
-    Ok(copy == *service && matches!(found, Ok(found) if found == copy))
+    Ok(copy == *service && is_decoded(alloc, octets, &copy))
 }
 
-/// Returns the canonical octets of the service, which are those of an equal one, and are appended after another octet.
+/// Returns true if the octets are those of the service without their mark.
+fn is_decoded(alloc: Global, octets: &[u8], service: &Service) -> bool {
+    match decode_service(alloc, service.kind(), service.choice(), octets) {
+        Ok(found) => found == *service,
+        Err(_) => false,
+    }
+}
+
+/// Returns the canonical octets of the service, unless a call reports something else of them.
 fn written(alloc: Global, service: &Service, mark: Option<usize>) -> Result<Told, OutOfMemory> {
     let written = encode_service(alloc, service)?;
-    if !is_like(alloc, &written, service)? {
-        return Ok(Told::Otherwise("encode_service"));
+    let call = dissenting(alloc, service, &written)?;
+    Ok(Told::unless(call, written, mark))
+}
+
+/// Returns the name of a call that reports something else than that these octets are those of an equal service, and are
+/// appended after another octet.
+fn dissenting(
+    alloc: Global,
+    service: &Service,
+    written: &[u8],
+) -> Result<Option<&'static str>, OutOfMemory> {
+    if !is_like(alloc, written, service)? {
+        return Ok(Some("encode_service"));
     }
-    let mut out = Vec::from_slice(alloc, &[0xAA])?;
+    let mut out = Vec::from_slice(alloc, &[FIRST])?;
     append_service(service, &mut out)?;
-    if out.split_first() != Some((&0xAA, written.as_slice())) {
-        return Ok(Told::Otherwise("append_service"));
-    }
-    Ok(Told::Written(written, mark))
+    Ok((!is_appended(&out, written)).then_some("append_service"))
 }

@@ -20,29 +20,71 @@ const MOST_TOLD: usize = 16;
 /// words name the first way in which it gives something else. A long stream is not cut in two.
 pub fn found(alloc: Global, mode: Mode, stream: &[u8]) -> Result<String, RowFault> {
     let whole = fed(alloc, mode, &[stream])?;
-    if !is_run(alloc, mode, stream, &whole) {
-        return Ok(String::from_str(alloc, "a run tells otherwise")?);
+    let otherwise = otherwise(alloc, mode, stream, &whole)?;
+    Ok(otherwise.unwrap_or(whole.words))
+}
+
+/// Returns the first way in which a stream gives something else than as a whole, and what it gives.
+fn otherwise(
+    alloc: Global,
+    mode: Mode,
+    stream: &[u8],
+    whole: &Given,
+) -> Result<Option<String>, RowFault> {
+    if !is_run(alloc, mode, stream, whole) {
+        return Ok(Some(String::from_str(alloc, "a run tells otherwise")?));
     }
-    let cuts = if stream.len() > MOST_CUTS {
-        0
-    } else {
-        stream.len()
-    };
-    for place in 0..cuts {
-        let (front, behind) = stream.split_at(place.min(stream.len()));
-        let found = fed(alloc, mode, &[front, &[], behind])?;
-        if found != whole {
-            return Ok(format!(in alloc; "cut at {place}: {}", found.words)?);
+    match cut_otherwise(alloc, mode, stream, whole)? {
+        Some(words) => Ok(Some(words)),
+        None => in_pieces_otherwise(alloc, mode, stream, whole),
+    }
+}
+
+/// Returns the first place where a stream that is cut there gives something else, and what it gives. A long stream is not
+/// cut.
+fn cut_otherwise(
+    alloc: Global,
+    mode: Mode,
+    stream: &[u8],
+    whole: &Given,
+) -> Result<Option<String>, RowFault> {
+    if stream.len() > MOST_CUTS {
+        return Ok(None);
+    }
+    for place in 0..stream.len() {
+        let (front, behind) = stream.split_at(place);
+        if let Some(words) = other_words(alloc, mode, &[front, &[], behind], whole)? {
+            return Ok(Some(format!(in alloc; "cut at {place}: {words}")?));
         }
     }
+    Ok(None)
+}
+
+/// Returns the first size of pieces in which a stream gives something else, and what it gives.
+fn in_pieces_otherwise(
+    alloc: Global,
+    mode: Mode,
+    stream: &[u8],
+    whole: &Given,
+) -> Result<Option<String>, RowFault> {
     for size in [1, 2, 3, 16, 17, 1_000, 65_537] {
         let pieces: Vec<&[u8]> = stream.chunks(size).collect(alloc)?;
-        let found = fed(alloc, mode, &pieces)?;
-        if found != whole {
-            return Ok(format!(in alloc; "in pieces of {size}: {}", found.words)?);
+        if let Some(words) = other_words(alloc, mode, &pieces, whole)? {
+            return Ok(Some(format!(in alloc; "in pieces of {size}: {words}")?));
         }
     }
-    Ok(whole.words)
+    Ok(None)
+}
+
+/// Returns what is reported of the pieces of a stream, if they give something else than it does as a whole.
+fn other_words(
+    alloc: Global,
+    mode: Mode,
+    pieces: &[&[u8]],
+    whole: &Given,
+) -> Result<Option<String>, RowFault> {
+    let found = fed(alloc, mode, pieces)?;
+    Ok((found != *whole).then_some(found.words))
 }
 
 /// What an intake gives for a record.
@@ -67,23 +109,38 @@ fn fed(alloc: Global, mode: Mode, pieces: &[&[u8]]) -> Result<Given, RowFault> {
     let mut intake = Intake::new(alloc, mode)?;
     let mut items = Vec::new(alloc);
     for piece in pieces {
-        if intake.feed(piece, &mut items).is_err() {
-            return Err(RowFault::OutOfMemory);
-        }
+        feed(&mut intake, piece, &mut items)?;
     }
-    let front = words_of(alloc, &items)?;
-    let words = match intake.finish() {
-        Ok(count) => format!(in alloc; "{front}{count}")?,
-        Err(fault) => format!(in alloc; "{front}{fault}")?,
-    };
-    let octets = octets_of(alloc, &items)?;
+    given_by(alloc, &intake, &items)
+}
+
+/// Feeds a piece to an intake.
+fn feed(intake: &mut Intake, piece: &[u8], items: &mut Vec<Item>) -> Result<(), RowFault> {
+    match intake.feed(piece, items) {
+        Ok(()) => Ok(()),
+        Err(_) => Err(RowFault::OutOfMemory),
+    }
+}
+
+/// Returns what an intake gave, which was fed these items.
+fn given_by(alloc: Global, intake: &Intake, items: &[Item]) -> Result<Given, RowFault> {
+    let octets = octets_of(alloc, items)?;
+    let words = words_of(alloc, items)?;
     Ok(Given {
-        words,
+        words: ended(alloc, words, intake)?,
         octets,
         records: items.len(),
         refused: items.iter().filter(|item| item.is_err()).count(),
         is_whole: intake.finish().is_ok(),
     })
+}
+
+/// Returns the words for records with those for the end of the stream after them.
+fn ended(alloc: Global, words: String, intake: &Intake) -> Result<String, AllocError> {
+    match intake.finish() {
+        Ok(count) => format!(in alloc; "{words}{count}"),
+        Err(fault) => format!(in alloc; "{words}{fault}"),
+    }
 }
 
 /// Returns the canonical octets of the frames, one after the other.

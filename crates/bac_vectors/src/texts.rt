@@ -1,6 +1,7 @@
 //! The text of a frame, as `show` writes it after the number of its record.
 
 use crate::faults::RowFault;
+use crate::octets::record_of;
 use bac_npdu::{Frame, decode_frame};
 use bac_stream::{Counted, Mode, run_show};
 use bac_tag::OutOfMemory;
@@ -21,35 +22,42 @@ pub fn found(alloc: Global, octets: &[u8]) -> Result<String, RowFault> {
 /// Returns the line of the frame as the first one of a file.
 fn line_of(alloc: Global, frame: &Frame) -> Result<Vec<u8>, OutOfMemory> {
     let mut line = Vec::from_slice(alloc, b"1 ")?;
-    append_text(frame, &mut line)?;
-    line.extend_from_slice(b"\n")?;
+    push_line(frame, &mut line)?;
     Ok(line)
+}
+
+/// Appends the text of the frame and the end of its line.
+fn push_line(frame: &Frame, line: &mut Vec<u8>) -> Result<(), OutOfMemory> {
+    append_text(frame, line)?;
+    line.extend_from_slice(b"\n")?;
+    Ok(())
 }
 
 /// Returns the line without its number, or what is wrong with it.
 fn words_of(alloc: Global, octets: &[u8], line: &[u8]) -> Result<String, AllocError> {
-    if !is_shown(alloc, octets, line)? {
-        return String::from_str(alloc, "run_show tells otherwise");
-    }
-    let text = line
-        .strip_prefix(b"1 ")
-        .and_then(|text| text.strip_suffix(b"\n"));
-    match std::str::from_utf8(text.unwrap_or(&[])) {
-        Ok(text) => String::from_str(alloc, text),
-        Err(_) => String::from_str(alloc, "a text that is not of UTF-8"),
+    match record_of(alloc, octets)? {
+        Some(record) if !is_shown(alloc, &record, line) => {
+            String::from_str(alloc, "run_show tells otherwise")
+        }
+        _ => String::from_str(alloc, text_of(line)),
     }
 }
 
-/// Returns true if the run that shows a file of one record with these octets writes this line. More octets than a record
-/// may have are not tried.
-fn is_shown(alloc: Global, octets: &[u8], line: &[u8]) -> Result<bool, AllocError> {
-    let Ok(length) = u16::try_from(octets.len()) else {
-        return Ok(true);
-    };
-    let mut file = Vec::from_slice(alloc, &length.to_be_bytes())?;
-    file.extend_from_slice(octets)?;
-    let mut input = Counted::new(file.as_slice());
+/// Returns the text of a line without its number, or what is wrong with it.
+fn text_of(line: &[u8]) -> &str {
+    match line {
+        [b'1', b' ', text @ .., b'\n'] => match std::str::from_utf8(text) {
+            Ok(text) => text,
+            Err(_) => "a text that is not of UTF-8",
+        },
+        _ => "a line without its number",
+    }
+}
+
+/// Returns true if the run that shows a file of this record writes this line.
+fn is_shown(alloc: Global, record: &[u8], line: &[u8]) -> bool {
+    let mut input = Counted::new(record);
     let mut output = Counted::new(Vec::new(alloc));
     let is_run = run_show(alloc, Mode::Tolerant, &mut input, &mut output).is_ok();
-    Ok(is_run && output.device.as_slice() == line)
+    is_run && output.device.as_slice() == line
 }

@@ -15,10 +15,18 @@ pub enum Told {
 }
 
 impl Told {
-    /// Returns true if the octets are the ones that are written.
-    pub fn is_itself(&self, octets: &[u8]) -> bool {
+    /// Returns what octets come to of which these are written, unless a call reports something else.
+    pub fn unless(dissenting: Option<&'static str>, written: Vec<u8>, mark: Option<usize>) -> Told {
+        match dissenting {
+            Some(call) => Told::Otherwise(call),
+            None => Told::Written(written, mark),
+        }
+    }
+
+    /// Returns true if these octets are written, and those that were read differ from them at this place.
+    pub fn is_written(&self, octets: &[u8], place: Option<usize>) -> bool {
         match self {
-            Told::Written(written, None) => written.as_slice() == octets,
+            Told::Written(written, mark) => written.as_slice() == octets && *mark == place,
             _ => false,
         }
     }
@@ -26,16 +34,6 @@ impl Told {
     /// Returns true if the octets are refused so.
     pub fn is_refused(&self, refusal: Refusal) -> bool {
         matches!(self, Told::Refused(told) if *told == refusal)
-    }
-
-    /// Returns true if the octets that are written are these, and those that were read differ from them at this place.
-    pub fn differs(&self, canonical: &[u8], place: usize) -> bool {
-        match self {
-            Told::Written(written, mark) => {
-                written.as_slice() == canonical && *mark == Some(place)
-            }
-            _ => false,
-        }
     }
 
     /// Returns what is reported of octets in the words of a row: `itself`, `OCTETS, differs at PLACE` or
@@ -46,12 +44,8 @@ impl Told {
                 String::from_str(alloc, "itself")
             }
             Told::Written(written, mark) => {
-                let mut words = digits(alloc, written.get(front..).unwrap_or(&[]))?;
-                match mark {
-                    Some(place) => words.push_str(&format!(in alloc; ", differs at {place}")?)?,
-                    None => words.push_str(", without a mark")?,
-                }
-                Ok(words)
+                let digits = digits(alloc, written.get(front..).unwrap_or(&[]))?;
+                marked(alloc, &digits, *mark)
             }
             Told::Refused(refusal) => format!(in alloc; "{refusal}"),
             Told::Otherwise(call) => format!(in alloc; "{call} tells otherwise"),
@@ -59,17 +53,28 @@ impl Told {
     }
 }
 
+/// Returns digits with the place of the first difference after them.
+fn marked(alloc: Global, digits: &str, mark: Option<usize>) -> Result<String, AllocError> {
+    match mark {
+        Some(place) => format!(in alloc; "{digits}, differs at {place}"),
+        None => format!(in alloc; "{digits}, without a mark"),
+    }
+}
+
 /// Returns octets in hexadecimal digits, with blanks between them, or `none`.
-fn digits(alloc: Global, octets: &[u8]) -> Result<String, AllocError> {
+pub fn digits(alloc: Global, octets: &[u8]) -> Result<String, AllocError> {
     let mut digits = String::new(alloc);
     for octet in octets {
-        if !digits.is_empty() {
-            digits.push_str(" ")?;
-        }
-        digits.push_str(&format!(in alloc; "{octet:02X}")?)?;
+        push_octet(alloc, &mut digits, *octet)?;
     }
     if digits.is_empty() {
         digits.push_str("none")?;
     }
     Ok(digits)
+}
+
+/// Appends an octet in hexadecimal digits, with a blank before it unless it is the first.
+fn push_octet(alloc: Global, digits: &mut String, octet: u8) -> Result<(), AllocError> {
+    let blank = if digits.is_empty() { "" } else { " " };
+    digits.push_str(&format!(in alloc; "{blank}{octet:02X}")?)
 }

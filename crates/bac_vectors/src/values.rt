@@ -56,18 +56,26 @@ fn is_prim(alloc: Global, number: u8, octets: &[u8], told: &Told) -> Result<bool
 {
     match Prim::read(alloc, number, octets) {
         Ok(prim) => {
-            let mut out = Vec::new(alloc);
-            prim.write(&mut out)?;
-            let is_numbered = prim.number() == number && prim.as_prim_ref().number() == number;
-            let is_counted = is_numbered && prim.written_len() == out.len();
-            let Told::Written(written, mark) = told else {
-                return Ok(false);
-            };
-            let is_same = out.as_slice() == written.as_slice() && prim.mark(octets) == *mark;
-            Ok(is_counted && is_same && is_borrowed_again(alloc, &prim)?)
+            let mark = prim.mark(octets);
+            Ok(prim.number() == number && is_written(alloc, &prim, mark, told)?)
         }
-        Err(refusal) => Ok(matches!(told, Told::Refused(other) if *other == refusal)),
+        Err(refusal) => Ok(told.is_refused(refusal)),
     }
+}
+
+/// Returns true if this is what is written of a value, and it is the value, borrowed.
+fn is_written(
+    alloc: Global,
+    prim: &Prim,
+    mark: Option<usize>,
+    told: &Told,
+) -> Result<bool, OutOfMemory> {
+    let mut out = Vec::new(alloc);
+    prim.write(&mut out)?;
+    let is_counted = prim.written_len() == out.len()
+        && prim.as_prim_ref().number() == prim.number();
+    let is_borrowed = is_borrowed_again(alloc, prim)?;
+    Ok(is_counted && is_borrowed && told.is_written(&out, mark))
 }
 
 /// Returns true if what is written of a value is the value, borrowed.
@@ -79,28 +87,62 @@ fn is_borrowed_again(alloc: Global, prim: &Prim) -> Result<bool, OutOfMemory> {
 
 /// Returns what octets come to as contents of the type.
 fn told_of<T: Primitive>(alloc: Global, octets: &[u8]) -> Result<Told, OutOfMemory> {
-    let told = match T::read(alloc, octets) {
+    match T::read(alloc, octets) {
         Ok(value) => {
-            let mut out = Vec::new(alloc);
-            value.write(&mut out)?;
-            if value.written_len() != out.len() {
-                return Ok(Told::Otherwise("written_len"));
-            }
-            Told::Written(out, value.mark(octets))
+            let mark = value.mark(octets);
+            written_of(alloc, octets, &value, mark)
         }
-        Err(refusal) => Told::Refused(refusal),
-    };
-    if !is_foreseen::<T>(octets, &told) {
-        return Ok(Told::Otherwise("hopeless"));
+        Err(refusal) => agreed::<T>(alloc, octets, Told::Refused(refusal), true),
+    }
+}
+
+/// Returns what octets come to that are contents of this value, and differ at `mark` from those that are written of it.
+fn written_of<T: Primitive>(
+    alloc: Global,
+    octets: &[u8],
+    value: &T,
+    mark: Option<usize>,
+) -> Result<Told, OutOfMemory> {
+    let mut out = Vec::new(alloc);
+    value.write(&mut out)?;
+    let is_counted = value.written_len() == out.len();
+    agreed::<T>(alloc, octets, Told::Written(out, mark), is_counted)
+}
+
+/// Returns what octets come to, if the value counts what is written of it, and the calls that look at a front report the same.
+fn agreed<T: Primitive>(
+    alloc: Global,
+    octets: &[u8],
+    told: Told,
+    is_counted: bool,
+) -> Result<Told, OutOfMemory> {
+    if !is_counted {
+        return Ok(Told::Otherwise("written_len"));
+    }
+    match dissenting::<T>(alloc, octets, &told)? {
+        Some(call) => Ok(Told::Otherwise(call)),
+        None => Ok(told),
+    }
+}
+
+/// Returns the name of a call that reports something else of octets, or of them at the front of longer ones.
+fn dissenting<T: Primitive>(
+    alloc: Global,
+    octets: &[u8],
+    told: &Told,
+) -> Result<Option<&'static str>, OutOfMemory> {
+    if !is_foreseen::<T>(octets, told) {
+        return Ok(Some("hopeless"));
+    }
+    if !is_found::<T>(alloc, octets, octets.len(), told)? {
+        return Ok(Some("find"));
     }
     let mut longer = Vec::from_slice(alloc, octets)?;
     longer.extend_from_slice(&[0xFF; 4])?;
-    if !is_found::<T>(alloc, octets, octets.len(), &told)?
-        || !is_found::<T>(alloc, &longer, octets.len(), &told)?
-    {
-        return Ok(Told::Otherwise("find"));
+    if !is_found::<T>(alloc, &longer, octets.len(), told)? {
+        return Ok(Some("find"));
     }
-    Ok(told)
+    Ok(None)
 }
 
 /// Returns true if the contents in so many octets at the front are found exactly if they are accepted, and mean the same.
@@ -131,12 +173,11 @@ fn is_foreseen<T: Primitive>(octets: &[u8], told: &Told) -> bool {
     if octets.len() < T::SHORTEST || octets.len() > T::LONGEST || octets.len() > MOST_FRONTS {
         return true;
     }
-    let refused = match told {
-        Told::Refused(refusal) => Some(refusal.place),
-        _ => None,
-    };
     for taken in 0..=octets.len() {
-        let wanted = refused.filter(|place| *place < taken);
+        let wanted = match told {
+            Told::Refused(refusal) if refusal.place < taken => Some(refusal.place),
+            _ => None,
+        };
         if T::hopeless(&octets[..taken], octets.len()) != wanted {
             return false;
         }

@@ -7,7 +7,7 @@ use std::fmt;
 use std::fmt::Display;
 
 /// How many rows there are, and how many of them do not hold.
-#[derive(Clone, Copy, Debug, Default)]
+#[derive(Clone, Copy)]
 pub struct Count {
     pub rows: u64,
     pub differing: u64,
@@ -68,10 +68,10 @@ pub fn run(
 /// Returns what a line is, below this heading.
 fn line_of<'a>(heading: Heading<'a>, line: &'a str) -> Result<Line<'a>, RowFault> {
     let line = line.trim();
-    if line.is_empty() || line.starts_with('#') {
+    if line.is_empty() || line.starts_with("#") {
         return Ok(Line::Comment);
     }
-    if line.starts_with('[') {
+    if line.starts_with("[") {
         let section = Section::named(line).ok_or(RowFault::Mistake)?;
         return Ok(Line::Heading(Heading {
             section: Some(section),
