@@ -1,4 +1,4 @@
-//! What a test expects. Each is a function, which is proved once for all tests.
+//! What a test expects, and copies of octets. Each is a function, which is proved once for all tests.
 
 use std::alloc::Global;
 use std::fmt::{Debug, Display};
@@ -36,4 +36,17 @@ pub fn assert_joined(rt: &impl Abort, found: &[u8], front: &[u8], behind: &[u8])
 pub fn assert_shown<D: Display + Drop>(rt: &impl Abort, alloc: Global, value: D, text: &str) {
     let shown = format!(in alloc; "{value}").expect(rt, "memory");
     assert_same(rt, shown.as_str(), text);
+}
+
+/// A copy of octets, at the latest when memory is asked for again.
+pub fn copied(rt: &impl Abort, alloc: Global, octets: &[u8]) -> Vec<u8> {
+    match Vec::from_slice(alloc, octets) {
+        Ok(copy) => copy,
+        Err(_) => copied_again(rt, alloc, octets),
+    }
+}
+
+/// A copy of octets, when memory is asked for again.
+fn copied_again(rt: &impl Abort, alloc: Global, octets: &[u8]) -> Vec<u8> {
+    Vec::from_slice(alloc, octets).expect(rt, "memory")
 }

@@ -1,7 +1,7 @@
 //! What is appended to a mebibyte of text comes after it, and the text is unchanged. This is a test, since no clause says
 //! that memory is there.
 
-use crate::expectations::assert_joined;
+use crate::expectations::{assert_joined, copied};
 use bac_apdu::{append_apdu, decode_apdu};
 use bac_npdu::{append_frame, decode_frame};
 use bac_service::{Kind, append_service, decode_service};
@@ -28,22 +28,35 @@ fn mebibyte(rt: &impl Abort, alloc: Global) -> String {
     text
 }
 
+/// Appends the text of F4, and its octets.
+fn push_frame(rt: &impl Abort, alloc: Global, out: &mut Vec<u8>) {
+    let frame = decode_frame(alloc, &FRAME).expect(rt, "a frame");
+    append_text(&frame, out).expect(rt, "memory");
+    append_frame(&frame, out).expect(rt, "memory");
+}
+
+/// Appends the octets of the APDU that these are.
+fn push_apdu(rt: &impl Abort, alloc: Global, octets: &[u8], out: &mut Vec<u8>) {
+    let apdu = decode_apdu(alloc, octets).expect(rt, "an APDU");
+    append_apdu(&apdu, out).expect(rt, "memory");
+}
+
+/// Appends the octets of the answer to ReadProperty that these are.
+fn push_service(rt: &impl Abort, alloc: Global, octets: &[u8], out: &mut Vec<u8>) {
+    let service = decode_service(alloc, Kind::ComplexAck, 12, octets).expect(rt, "a service");
+    append_service(&service, out).expect(rt, "memory");
+}
+
 // The APDU of F4 is after two octets of the frame, and its service after three of the APDU.
 #[test]
-fn what_is_appended_stands_behind_a_mebibyte(rt: HostRuntime) {
+fn what_is_appended_comes_after_a_mebibyte(rt: HostRuntime) {
     let alloc = rt.alloc();
     let front = mebibyte(&rt, alloc);
-    let (apdu_octets, service_octets) = (&FRAME[2..], &FRAME[5..]);
-    let frame = decode_frame(alloc, &FRAME).expect(&rt, "a frame");
-    let apdu = decode_apdu(alloc, apdu_octets).expect(&rt, "an APDU");
-    let service = decode_service(alloc, Kind::ComplexAck, 12, service_octets);
-    let service = service.expect(&rt, "a service");
-    let mut out = Vec::from_slice(alloc, front.as_bytes()).expect(&rt, "memory");
-    append_text(&frame, &mut out).expect(&rt, "memory");
-    append_frame(&frame, &mut out).expect(&rt, "memory");
-    append_apdu(&apdu, &mut out).expect(&rt, "memory");
-    append_service(&service, &mut out).expect(&rt, "memory");
-    let behind = enclosed(alloc, TEXT.as_bytes(), &FRAME, apdu_octets, service_octets);
-    let behind = behind.expect(&rt, "memory");
-    assert_joined(&rt, &out, front.as_bytes(), &behind);
+    let (apdu, service) = (&FRAME[2..], &FRAME[5..]);
+    let mut out = copied(&rt, alloc, front.as_bytes());
+    push_frame(&rt, alloc, &mut out);
+    push_apdu(&rt, alloc, apdu, &mut out);
+    push_service(&rt, alloc, service, &mut out);
+    let rest = enclosed(alloc, TEXT.as_bytes(), &FRAME, apdu, service).expect(&rt, "memory");
+    assert_joined(&rt, &out, front.as_bytes(), &rest);
 }

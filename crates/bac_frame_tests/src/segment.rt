@@ -45,14 +45,26 @@ fn segments_of(alloc: Global, plan: &CutPlan, octets: &[u8]) -> Result<Vec<Segme
     }
 }
 
+/// The APDU of octets, at the latest when memory is asked for again.
+fn decoded(rt: &impl Abort, alloc: Global, octets: &[u8]) -> Apdu {
+    match decode_apdu(alloc, octets) {
+        Ok(apdu) => apdu,
+        Err(refusal) => {
+            assert_same(rt, refusal, Why::OutOfMemory.at(0));
+            decoded_again(rt, alloc, octets)
+        }
+    }
+}
+
+/// The APDU of octets, when memory is asked for again.
+fn decoded_again(rt: &impl Abort, alloc: Global, octets: &[u8]) -> Apdu {
+    decode_apdu(alloc, octets).expect(rt, "an APDU")
+}
+
 /// The segment with these octets.
 fn segment_of(rt: &impl Abort, alloc: Global, text: &str) -> Segment {
     let octets = octets_of(text).expect(rt, "octets");
-    let apdu = match decode_apdu(alloc, &octets) {
-        Err(refusal) if refusal.why == Why::OutOfMemory => decode_apdu(alloc, &octets),
-        found => found,
-    };
-    match apdu.expect(rt, "an APDU") {
+    match decoded(rt, alloc, &octets) {
         Apdu::Segment(segment) => segment,
         _ => panic!(rt; "no segment"),
     }

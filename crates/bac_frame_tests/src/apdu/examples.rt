@@ -1,7 +1,7 @@
 //! APDUs of worked examples, appended to other octets.
 
 use super::{appended, decoded};
-use crate::expectations::assert_same;
+use crate::expectations::{assert_joined, assert_same};
 use bac_tables::octets_of;
 use std::alloc::Global;
 use std::process::Abort;
@@ -10,12 +10,10 @@ use std::process::Abort;
 /// turn, that is so when memory is asked for again.
 fn is_appended(rt: &impl Abort, alloc: Global, text: &str) {
     let octets = octets_of(text).expect(rt, "octets");
-    let (apdu, mark) = decoded(rt, alloc, &octets).expect(rt, "an APDU");
+    let (apdu, mark) = decoded(rt, alloc, &octets);
     assert_same(rt, mark, None);
     let out = appended(rt, alloc, &[0x01, 0x04], &apdu);
-    let (front, rest) = out.split_at_checked(2).expect(rt, "two octets");
-    assert_same(rt, front, [0x01, 0x04].as_slice());
-    assert_same(rt, rest, octets.as_slice());
+    assert_joined(rt, &out, &[0x01, 0x04], &octets);
 }
 
 // Of examples 18 and 24 of docs/EXAMPLES.md.

@@ -1,30 +1,41 @@
-//! Constructors and parts.
+//! Constructors.
 
-use super::{decoded, encoded};
+use super::{decoded, encoded, frame_with};
 use crate::expectations::{assert_holds, assert_same, assert_same_of, assert_shown};
-use bac_npdu::{
-    Body, Frame, Mac, MacFault, NetFault, NetMessage, NetPriority, OpaqueNet, Port, Ports, Source,
-};
-use bac_tables::{mixed, octets_of};
+use bac_npdu::{Mac, MacFault, NetFault, NetMessage, NetPriority, OpaqueNet, Port, Ports, Source};
+use bac_tables::mixed;
 use std::alloc::Global;
 use std::process::Abort;
 
-// Of examples 32 and 57 of docs/EXAMPLES.md.
+// Of example 32 of docs/EXAMPLES.md.
 #[test]
-fn arguments_come_back(rt: HostRuntime) {
-    let alloc = rt.alloc();
-    let octets = mixed(alloc, 256).expect(&rt, "memory");
-    let fault = Mac::new(alloc, &octets).err();
+fn addresses_have_at_most_255_octets(rt: HostRuntime) {
+    let octets = mixed(rt.alloc(), 256).expect(&rt, "memory");
+    let fault = Mac::new(rt.alloc(), &octets).err();
     assert_same(&rt, fault, Some(MacFault::TooLong));
     let most = octets.get(..255).expect(&rt, "255 octets");
-    let mac = Mac::new(alloc, most).expect(&rt, "an address");
-    assert_holds(&rt, mac.octets() == most, "an address");
-    let none = Mac::new(alloc, &[]).expect(&rt, "no address");
+    let source = source_of(&rt, rt.alloc(), most);
+    assert_same(&rt, source.network(), 7);
+    assert_holds(&rt, source.address().octets() == most, "an address");
+}
+
+/// The source with this address in network 7.
+fn source_of(rt: &impl Abort, alloc: Global, address: &[u8]) -> Source {
+    let address = Mac::new(alloc, address).expect(rt, "an address");
+    Source::new(7, address).ok().expect(rt, "a source")
+}
+
+// Of example 57 of docs/EXAMPLES.md.
+#[test]
+fn an_empty_address_comes_back(rt: HostRuntime) {
+    let none = Mac::new(rt.alloc(), &[]).expect(&rt, "no address");
     let empty = Source::new(7, none).err().expect(&rt, "no address");
     assert_same(&rt, empty.octets().len(), 0);
-    let source = Source::new(7, mac).ok().expect(&rt, "an address");
-    let found = (source.network(), source.address().octets().len());
-    assert_same(&rt, found, (7, 255));
+}
+
+// Of example 57 of docs/EXAMPLES.md.
+#[test]
+fn priorities_are_0_to_3(rt: HostRuntime) {
     assert_same(&rt, NetPriority::new(4), None);
     let priority = NetPriority::new(3).expect(&rt, "a priority");
     assert_same(&rt, priority.number(), 3);
@@ -42,65 +53,50 @@ fn ports(rt: &impl Abort, alloc: Global, last: u8) -> Vec<Port> {
     list
 }
 
+/// So many ports, which are the most that a table has.
+fn most_ports(rt: &impl Abort, alloc: Global) -> Ports {
+    let list = Ports::new(ports(rt, alloc, 255));
+    let mut list = list.err().expect(rt, "256 ports");
+    assert_same(rt, list.len(), 256);
+    list.truncate(255);
+    Ports::new(list).ok().expect(rt, "255 ports")
+}
+
 #[test]
 fn tables_have_at_most_255_ports(rt: HostRuntime) {
-    let list = ports(&rt, rt.alloc(), 255);
-    let mut list = Ports::new(list).err().expect(&rt, "256 ports");
-    assert_same(&rt, list.len(), 256);
-    list.truncate(255);
-    let ports = Ports::new(list).ok().expect(&rt, "255 ports");
+    let ports = most_ports(&rt, rt.alloc());
     assert_same(&rt, ports.list().len(), 255);
-    let frame = Frame {
-        reply: false,
-        priority: NetPriority::new(0).expect(&rt, "a priority"),
-        dest: None,
-        source: None,
-        body: Body::Net(NetMessage::InitTable(ports)),
-    };
+    let frame = frame_with(&rt, NetMessage::InitTable(ports));
     let octets = encoded(&rt, rt.alloc(), &frame);
     assert_same(&rt, octets.len(), 4 + 255 * 4);
-    let (_, mark) = decoded(&rt, rt.alloc(), &octets).expect(&rt, "a frame");
+    let (_, mark) = decoded(&rt, rt.alloc(), &octets);
     assert_same(&rt, mark, None);
 }
 
 #[test]
 fn opaque_messages_are_made(rt: HostRuntime) {
-    let alloc = rt.alloc();
     for kind in 0..=255 {
-        let typed = kind < 10 || kind == 18 || kind == 19;
-        let plain = OpaqueNet::new(alloc, kind, None, &[0xAA]).err();
-        let vendored = OpaqueNet::new(alloc, kind, Some(260), &[0xAA]).err();
-        let wanted = if typed {
-            (Some(NetFault::Typed), Some(NetFault::Typed))
-        } else if kind < 128 {
-            (None, Some(NetFault::Vendor))
-        } else {
-            (Some(NetFault::Vendor), None)
-        };
-        assert_same_of(&rt, (plain, vendored), wanted, kind);
+        let plain = OpaqueNet::new(rt.alloc(), kind, None, &[0xAA]).err();
+        let vendored = OpaqueNet::new(rt.alloc(), kind, Some(260), &[0xAA]).err();
+        assert_same_of(&rt, (plain, vendored), faults_of(kind), kind);
     }
-    let message = OpaqueNet::new(alloc, 128, Some(260), &[0xAA, 0xBB]);
-    let message = message.expect(&rt, "a message");
-    assert_same(&rt, (message.kind(), message.vendor()), (128, Some(260)));
-    assert_same(&rt, message.octets(), [0xAA, 0xBB].as_slice());
+}
+
+/// Why a message of this type is not opaque, without a vendor and with one.
+fn faults_of(kind: u8) -> (Option<NetFault>, Option<NetFault>) {
+    match kind {
+        0..=9 | 18 | 19 => (Some(NetFault::Typed), Some(NetFault::Typed)),
+        10..=127 => (None, Some(NetFault::Vendor)),
+        _ => (Some(NetFault::Vendor), None),
+    }
 }
 
 #[test]
-fn parts_are_those_of_the_octets(rt: HostRuntime) {
-    let octets = octets_of("01 AE 00 05 01 0A 00 07 02 01 02 FF 03 01 00 09");
-    let octets = octets.expect(&rt, "octets");
-    let (frame, _) = decoded(&rt, rt.alloc(), &octets).expect(&rt, "a frame");
-    assert_same(&rt, (frame.reply, frame.priority.number()), (true, 2));
-    let dest = frame.dest.as_ref().expect(&rt, "a destination");
-    let found = (dest.network, dest.address.octets(), dest.hops);
-    assert_same(&rt, found, (5, [10].as_slice(), 255));
-    let source = frame.source.as_ref().expect(&rt, "a source");
-    let found = (source.network(), source.address().octets());
-    assert_same(&rt, found, (7, [1, 2].as_slice()));
-    let Body::Net(NetMessage::RejectMessage { reason, network }) = &frame.body else {
-        panic!(rt; "no Reject")
-    };
-    assert_same(&rt, (*reason, *network), (1, 9));
+fn opaque_messages_have_their_parts(rt: HostRuntime) {
+    let message = OpaqueNet::new(rt.alloc(), 128, Some(260), &[0xAA, 0xBB]);
+    let message = message.expect(&rt, "a message");
+    assert_same(&rt, (message.kind(), message.vendor()), (128, Some(260)));
+    assert_same(&rt, message.octets(), [0xAA, 0xBB].as_slice());
 }
 
 // In the order of their enums, from 1 on.

@@ -1,7 +1,7 @@
 //! Frames of worked examples, appended to other octets.
 
 use super::{appended, decoded};
-use crate::expectations::assert_same;
+use crate::expectations::{assert_joined, assert_same};
 use bac_tables::octets_of;
 use std::alloc::Global;
 use std::process::Abort;
@@ -9,11 +9,10 @@ use std::process::Abort;
 /// Stops the test unless the canonical octets of the frame are written after others, which stay.
 fn is_appended(rt: &impl Abort, alloc: Global, text: &str) {
     let octets = octets_of(text).expect(rt, "octets");
-    let (frame, mark) = decoded(rt, alloc, &octets).expect(rt, "a frame");
+    let (frame, mark) = decoded(rt, alloc, &octets);
     assert_same(rt, mark, None);
     let out = appended(rt, alloc, &[0xAA, 0xBB], &frame);
-    assert_same(rt, out.get(..2), Some([0xAA, 0xBB].as_slice()));
-    assert_same(rt, out.get(2..), Some(octets.as_slice()));
+    assert_joined(rt, &out, &[0xAA, 0xBB], &octets);
 }
 
 // Of examples 18 and 54 of docs/EXAMPLES.md. With each allocation refused in turn the octets are read and written when

@@ -1,28 +1,17 @@
 //! Messages of many octets are made: no clause says that memory is there.
 
-use super::encoded;
+use super::{encoded, frame_with};
 use crate::expectations::assert_holds;
-use bac_npdu::{Body, Frame, NetMessage, NetPriority, OpaqueNet};
+use bac_npdu::{NetMessage, OpaqueNet};
 use bac_tables::{enclosed, mixed};
 use std::alloc::Global;
 use std::process::Abort;
-
-/// A frame of the message, which is for the own network.
-fn frame_with(rt: &impl Abort, message: OpaqueNet) -> Frame {
-    Frame {
-        reply: false,
-        priority: NetPriority::new(0).expect(rt, "a priority"),
-        dest: None,
-        source: None,
-        body: Body::Net(NetMessage::Opaque(message)),
-    }
-}
 
 /// The octets are those of a message of type 128 and vendor 260.
 fn are_kept_in_a_message(rt: &impl Abort, alloc: Global, octets: &[u8]) {
     let message = OpaqueNet::new(alloc, 128, Some(260), octets).expect(rt, "a message");
     assert_holds(rt, message.octets() == octets, octets.len());
-    let written = encoded(rt, alloc, &frame_with(rt, message));
+    let written = encoded(rt, alloc, &frame_with(rt, NetMessage::Opaque(message)));
     let head = [1, 0x80, 128, 1, 4];
     let wanted = enclosed(alloc, &head, octets, &[], &[]).expect(rt, "memory");
     assert_holds(rt, written == wanted, octets.len());

@@ -17,8 +17,13 @@ struct Tell {
 
 /// Appends network and address.
 fn push_address(network: u16, address: &[u8], out: &mut Vec<u8>) -> Result<(), OutOfMemory> {
-    out.extend_from_slice(&network.to_be_bytes())?;
-    out.extend_from_slice(address)?;
+    push_octets(&network.to_be_bytes(), out)?;
+    push_octets(address, out)
+}
+
+/// Appends octets.
+fn push_octets(octets: &[u8], out: &mut Vec<u8>) -> Result<(), OutOfMemory> {
+    out.extend_from_slice(octets)?;
     Ok(())
 }
 
@@ -57,14 +62,22 @@ impl FrameVisitor for Tell {
     }
 }
 
+/// Appends what the head says, and the octets of the frame that is kept.
+fn push_told(
+    rt: &impl Abort,
+    alloc: Global,
+    octets: &[u8],
+    out: &mut Vec<u8>,
+) -> Result<(), OutOfMemory> {
+    visit_frame(alloc, octets, Tell { alloc }, out).expect(rt, "a frame")
+}
+
 /// What the head says, and the octets of the frame that is kept, at the latest when memory is asked for again.
 fn told(rt: &impl Abort, alloc: Global, octets: &[u8]) -> Vec<u8> {
     let mut out = Vec::new(alloc);
-    let made = visit_frame(alloc, octets, Tell { alloc }, &mut out).expect(rt, "a frame");
-    if made.is_err() {
+    if push_told(rt, alloc, octets, &mut out).is_err() {
         out.clear();
-        let made = visit_frame(alloc, octets, Tell { alloc }, &mut out).expect(rt, "a frame");
-        made.expect(rt, "memory");
+        push_told(rt, alloc, octets, &mut out).expect(rt, "memory");
     }
     out
 }

@@ -3,13 +3,14 @@
 use super::{KEY, SERVICE, desk, is_joined_to, segment_of, take_at};
 use crate::expectations::{assert_holds, assert_same_of};
 use bac_segment::{Desk, Key};
-use bac_tables::rows_of;
+use bac_tables::{place_of, rows_of};
 use std::alloc::Global;
 use std::process::Abort;
 
 /// The key of a sender.
 fn key_of(rt: &impl Abort, peer: &str) -> Key {
-    let peer = u32::from_str_radix(peer, 10).expect(rt, "a sender");
+    let peer = place_of(peer).expect(rt, "a sender");
+    let peer = u32::try_from(peer).ok().expect(rt, "a sender");
     Key { peer, ..KEY }
 }
 

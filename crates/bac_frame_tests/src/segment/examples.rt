@@ -4,26 +4,18 @@ use super::{
     KEY, SERVICE, answers, is_joined, is_joined_to, longer_segment, name_of, opened, plan,
     segment_of, segments_of,
 };
+use crate::apdu::encoded;
 use crate::expectations::{assert_holds, assert_same, assert_same_of};
-use bac_apdu::{Apdu, Segment, encode_apdu};
+use bac_apdu::{Apdu, Segment};
 use bac_segment::{CutFault, Reassembly};
 use bac_tables::{mixed, octets_of, rows_of};
-use bac_tag::OutOfMemory;
 use std::alloc::Global;
 use std::process::Abort;
-
-/// The octets of a segment, at the latest when memory is asked for again.
-fn written(rt: &impl Abort, alloc: Global, apdu: &Apdu) -> Vec<u8> {
-    match encode_apdu(alloc, apdu) {
-        Ok(octets) => octets,
-        Err(OutOfMemory) => encode_apdu(alloc, apdu).expect(rt, "memory"),
-    }
-}
 
 /// There is a segment, with these octets.
 fn is_written(rt: &impl Abort, alloc: Global, segment: Option<Segment>, octets: &str) {
     let segment = segment.expect(rt, "a segment");
-    let found = written(rt, alloc, &Apdu::Segment(segment));
+    let found = encoded(rt, alloc, &Apdu::Segment(segment));
     let wanted = octets_of(octets).expect(rt, "octets");
     assert_same(rt, found.as_slice(), wanted.as_slice());
 }

@@ -69,19 +69,28 @@ fn listed(rt: &impl Abort, alloc: Global, front: &str, between: &str, behind: &s
     text
 }
 
+/// Stops the test unless a frame that ends with a list has its text. `octets` are before the list, and `item` is before each
+/// number of it; `texts` are before the text of the list, between two numbers and after the last.
+fn list_has_its_text(rt: &impl Abort, alloc: Global, octets: &[u8], item: &[u8], texts: [&str; 3]) {
+    let numbers = numbered(alloc, item, &[]).expect(rt, "memory");
+    let octets = enclosed(alloc, octets, &numbers, &[], &[]).expect(rt, "memory");
+    let [front, between, behind] = texts;
+    let text = listed(rt, alloc, front, between, behind);
+    shows(rt, alloc, &octets, &text);
+}
+
 // Of networks, and of objects in an answer.
 #[test]
 fn long_lists_have_their_text(rt: HostRuntime) {
-    let alloc = rt.alloc();
-    let numbers = numbered(alloc, &[], &[]).expect(&rt, "memory");
-    let octets = enclosed(alloc, &[1, 0x80, 1], &numbers, &[], &[]).expect(&rt, "memory");
-    let front = "prio=0 reply=0 net type=01 networks=(";
-    let text = listed(&rt, alloc, front, " ", ")");
-    shows(&rt, alloc, &octets, &text);
-    let objects = numbered(alloc, &[0x0C, 0, 0], &[]).expect(&rt, "memory");
-    let front = [1, 0, 0x30, 1, 0x0E];
-    let octets = enclosed(alloc, &front, &objects, &[], &[]).expect(&rt, "memory");
+    let texts = ["prio=0 reply=0 net type=01 networks=(", " ", ")"];
+    list_has_its_text(&rt, rt.alloc(), &[1, 0x80, 1], &[], texts);
     let front = "prio=0 reply=0 ack id=1 ReadPropertyMultiple results=((object=0:";
-    let text = listed(&rt, alloc, front, ") (object=0:", "))");
-    shows(&rt, alloc, &octets, &text);
+    let texts = [front, ") (object=0:", "))"];
+    list_has_its_text(
+        &rt,
+        rt.alloc(),
+        &[1, 0, 0x30, 1, 0x0E],
+        &[0x0C, 0, 0],
+        texts,
+    );
 }
