@@ -34,7 +34,9 @@ use Rattle.bac_fields.specs.ServiceFields.{service_steps}
 use Rattle.bac_fields.specs.ApduFields.{part_steps, apdu_steps}
 use Rattle.bac_fields.specs.MessageFields.{listed_network_steps, port_steps, ports_steps, message_steps}
 use Rattle.bac_fields.specs.FrameFields.{source_size, source_steps, addresses_steps, body_steps, control_steps, frame_steps, placed_fields, FrameFits}
+use Rattle.bac_fields.specs.Names.{number_of}
 use Rattle.bac_fields.specs.Places.{HoldsNumber, AreAt}
+use Rattle.bac_fields.specs.Symbols.{has_contents}
 use Rattle.bac_fields.proofs.PlaceLemmas.{Lays, lays_nothing, lays_next, lays_pass, lays_both, lays_same, lays_aside, count, count-append, count-placed, fits_all, Tells, tells_nothing, tells_next, tells_both, tells_same, Placed, are_at}
 use Rattle.bac_fields.proofs.ServicePlaces.{Behind, service_led}
 
@@ -164,28 +166,28 @@ confirmed_lays head service c segs resp p =
     let first : ℕ = least_part (typed 0 (Some false) None (Some head.sa) None) in
     let second : ℕ = least_part (limits head.segs head.resp) in
     lays_both
-    (lays_aside 0 name.ConfirmedRequest 0 (omega arith) (omega (arith, sa))
-    (lays_aside 2 name.InvokeId head.invoke (omega arith) refl
-    (lays_aside 0 name.SegmentedAccepted (truth head.sa) (omega arith) (omega (arith, sa, truth_bit head.sa))
-    (lays_aside 1 name.MaxSegments head.segs (omega arith) (omega (arith, segs, resp))
-    (lays_aside 1 name.MaxResponse head.resp (omega arith) (omega (arith, segs, resp)) (three first second head.invoke))))))
+    (lays_aside 0 name.ConfirmedRequest 0 refl (omega arith) (omega (arith, sa))
+    (lays_aside 2 name.InvokeId head.invoke refl (omega arith) refl
+    (lays_aside 0 name.SegmentedAccepted (truth head.sa) refl (omega arith) (omega (arith, sa, truth_bit head.sa))
+    (lays_aside 1 name.MaxSegments head.segs refl (omega arith) (omega (arith, segs, resp))
+    (lays_aside 1 name.MaxResponse head.resp refl (omega arith) (omega (arith, segs, resp)) (three first second head.invoke))))))
     p
 
-answer_lays : (of_name : Name) (type : ℕ) (k : Kind) (invoke : ℕ) (service : ServiceValue) (c : List ℕ) → HoldsNumber of_name 0 (16 * type) → Lays (service_steps service) (service.choice ∷ c)
+answer_lays : (of_name : Name) (type : ℕ) (k : Kind) (invoke : ℕ) (service : ServiceValue) (c : List ℕ) → has_contents (number_of of_name) ≡ false → HoldsNumber of_name 0 (16 * type) → Lays (service_steps service) (service.choice ∷ c)
     → Lays (aside 0 of_name 0 ∷ aside 1 name.InvokeId invoke ∷ pass 2 ∷ service_steps service) (16 * type ∷ invoke ∷ service.choice ∷ c)
-answer_lays of_name type k invoke service c holds p =
-    lays_both (lays_aside 0 of_name 0 (omega arith) holds (lays_aside 1 name.InvokeId invoke (omega arith) refl (lays_pass 2 (16 * type ∷ invoke ∷ []) refl))) p
+answer_lays of_name type k invoke service c plain holds p =
+    lays_both (lays_aside 0 of_name 0 plain (omega arith) holds (lays_aside 1 name.InvokeId invoke refl (omega arith) refl (lays_pass 2 (16 * type ∷ invoke ∷ []) refl))) p
 
 segment_ack_lays : (invoke : ℕ) (nak srv : Bool) (seq window : ℕ) → Lays (apdu_steps (segment_ack invoke nak srv seq window)) (least_head (head_of (segment_ack invoke nak srv seq window)))
 segment_ack_lays invoke nak srv seq window =
     let n = bit_small nak in
     let s = bit_small srv in
     let octets : List ℕ = least_head (head_of (segment_ack invoke nak srv seq window)) in
-    lays_aside 0 name.SegmentAck 0 (omega arith) (omega (arith, n, s))
-    (lays_aside 1 name.InvokeId invoke (omega arith) refl
-    (lays_aside 0 name.Negative (truth nak) (omega arith) (omega (arith, n, s, truth_bit nak))
-    (lays_aside 0 name.Server (truth srv) (omega arith) (omega (arith, n, s, truth_bit srv))
-    (lays_aside 2 name.Sequence seq (omega arith) refl (lays_aside 3 name.Window window (omega arith) refl (lays_pass 4 octets refl))))))
+    lays_aside 0 name.SegmentAck 0 refl (omega arith) (omega (arith, n, s))
+    (lays_aside 1 name.InvokeId invoke refl (omega arith) refl
+    (lays_aside 0 name.Negative (truth nak) refl (omega arith) (omega (arith, n, s, truth_bit nak))
+    (lays_aside 0 name.Server (truth srv) refl (omega arith) (omega (arith, n, s, truth_bit srv))
+    (lays_aside 2 name.Sequence seq refl (omega arith) refl (lays_aside 3 name.Window window refl (omega arith) refl (lays_pass 4 octets refl))))))
 
 segment_lays : (head : SegHead) (seq window : ℕ) (more : Bool) (choice : ℕ) (piece : List ℕ) → AreParts (head_of (segment head seq window more choice piece))
     → Lays (part_steps head seq window more choice piece) (least_head (head_of (segment head seq window more choice piece)) ++ piece)
@@ -196,24 +198,24 @@ segment_lays (Request head) seq window more choice piece parts =
     let resp = parts.1.0.1 in
     let octets : List ℕ = least_head (head_of (segment (Request head) seq window more choice piece)) in
     lays_both
-    (lays_aside 0 name.RequestSegment 0 (omega arith) (omega (arith, m, sa))
-    (lays_aside 2 name.InvokeId head.invoke (omega arith) refl
-    (lays_aside 0 name.SegmentedAccepted (truth head.sa) (omega arith) (omega (arith, m, sa, truth_bit head.sa))
-    (lays_aside 1 name.MaxSegments head.segs (omega arith) (omega (arith, segs, resp))
-    (lays_aside 1 name.MaxResponse head.resp (omega arith) (omega (arith, segs, resp))
-    (lays_aside 3 name.Sequence seq (omega arith) refl
-    (lays_aside 4 name.Window window (omega arith) refl
-    (lays_aside 0 name.More (truth more) (omega arith) (omega (arith, m, sa, truth_bit more)) (lays_aside 5 name.Choice choice (omega arith) refl (lays_pass 6 octets refl))))))))))
+    (lays_aside 0 name.RequestSegment 0 refl (omega arith) (omega (arith, m, sa))
+    (lays_aside 2 name.InvokeId head.invoke refl (omega arith) refl
+    (lays_aside 0 name.SegmentedAccepted (truth head.sa) refl (omega arith) (omega (arith, m, sa, truth_bit head.sa))
+    (lays_aside 1 name.MaxSegments head.segs refl (omega arith) (omega (arith, segs, resp))
+    (lays_aside 1 name.MaxResponse head.resp refl (omega arith) (omega (arith, segs, resp))
+    (lays_aside 3 name.Sequence seq refl (omega arith) refl
+    (lays_aside 4 name.Window window refl (omega arith) refl
+    (lays_aside 0 name.More (truth more) refl (omega arith) (omega (arith, m, sa, truth_bit more)) (lays_aside 5 name.Choice choice refl (omega arith) refl (lays_pass 6 octets refl))))))))))
     (lays_next (octets_field name.Octets piece))
 segment_lays (Ack invoke) seq window more choice piece parts =
     let m = bit_small more in
     let octets : List ℕ = least_head (head_of (segment (Ack invoke) seq window more choice piece)) in
     lays_both
-    (lays_aside 0 name.AckSegment 0 (omega arith) (omega (arith, m))
-    (lays_aside 1 name.InvokeId invoke (omega arith) refl
-    (lays_aside 2 name.Sequence seq (omega arith) refl
-    (lays_aside 3 name.Window window (omega arith) refl
-    (lays_aside 0 name.More (truth more) (omega arith) (omega (arith, m, truth_bit more)) (lays_aside 4 name.Choice choice (omega arith) refl (lays_pass 5 octets refl)))))))
+    (lays_aside 0 name.AckSegment 0 refl (omega arith) (omega (arith, m))
+    (lays_aside 1 name.InvokeId invoke refl (omega arith) refl
+    (lays_aside 2 name.Sequence seq refl (omega arith) refl
+    (lays_aside 3 name.Window window refl (omega arith) refl
+    (lays_aside 0 name.More (truth more) refl (omega arith) (omega (arith, m, truth_bit more)) (lays_aside 4 name.Choice choice refl (omega arith) refl (lays_pass 5 octets refl)))))))
     (lays_next (octets_field name.Octets piece))
 
 -- what a head and the least octets behind it are, of an APDU
@@ -234,24 +236,24 @@ apdu_lays (confirmed_request head service) b parts h =
     record { body = p.octets; is_least = p.is_least; lays = confirmed_lays head service p.octets parts.1.0.0 parts.1.0.1 p.lays; few = omega (arith, p.few) }
 apdu_lays (unconfirmed_request service) b parts h =
     let p = service_lays kind.Unconfirmed service b h in
-    record { body = p.octets; is_least = p.is_least; lays = lays_both (lays_aside 0 name.UnconfirmedRequest 0 (omega arith) refl (lays_pass 1 (16 ∷ []) refl)) p.lays; few = omega (arith, p.few) }
+    record { body = p.octets; is_least = p.is_least; lays = lays_both (lays_aside 0 name.UnconfirmedRequest 0 refl (omega arith) refl (lays_pass 1 (16 ∷ []) refl)) p.lays; few = omega (arith, p.few) }
 apdu_lays (simple_ack invoke choice) b parts h = record {
   body = [];
   is_least = least_nothing;
-  lays = lays_aside 0 name.SimpleAck 0 (omega arith) refl (lays_aside 1 name.InvokeId invoke (omega arith) refl (lays_aside 2 name.Choice choice (omega arith) refl (three 32 invoke choice)));
+  lays = lays_aside 0 name.SimpleAck 0 refl (omega arith) refl (lays_aside 1 name.InvokeId invoke refl (omega arith) refl (lays_aside 2 name.Choice choice refl (omega arith) refl (three 32 invoke choice)));
   few = omega arith;
 }
 apdu_lays (complex_ack invoke service) b parts h =
     let p = service_lays kind.ComplexAck service b h in
-    record { body = p.octets; is_least = p.is_least; lays = answer_lays name.ComplexAck 3 kind.ComplexAck invoke service p.octets refl p.lays; few = omega (arith, p.few) }
+    record { body = p.octets; is_least = p.is_least; lays = answer_lays name.ComplexAck 3 kind.ComplexAck invoke service p.octets refl refl p.lays; few = omega (arith, p.few) }
 apdu_lays (segment_ack invoke nak srv seq window) b parts h = record { body = []; is_least = least_nothing; lays = segment_ack_lays invoke nak srv seq window; few = omega arith }
 apdu_lays (error invoke service) b parts h =
     let p = service_lays kind.Error service b h in
-    record { body = p.octets; is_least = p.is_least; lays = answer_lays name.Error 5 kind.Error invoke service p.octets refl p.lays; few = omega (arith, p.few) }
+    record { body = p.octets; is_least = p.is_least; lays = answer_lays name.Error 5 kind.Error invoke service p.octets refl refl p.lays; few = omega (arith, p.few) }
 apdu_lays (reject invoke reason) b parts h = record {
   body = [];
   is_least = least_nothing;
-  lays = lays_aside 0 name.Reject 0 (omega arith) refl (lays_aside 1 name.InvokeId invoke (omega arith) refl (lays_aside 2 name.Reason reason (omega arith) refl (three 96 invoke reason)));
+  lays = lays_aside 0 name.Reject 0 refl (omega arith) refl (lays_aside 1 name.InvokeId invoke refl (omega arith) refl (lays_aside 2 name.Reason reason refl (omega arith) refl (three 96 invoke reason)));
   few = omega arith;
 }
 apdu_lays (abort invoke srv reason) b parts h =
@@ -260,8 +262,8 @@ apdu_lays (abort invoke srv reason) b parts h =
     record {
       body = [];
       is_least = least_nothing;
-      lays = lays_aside 0 name.Abort 0 (omega arith) (omega (arith, s)) (lays_aside 1 name.InvokeId invoke (omega arith) refl
-          (lays_aside 0 name.Server (truth srv) (omega arith) (omega (arith, s, truth_bit srv)) (lays_aside 2 name.Reason reason (omega arith) refl (three first invoke reason))));
+      lays = lays_aside 0 name.Abort 0 refl (omega arith) (omega (arith, s)) (lays_aside 1 name.InvokeId invoke refl (omega arith) refl
+          (lays_aside 0 name.Server (truth srv) refl (omega arith) (omega (arith, s, truth_bit srv)) (lays_aside 2 name.Reason reason refl (omega arith) refl (three first invoke reason))));
       few = omega arith;
     }
 apdu_lays (segment head seq window more choice piece) b parts h = record {
@@ -326,13 +328,13 @@ addresses_lay (Some d) s =
     let behind : List ℕ = source_octets s ++ d.hops ∷ [] in
     let there : slice_index behind (source_size s) ≡ d.hops = ap (slice_index behind) (sym (source_length s)) ∙ get_or-append_seam (source_octets s) d.hops [] 0 in
     lays_both (lays_next (address_field name.Destination d.network d.address))
-    (lays_aside (source_size s) name.HopCount d.hops (omega (arith, length-append (source_octets s) (d.hops ∷ []), source_length s)) there (lays_both (source_lays s) (lays_pass 1 (d.hops ∷ []) refl)))
+    (lays_aside (source_size s) name.HopCount d.hops refl (omega (arith, length-append (source_octets s) (d.hops ∷ []), source_length s)) there (lays_both (source_lays s) (lays_pass 1 (d.hops ∷ []) refl)))
 
 control_lays : (c : ControlValue) → c.priority < 4 → Lays (control_steps c.priority c.reply) (1 ∷ least_of c ∷ [])
 control_lays c small =
     let is = control_spelled c small in
     lays_both (lays_pass 1 (1 ∷ []) refl)
-    (lays_aside 0 name.NetworkPriority c.priority (omega arith) is.priority (lays_aside 0 name.ReplyExpected (truth c.reply) (omega arith) (is.reply ∙ sym (truth_bit c.reply)) (lays_pass 1 (least_of c ∷ []) refl)))
+    (lays_aside 0 name.NetworkPriority c.priority refl (omega arith) is.priority (lays_aside 0 name.ReplyExpected (truth c.reply) refl (omega arith) (is.reply ∙ sym (truth_bit c.reply)) (lays_pass 1 (least_of c ∷ []) refl)))
 
 controlled : (c : ControlValue) (Body : List ℕ → Type 0) (b : List ℕ) → Controlled c Body b → (o : ℕ) × IsControl c o × (d : List ℕ) × Body d
 controlled c Body [] h = absurd h

@@ -11,3 +11,6 @@ pub mod ValuePlaces
 pub mod ServicePlaces
 pub mod FramePlaces
 pub mod OneFrame
+mod FrameMaking
+mod WholeFrames
+mod SaidPlaces

@@ -1,6 +1,6 @@
 -- Octets that are laid out as steps say.
 use Rattle.std.proofs.Common.{◌≡◌, ℕ, ◌+◌, ◌*◌, ◌^◌, ◌<◌, ◌≤◌, List, [], ◌∷◌, ◌++◌, length, take, drop, get_or, suc, length-drop, refl, sym, ap, subst, ◌∙◌, append_assoc, append-nil, arith}
-use Rattle.std.specs.Prelude.{slice_index}
+use Rattle.std.specs.Prelude.{slice_index, false}
 use Rattle.std.specs.List.{flat_map}
 use Rattle.std.proofs.lemmas.Grind.{flat_map-append}
 use Rattle.std.proofs.lemmas.List.{length-append, take-append-drop, get_or-append-add, length-take-le}
@@ -12,13 +12,15 @@ use Rattle.bac_fields.specs.declared.names.Name.{Name}
 use Rattle.bac_fields.specs.declared.field.Field.{Field}
 use Rattle.bac_fields.specs.Fields.{FieldValue, Step, next, aside, pass, size_of, fields_of, placed, field_at, held_at, room_with, Fits}
 use Rattle.bac_fields.proofs.LineLemmas.{fields_of-append}
+use Rattle.bac_fields.specs.Names.{number_of}
 use Rattle.bac_fields.specs.Places.{HoldsNumber, AreAt}
+use Rattle.bac_fields.specs.Symbols.{has_contents}
 
 -- From here on, the octets are those of the steps, one after another.
 abbrev pub LaidOut : List Step → List ℕ → Type 0
 LaidOut [] b = b ≡ []
 LaidOut (next v ∷ steps) b = (rest : List ℕ) × (b ≡ (v.head ++ v.contents) ++ rest) × LaidOut steps rest
-LaidOut (aside n name number ∷ steps) b = (n < length b) × HoldsNumber name number (slice_index b n) × LaidOut steps b
+LaidOut (aside n name number ∷ steps) b = (has_contents (number_of name) ≡ false) × (n < length b) × HoldsNumber name number (slice_index b n) × LaidOut steps b
 LaidOut (pass n ∷ steps) b = (n ≤ length b) × LaidOut steps (drop n b)
 
 -- The octets are those of the steps, whatever comes after them.
@@ -49,10 +51,10 @@ lays_pass n x e = record {
 }
 
 -- a number in one of the octets of the steps that follow
-pub lays_aside : (n : ℕ) (name : Name) (number : ℕ) {steps : List Step} {octets : List ℕ} → n < length octets → HoldsNumber name number (slice_index octets n) → Lays steps octets → Lays (aside n name number ∷ steps) octets
-lays_aside n name number {octets = octets} lt holds p = record {
+pub lays_aside : (n : ℕ) (name : Name) (number : ℕ) → has_contents (number_of name) ≡ false → {steps : List Step} {octets : List ℕ} → n < length octets → HoldsNumber name number (slice_index octets n) → Lays steps octets → Lays (aside n name number ∷ steps) octets
+lays_aside n name number plain {octets = octets} lt holds p = record {
   lays = λ more rest h.
-      (omega (arith, length-append octets rest, lt), subst (λ (octet : ℕ). HoldsNumber name number octet) (sym (get_or-append octets rest 0 n lt)) holds, p.lays more rest h);
+      (plain, omega (arith, length-append octets rest, lt), subst (λ (octet : ℕ). HoldsNumber name number octet) (sym (get_or-append octets rest 0 n lt)) holds, p.lays more rest h);
 }
 
 -- ---- fields alone
@@ -134,7 +136,7 @@ module _ (c : List ℕ) where
       (first, at_from steps (place + size_of v) (before ++ octets) h.0 (e ∙ ap (λ l. before ++ l) h.1 ∙ sym (append_assoc before octets h.0)) (omega (arith, length-append before octets, size, n)) h.2)
   at_from (aside k name number ∷ steps) place before b e n h =
       let there : slice_index c (place + k) ≡ slice_index b k = ap (λ l. get_or l (place + k) 0) e ∙ ap (λ m. get_or (before ++ b) (m + k) 0) (sym n) ∙ get_or-append-add before b k 0 in
-      (omega (arith, ap length e, length-append before b, n, h.0), subst (λ (octet : ℕ). HoldsNumber name number octet) (sym there) h.1, at_from steps place before b e n h.2)
+      (h.0, omega (arith, ap length e, length-append before b, n, h.1), subst (λ (octet : ℕ). HoldsNumber name number octet) (sym there) h.2, at_from steps place before b e n h.3)
   at_from (pass k ∷ steps) place before b e n h =
       at_from steps (place + k) (before ++ take k b) (drop k b) (e ∙ ap (λ l. before ++ l) (sym (take-append-drop k b)) ∙ sym (append_assoc before (take k b) (drop k b)))
       (omega (arith, length-append before (take k b), length-take-le k b h.0, n)) h.1
@@ -160,7 +162,7 @@ fits_from (next v ∷ steps) b room number place h few long =
     let size : size_of v + length h.0 ≡ length b = omega (arith, ap length h.1, length-append (v.head ++ v.contents) h.0, length-append v.head v.contents) in
     ((omega (arith, few), omega (arith, size, long)), fits_from steps h.0 (room_with room number (field_at place v)) (number + 1) (place + size_of v) h.2 (omega (arith, few)) (omega (arith, size, long)))
 fits_from (aside n name value ∷ steps) b room number place h few long =
-    ((omega (arith, few), omega (arith, h.0, long)), fits_from steps b (room_with room number (held_at (place + n) name value)) (number + 1) place h.2 (omega (arith, few)) long)
+    ((omega (arith, few), omega (arith, h.1, long)), fits_from steps b (room_with room number (held_at (place + n) name value)) (number + 1) place h.3 (omega (arith, few)) long)
 fits_from (pass n ∷ steps) b room number place h few long =
     (omega (arith, h.0, long), fits_from steps (drop n b) room number (place + n) h.1 few (omega (arith, h.0, long, length-drop n b)))
 

@@ -19,3 +19,14 @@ pub mod MessageFields
 pub mod FrameFields
 pub mod Line
 pub mod Places
+pub mod Symbols
+pub mod Opaques
+pub mod OctetForms
+pub mod Tables
+pub mod MessageSymbols
+pub mod Laws
+pub mod ServiceSymbols
+pub mod ApduSymbols
+pub mod FrameSymbols
+pub mod FrameFronts
+pub mod Making

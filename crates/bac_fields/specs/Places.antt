@@ -1,8 +1,10 @@
 -- Where the octets of fields are (clauses 6.2.2 and 20.1).
-use Rattle.std.specs.Prelude.{◌≡◌, ℕ, ◌+◌, ◌/◌, ◌%◌, ◌<◌, List, [], ◌∷◌, ◌++◌, length, take, drop, slice_index}
+use Rattle.std.specs.Prelude.{◌≡◌, ℕ, ◌+◌, ◌/◌, ◌%◌, ◌<◌, false, List, [], ◌∷◌, ◌++◌, length, take, drop, slice_index}
 use Rattle.bac_fields.specs.declared.names.Name.{Name}
 use Rattle.bac_fields.specs.declared.names.Name.TheVariants as name
+use Rattle.bac_fields.specs.Names.{number_of}
 use Rattle.bac_fields.specs.Fields.{Step, next, aside, pass, size_of}
+use Rattle.bac_fields.specs.Symbols.{has_contents}
 
 -- An octet of the head of a frame or of an APDU holds the number of a field: in some of its bits, or as a whole. The
 -- highest four bits of its first octet say which APDU it is.
@@ -27,9 +29,10 @@ HoldsNumber name.Negative number octet = octet / 2 % 2 ≡ number
 HoldsNumber name.Server number octet = octet % 2 ≡ number
 HoldsNumber _ number octet = octet ≡ number
 
--- In the octets, from a place on: each field where the steps put it, and nothing after the last one.
+-- In the octets, from a place on: each field where the steps put it, and nothing after the last one. A number that an octet
+-- holds is that of a field without contents.
 abbrev pub AreAt : List ℕ → ℕ → List Step → Type 0
 AreAt octets place [] = place ≡ length octets
 AreAt octets place (next v ∷ steps) = (take (size_of v) (drop place octets) ≡ v.head ++ v.contents) × AreAt octets (place + size_of v) steps
-AreAt octets place (aside n name number ∷ steps) = (place + n < length octets) × HoldsNumber name number (slice_index octets (place + n)) × AreAt octets place steps
+AreAt octets place (aside n name number ∷ steps) = (has_contents (number_of name) ≡ false) × (place + n < length octets) × HoldsNumber name number (slice_index octets (place + n)) × AreAt octets place steps
 AreAt octets place (pass n ∷ steps) = AreAt octets (place + n) steps

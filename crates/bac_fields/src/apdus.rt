@@ -1,182 +1,31 @@
 //! The fields of APDUs (clause 20.1).
 
-ghost use Rattle.bac_fields.specs.ApduFields.{simple_ack_steps, segment_ack_steps, reject_steps, abort_steps, segment_steps};
-ghost use Rattle.bac_fields.specs.Fields.{Writes};
+pub(crate) mod abort;
+pub(crate) mod complex_ack;
+pub(crate) mod confirmed_request;
+pub(crate) mod error_pdu;
+pub(crate) mod front;
+pub(crate) mod reject;
+pub(crate) mod segment;
+pub(crate) mod segment_ack;
+pub(crate) mod simple_ack;
+pub(crate) mod unconfirmed_request;
 
 use crate::cursor::Cursor;
 use crate::field::Field;
-use crate::names::Name;
-use crate::parts::{Aside, HasFields, Octets, Pass};
-use bac_apdu::{
-    Apdu, ComplexAck, ConfirmedRequest, ErrorPdu, RequestHead, SegHead, Segment,
-    UnconfirmedRequest, Window,
-};
-
-/// The head of a request without its first words.
-impl HasFields for RequestHead {
-    ghost use Rattle.bac_fields.specs.ApduFields.{request_head_steps};
-
-    ghost steps = { request_head_steps };
-
-    #[inline(always)]
-    fn tell(&self, cursor: Cursor, room: &mut [Field]) -> Option<Cursor> {
-        let invoke = Aside(2, Name::InvokeId, u64::from(self.invoke));
-        let sa = Aside(0, Name::SegmentedAccepted, u64::from(self.sa));
-        let segs = Aside(1, Name::MaxSegments, u64::from(self.segs.number()));
-        let resp = Aside(1, Name::MaxResponse, u64::from(self.resp.number()));
-        (invoke, (sa, (segs, resp))).tell(cursor, room)
-    }
-}
-
-impl HasFields for ConfirmedRequest {
-    ghost use Rattle.bac_service.specs.ServiceValues.{value_of as service_of};
-    ghost use Rattle.bac_fields.specs.ApduFields.{confirmed_request_steps};
-
-    ghost steps = { λ request. confirmed_request_steps request.head (service_of request.service) };
-
-    fn tell(&self, cursor: Cursor, room: &mut [Field]) -> Option<Cursor> {
-        let word = Aside(0, Name::ConfirmedRequest, 0);
-        let rest = (Pass(3), self.service());
-        (word, (self.head(), rest)).tell(cursor, room)
-    }
-}
-
-impl HasFields for UnconfirmedRequest {
-    ghost use Rattle.bac_service.specs.ServiceValues.{value_of as service_of};
-    ghost use Rattle.bac_fields.specs.ApduFields.{unconfirmed_request_steps};
-
-    ghost steps = { λ request. unconfirmed_request_steps (service_of request) };
-
-    fn tell(&self, cursor: Cursor, room: &mut [Field]) -> Option<Cursor> {
-        let word = Aside(0, Name::UnconfirmedRequest, 0);
-        (word, (Pass(1), self.service())).tell(cursor, room)
-    }
-}
-
-impl HasFields for ComplexAck {
-    ghost use Rattle.bac_service.specs.ServiceValues.{value_of as service_of};
-    ghost use Rattle.bac_fields.specs.ApduFields.{complex_ack_steps};
-
-    ghost steps = { λ ack. complex_ack_steps ack.invoke (service_of ack.service) };
-
-    fn tell(&self, cursor: Cursor, room: &mut [Field]) -> Option<Cursor> {
-        let word = Aside(0, Name::ComplexAck, 0);
-        let invoke = Aside(1, Name::InvokeId, u64::from(self.invoke()));
-        let rest = (Pass(2), self.service());
-        (word, (invoke, rest)).tell(cursor, room)
-    }
-}
-
-impl HasFields for ErrorPdu {
-    ghost use Rattle.bac_service.specs.ServiceValues.{value_of as service_of};
-    ghost use Rattle.bac_fields.specs.ApduFields.{error_pdu_steps};
-
-    ghost steps = { λ answer. error_pdu_steps answer.invoke (service_of answer.service) };
-
-    fn tell(&self, cursor: Cursor, room: &mut [Field]) -> Option<Cursor> {
-        let word = Aside(0, Name::Error, 0);
-        let invoke = Aside(1, Name::InvokeId, u64::from(self.invoke()));
-        let rest = (Pass(2), self.service());
-        (word, (invoke, rest)).tell(cursor, room)
-    }
-}
-
-/// Writes the fields of a SimpleACK.
-fn tell_simple_ack(invoke: u8, choice: u8, cursor: Cursor, room: &mut [Field]) -> Option<Cursor>
-    ensures { Writes (simple_ack_steps invoke choice) room.old cursor room.new result }
-{
-    let word = Aside(0, Name::SimpleAck, 0);
-    let invoke = Aside(1, Name::InvokeId, u64::from(invoke));
-    let choice = Aside(2, Name::Choice, u64::from(choice));
-    (word, (invoke, (choice, Pass(3)))).tell(cursor, room)
-}
-
-/// Writes the fields of a SegmentACK.
-fn tell_segment_ack(
-    invoke: u8,
-    flags: (bool, bool),
-    seq: u8,
-    window: Window,
-    cursor: Cursor,
-    room: &mut [Field],
-) -> Option<Cursor>
-    ensures { Writes (segment_ack_steps invoke flags.0 flags.1 seq window) room.old cursor room.new result }
-{
-    let word = Aside(0, Name::SegmentAck, 0);
-    let invoke = Aside(1, Name::InvokeId, u64::from(invoke));
-    let nak = Aside(0, Name::Negative, u64::from(flags.0));
-    let srv = Aside(0, Name::Server, u64::from(flags.1));
-    let seq = Aside(2, Name::Sequence, u64::from(seq));
-    let window = Aside(3, Name::Window, u64::from(window.number()));
-    (word, (invoke, (nak, (srv, (seq, (window, Pass(4))))))).tell(cursor, room)
-}
-
-/// Writes the fields of a Reject.
-fn tell_reject(invoke: u8, reason: u8, cursor: Cursor, room: &mut [Field]) -> Option<Cursor>
-    ensures { Writes (reject_steps invoke reason) room.old cursor room.new result }
-{
-    let word = Aside(0, Name::Reject, 0);
-    let invoke = Aside(1, Name::InvokeId, u64::from(invoke));
-    let reason = Aside(2, Name::Reason, u64::from(reason));
-    (word, (invoke, (reason, Pass(3)))).tell(cursor, room)
-}
-
-/// Writes the fields of an Abort.
-fn tell_abort(
-    invoke: u8,
-    srv: bool,
-    reason: u8,
-    cursor: Cursor,
-    room: &mut [Field],
-) -> Option<Cursor>
-    ensures { Writes (abort_steps invoke srv reason) room.old cursor room.new result }
-{
-    let word = Aside(0, Name::Abort, 0);
-    let invoke = Aside(1, Name::InvokeId, u64::from(invoke));
-    let srv = Aside(0, Name::Server, u64::from(srv));
-    let reason = Aside(2, Name::Reason, u64::from(reason));
-    (word, (invoke, (srv, (reason, Pass(3))))).tell(cursor, room)
-}
-
-/// What follows the invoke id of a segment, whose next octet has the number N in the head.
-#[derive(Clone, Copy)]
-struct Behind<'a, const N: u8>(&'a Segment);
-
-impl<const N: u8> HasFields for Behind<'_, N> {
-    ghost steps = { λ part. segment_steps N part.0.now.seq part.0.now.window part.0.now.more part.0.now.choice part.0.now.piece.items };
-
-    fn tell(&self, cursor: Cursor, room: &mut [Field]) -> Option<Cursor> {
-        let at = usize::from(N);
-        let segment = self.0;
-        let seq = Aside(at, Name::Sequence, u64::from(segment.seq));
-        let window = Aside(at + 1, Name::Window, u64::from(segment.window.number()));
-        let more = Aside(0, Name::More, u64::from(segment.more));
-        let choice = Aside(at + 2, Name::Choice, u64::from(segment.choice));
-        let piece = Octets(Name::Octets, segment.piece.as_slice());
-        let rest = (Pass(at + 3), piece);
-        (seq, (window, (more, (choice, rest)))).tell(cursor, room)
-    }
-}
-
-impl HasFields for Segment {
-    ghost use Rattle.bac_fields.specs.ApduFields.{part_steps};
-
-    ghost steps = { λ part. part_steps part.head part.seq part.window part.more part.choice part.piece.items };
-
-    fn tell(&self, cursor: Cursor, room: &mut [Field]) -> Option<Cursor> {
-        match &self.head {
-            SegHead::Request(head) => {
-                let word = Aside(0, Name::RequestSegment, 0);
-                (word, (*head, Behind::<3>(self))).tell(cursor, room)
-            }
-            SegHead::Ack { invoke } => {
-                let word = Aside(0, Name::AckSegment, 0);
-                let invoke = Aside(1, Name::InvokeId, u64::from(*invoke));
-                (word, (invoke, Behind::<2>(self))).tell(cursor, room)
-            }
-        }
-    }
-}
+use crate::making::{Fault, FromFields, Part, lead};
+use crate::parts::HasFields;
+use crate::whole::Whole;
+use abort::{AbortFields, tell_abort};
+use bac_apdu::Apdu;
+use complex_ack::ComplexAckFields;
+use confirmed_request::ConfirmedRequestFields;
+use error_pdu::ErrorFields;
+use reject::{RejectFields, tell_reject};
+use segment::{AckSegmentFields, RequestSegmentFields};
+use segment_ack::{SegmentAckFields, tell_segment_ack};
+use simple_ack::{SimpleAckFields, tell_simple_ack};
+use unconfirmed_request::UnconfirmedRequestFields;
 
 impl HasFields for Apdu {
     ghost use Rattle.bac_apdu.specs.Apdus.{value_of};
@@ -207,4 +56,49 @@ impl HasFields for Apdu {
             Apdu::Segment(segment) => segment.tell(cursor, room),
         }
     }
+}
+
+/// The fields of an APDU, to the end of the fields.
+#[derive(Drop)]
+pub(crate) struct ApduFields;
+
+impl FromFields for ApduFields {
+    ghost use Rattle.std.specs.Prelude.{true};
+    ghost use Rattle.bac_apdu.specs.Apdus.{ApduValue, SpellsApdu};
+    ghost use Rattle.bac_fields.specs.ApduSymbols.{apdu_said, apdu_leads};
+    ghost use Rattle.bac_fields.specs.Laws.Apdus.{apdu_lawful};
+
+    ghost Value = { ApduValue };
+
+    ghost said = { λ part. apdu_said };
+
+    ghost spells = { λ part. SpellsApdu };
+
+    ghost leads = { λ part. apdu_leads };
+
+    ghost is_sound = { λ part. true };
+
+    ghost at_end = { λ part. true };
+
+    fn begins(&self, lead: Option<u32>) -> bool {
+        matches!(lead, Some(10 | 11 | 12 | 13 | 14 | 15 | 16 | 17 | 18 | 19))
+    }
+
+    fn make(&self, fields: &[Field], octets: &[u8], out: &mut Vec<u8>) -> Result<usize, Fault> {
+        match lead(fields) {
+            Some(10) => Whole(ConfirmedRequestFields).make(fields, octets, out),
+            Some(11) => Whole(UnconfirmedRequestFields).make(fields, octets, out),
+            Some(12) => Whole(SimpleAckFields).make(fields, octets, out),
+            Some(13) => Whole(ComplexAckFields).make(fields, octets, out),
+            Some(14) => Whole(SegmentAckFields).make(fields, octets, out),
+            Some(15) => Whole(ErrorFields).make(fields, octets, out),
+            Some(16) => Whole(RejectFields).make(fields, octets, out),
+            Some(17) => Whole(AbortFields).make(fields, octets, out),
+            Some(18) => Whole(RequestSegmentFields).make(fields, octets, out),
+            Some(19) => Whole(AckSegmentFields).make(fields, octets, out),
+            _ => Err(Fault::at(Part::Name)),
+        }
+    }
+
+    ghost lawful = { λ part sound. apdu_lawful };
 }

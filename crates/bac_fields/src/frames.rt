@@ -1,12 +1,22 @@
 //! The fields of frames (clause 6.2).
 
+ghost use Rattle.std.specs.Prelude.{◌≤◌, ◌*◌, true, length, IfOk, IfErr};
+ghost use Rattle.bac_tag.specs.Octets.{Extends};
 ghost use Rattle.bac_npdu.specs.FrameHeads.{frame_with, address_read, destination_read};
 ghost use Rattle.bac_npdu.specs.Frames.{body_value};
+ghost use Rattle.bac_npdu.specs.Frames.{SpellsBody};
 ghost use Rattle.bac_fields.specs.Fields.{Writes};
+ghost use Rattle.bac_fields.specs.FrameSymbols.{body_said, HeadFits, MadeAfter};
+ghost use Rattle.bac_fields.specs.FrameFronts.{front_said};
+ghost use Rattle.bac_fields.specs.Symbols.{symbols_in, taken_symbols, Language, IsStop, IfStop};
 ghost use Rattle.bac_fields.specs.FrameFields.{source_size, destination_steps, source_steps, hops_steps, addresses_steps, control_steps, frame_steps};
 
+use crate::apdus::ApduFields;
 use crate::cursor::Cursor;
 use crate::field::Field;
+use crate::frame_heads::{Front, append_front, read_front};
+use crate::making::{Fault, FromFields, lead};
+use crate::messages::MessageFields;
 use crate::names::Name;
 use crate::parts::{Address, Aside, HasFields, Pass};
 use bac_npdu::{Addressed, Body, DestRef, FrameHead};
@@ -116,4 +126,71 @@ pub(crate) fn tell_frame(
     let cursor = tell_control(head.priority().number(), head.reply(), cursor, room)?;
     let cursor = tell_addresses(head.destination(), head.source(), cursor, room)?;
     body.tell(cursor, room)
+}
+
+/// Appends the octets of the frame whose head is `front` and whose body the fields say, and returns how many fields the
+/// body has. If it fails, `out` may hold some octets more.
+fn make_after(
+    front: &Front<'_>,
+    fields: &[Field],
+    octets: &[u8],
+    out: &mut Vec<u8>,
+) -> Result<usize, Fault>
+    requires { HeadFits (front_said front.now) }
+    ensures made { IfOk result (λ taken. MadeAfter (front_said front.now) (symbols_in octets.now fields.now) (taken_symbols true taken) out.old.items out.new.items) }
+    ensures within { IfOk result (λ taken. taken ≤ length fields.now) }
+    ensures stopped { IfErr result (λ fault. IfStop fault (IsStop (Language body_said SpellsBody) (symbols_in octets.now fields.now))) }
+    ensures near { IfErr result (λ fault. IfStop fault (λ place. place ≤ 3 * length fields.now)) }
+    ensures kept { Extends out.old.items out.new.items }
+{
+    let message = lead(fields) == Some(Name::NetworkMessage.number());
+    if append_front(front, message, out).is_err() {
+        return Err(Fault::OutOfMemory);
+    }
+    if message {
+        MessageFields.make(fields, octets, out)
+    } else {
+        ApduFields.make(fields, octets, out)
+    }
+}
+
+/// The fields of a frame, to the end of the fields.
+#[derive(Drop)]
+pub(crate) struct FrameFields;
+
+impl FromFields for FrameFields {
+    ghost use Rattle.std.specs.Prelude.{true, Some, [], ◌∷◌};
+    ghost use Rattle.bac_npdu.specs.Frames.{FrameValue, SpellsFrame};
+    ghost use Rattle.bac_fields.specs.FrameSymbols.{frame_said};
+    ghost use Rattle.bac_fields.specs.Laws.Frames.{frame_lawful};
+
+    ghost Value = { FrameValue };
+
+    ghost said = { λ part. frame_said };
+
+    ghost spells = { λ part. SpellsFrame };
+
+    ghost leads = { λ part. Some 1 ∷ [] };
+
+    ghost is_sound = { λ part. true };
+
+    ghost at_end = { λ part. true };
+
+    #[inline(always)]
+    fn begins(&self, lead: Option<u32>) -> bool {
+        lead == Some(Name::NetworkPriority.number())
+    }
+
+    fn make(&self, fields: &[Field], octets: &[u8], out: &mut Vec<u8>) -> Result<usize, Fault> {
+        let (front, taken) = match read_front(fields, octets) {
+            Ok(found) => found,
+            Err(fault) => return Err(fault),
+        };
+        match make_after(&front, &fields[taken..], octets, out) {
+            Ok(rest) => Ok(taken + rest),
+            Err(fault) => Err(fault.behind(taken)),
+        }
+    }
+
+    ghost lawful = { λ part sound. frame_lawful };
 }

@@ -7,6 +7,7 @@ ghost use Rattle.bac_text.specs.FrameText.{text};
 ghost use Rattle.bac_fields.specs.FrameFields.{fields, frame_steps, placed_fields, FrameFits};
 ghost use Rattle.bac_fields.specs.Line.{printed};
 ghost use Rattle.bac_fields.specs.Places.{AreAt};
+ghost use Rattle.bac_fields.specs.Making.{AreFieldsOf};
 
 /// The line of each frame that some octets spell is its fields, printed.
 pub fn the_line_is_the_fields()
@@ -19,6 +20,14 @@ pub fn the_line_is_the_fields()
 pub fn the_places_are_right()
     ensures { (f : FrameValue) (c : List ℕ) → IsLeast (SpellsFrame f) c → AreAt c 0 (frame_steps f) }
 {}
+
+/// The fields of a frame, with their places in its canonical octets, are fields of that frame as `frame_of` and
+/// `append_octets` read them.
+pub fn the_fields_say_the_frame()
+    ensures { (f : FrameValue) (c : List ℕ) → IsLeast (SpellsFrame f) c → AreFieldsOf c (placed_fields f) f }
+{
+    the_places_are_right();
+}
 
 /// Two frames that some octets spell are the same if their fields are.
 pub fn fields_tell_the_frame()

@@ -1,8 +1,9 @@
 //! A frame as fields: a flat list of the parts of its line, in their order, beside its canonical octets. Each field has a
 //! name, a number, and the place of its octets in the frame.
 //!
-//! [`append_fields`] appends the fields of a frame. docs/FORMATS.md has the table of the names, with what the number of
-//! each is and what contents it has. The calls that only the library for C needs are in [`layers`].
+//! [`append_fields`] appends the fields of a frame. [`frame_of`] returns the frame that fields say, and [`append_octets`]
+//! appends its canonical octets. docs/FORMATS.md has the table of the names, with what the number of each is and what
+//! contents it has. The calls that only the library for C needs are in [`layers`].
 //!
 //! In the example `rt` is the program's `HostRuntime`.
 //!
@@ -22,6 +23,18 @@
 //! the first one did. A frame has at most two fields for each of its canonical octets, and two more. So
 //! `write_fields_at_once` needs no first pass where there is room for as many.
 //!
+//! The way back is next to the way out: in the file in which the fields of a message are told, its parts are listed once
+//! more, as a type that implements the trait `FromFields` (`making.rt`). A part appends the canonical octets of what a
+//! front of the fields says, straight from the fields, or reports the first field that is hopeless. Pairs, parts that may
+//! be absent, choices and lists are parts too. The octets of a head are in another order than its fields, so its numbers
+//! are read first (`numbers.rt`) and its octets written then (`headings.rt`, `frame_heads.rt`). The name of a field
+//! always says which part comes next, so nothing is read twice.
+//!
+//! In `specs` (`Symbols.antt`) a field is three symbols: its name, its number and its contents. After the last field
+//! there is another one. So the fields that say something are a language over symbols, what fields a frame has is a list
+//! of them (`frame_said` in `FrameSymbols.antt`), and the words and lemmas that bac_tag has for spellings in octets say
+//! where fields are refused, too. The laws of the parts are in `Laws`.
+//!
 //! The laws (`laws.rt`) say what the definitions have to do with each other: the line of a frame is its fields, printed
 //! (`Line.antt`), each field is where its place says (`Places.antt`), and the fields tell the frame. Their proofs go over
 //! the definitions type by type, in `LineLemmas.antt` and the files of names in `Lines`, in `PlaceLemmas.antt` and those
@@ -31,19 +44,33 @@
 mod apdus;
 mod appending;
 mod cursor;
+mod elements;
 mod field;
+mod field_refusal;
+mod forms;
+mod frame_heads;
 mod frames;
+mod from_fields;
+mod groups;
+mod headings;
 mod heads;
 pub mod laws;
 pub mod layers;
+mod making;
 mod messages;
 mod names;
+mod numbers;
 mod open_values;
 mod parts;
 mod primitives;
 mod services;
+mod tables;
+mod tagged;
 mod values;
+mod whole;
 
 pub use appending::append_fields;
 pub use field::Field;
+pub use field_refusal::{FieldRefusal, FieldWhy};
+pub use from_fields::{append_octets, frame_of};
 pub use names::Name;

@@ -1,101 +1,31 @@
 //! The fields of network messages (clause 6.4).
 
 ghost use Rattle.std.specs.Prelude.{◌≡◌};
-ghost use Rattle.bac_fields.specs.Fields.{Writes, optional, two_octets_field};
-ghost use Rattle.bac_fields.specs.MessageFields.{networks_steps, ports_steps};
+ghost use Rattle.bac_fields.specs.MessageSymbols.{type_in};
+
+mod networks;
+mod numbers;
+mod opaque;
+mod ports;
 
 use crate::cursor::Cursor;
 use crate::field::Field;
+use crate::making::{Fault, FromFields, Part};
+use crate::messages::networks::{Networks, NetworksFields};
+use crate::messages::numbers::{
+    DisconnectFields, NetworkNumberFields, OptionalTwo, RejectMessageFields,
+    WhatIsNetworkNumberFields, WhoIsRouterFields,
+};
+use crate::messages::opaque::{PlainFields, VendoredFields, has_vendor};
+use crate::messages::ports::{InitTableAckFields, InitTableFields};
 use crate::names::Name;
-use crate::parts::{Counted, Counter, HasFields, Items, Octet, Octets, TwoOctets, Word};
-use bac_npdu::{NetMessage, OpaqueNet, Port, Ports};
-
-/// A network that may be absent, or a vendor.
-#[derive(Clone, Copy)]
-struct OptionalTwo(Name, Option<u16>);
-
-impl HasFields for OptionalTwo {
-    ghost steps = { λ part. optional (two_octets_field part.0) part.1 };
-
-    #[inline(always)]
-    fn tell(&self, cursor: Cursor, room: &mut [Field]) -> Option<Cursor> {
-        match self.1 {
-            Some(number) => TwoOctets(self.0, number).tell(cursor, room),
-            None => Some(cursor),
-        }
-    }
-}
-
-/// The networks of a list.
-#[derive(Clone, Copy)]
-struct ListedNetworks<'a>(&'a [u16]);
-
-impl HasFields for ListedNetworks<'_> {
-    ghost use Rattle.std.specs.List.{flat_map};
-    ghost use Rattle.bac_fields.specs.MessageFields.{listed_network_steps};
-
-    ghost steps = { λ networks. flat_map listed_network_steps networks.0.now };
-
-    fn tell(&self, cursor: Cursor, room: &mut [Field]) -> Option<Cursor> {
-        let mut cursor = cursor;
-        for network in self.0 {
-            cursor = TwoOctets(Name::ListedNetwork, *network).tell(cursor, room)?;
-        }
-        Some(cursor)
-    }
-}
-
-/// A list of networks.
-#[derive(Clone, Copy)]
-struct Networks<'a>(&'a [u16]);
-
-impl HasFields for Networks<'_> {
-    ghost steps = { λ networks. networks_steps networks.0.now };
-
-    fn tell(&self, cursor: Cursor, room: &mut [Field]) -> Option<Cursor> {
-        let networks = ListedNetworks(self.0);
-        (Word(Name::Networks), (networks, Word(Name::ListEnd))).tell(cursor, room)
-    }
-}
-
-impl HasFields for Port {
-    ghost use Rattle.bac_fields.specs.MessageFields.{port_steps};
-
-    ghost steps = { port_steps };
-
-    fn tell(&self, cursor: Cursor, room: &mut [Field]) -> Option<Cursor> {
-        let network = TwoOctets(Name::Network, self.network);
-        let id = Octet(Name::PortId, self.id);
-        let info = Counted(Name::PortInfo, self.info.octets());
-        (network, (id, info)).tell(cursor, room)
-    }
-}
-
-/// The octet with the number of ports is the head of the list.
-impl HasFields for Ports {
-    ghost steps = { ports_steps };
-
-    fn tell(&self, cursor: Cursor, room: &mut [Field]) -> Option<Cursor> {
-        let ports = self.list();
-        let counter = Counter(Name::Ports, ports.len());
-        (counter, (Items(ports), Word(Name::ListEnd))).tell(cursor, room)
-    }
-}
-
-impl HasFields for OpaqueNet {
-    ghost use Rattle.bac_fields.specs.MessageFields.{opaque_net_steps};
-
-    ghost steps = { opaque_net_steps };
-
-    fn tell(&self, cursor: Cursor, room: &mut [Field]) -> Option<Cursor> {
-        let kind = Octet(Name::NetworkMessage, self.kind());
-        let vendor = OptionalTwo(Name::Vendor, self.vendor());
-        (kind, (vendor, Octets(Name::Data, self.octets()))).tell(cursor, room)
-    }
-}
+use crate::parts::{HasFields, Octet, TwoOctets};
+use crate::whole::Whole;
+use bac_npdu::NetMessage;
 
 /// The type of a message.
-fn kind(number: u8) -> Octet
+#[inline(always)]
+pub(crate) fn kind(number: u8) -> Octet
     ensures { result ≡ record { 0 = Name.NetworkMessage; 1 = number } }
 {
     Octet(Name::NetworkMessage, number)
@@ -163,4 +93,71 @@ impl HasFields for NetMessage {
             NetMessage::Opaque(message) => message.tell(cursor, room),
         }
     }
+}
+
+/// Returns the type of the message that the fields say. None if the first one has another name than that of a type.
+#[inline(always)]
+fn type_in(fields: &[Field]) -> Option<u64>
+    ensures { result ≡ type_in fields.now }
+{
+    let field = fields.first()?;
+    if field.name == Name::NetworkMessage.number() {
+        Some(field.number)
+    } else {
+        None
+    }
+}
+
+/// The fields of a network message. The type says what follows.
+#[derive(Drop)]
+pub(crate) struct MessageFields;
+
+impl FromFields for MessageFields {
+    ghost use Rattle.std.specs.Prelude.{true, Some, ◌∷◌, []};
+    ghost use Rattle.bac_npdu.specs.Messages.{MessageValue, SpellsMessage};
+    ghost use Rattle.bac_fields.specs.MessageSymbols.{message_said};
+    ghost use Rattle.bac_fields.specs.Laws.Layouts.{messages_lawful};
+
+    ghost Value = { MessageValue };
+
+    ghost said = { λ part. message_said };
+
+    ghost spells = { λ part. SpellsMessage };
+
+    ghost leads = { λ part. Some 40 ∷ [] };
+
+    ghost is_sound = { λ part. true };
+
+    ghost at_end = { λ part. true };
+
+    fn begins(&self, lead: Option<u32>) -> bool {
+        lead == Some(Name::NetworkMessage.number())
+    }
+
+    fn make(&self, fields: &[Field], octets: &[u8], out: &mut Vec<u8>) -> Result<usize, Fault> {
+        match type_in(fields) {
+            Some(0) => Whole(WhoIsRouterFields).make(fields, octets, out),
+            Some(1) => Whole(NetworksFields(1)).make(fields, octets, out),
+            Some(2) => Whole(NetworkNumberFields(2, Name::Performance)).make(fields, octets, out),
+            Some(3) => Whole(RejectMessageFields).make(fields, octets, out),
+            Some(4) => Whole(NetworksFields(4)).make(fields, octets, out),
+            Some(5) => Whole(NetworksFields(5)).make(fields, octets, out),
+            Some(6) => Whole(InitTableFields).make(fields, octets, out),
+            Some(7) => Whole(InitTableAckFields).make(fields, octets, out),
+            Some(8) => Whole(NetworkNumberFields(8, Name::Time)).make(fields, octets, out),
+            Some(9) => Whole(DisconnectFields).make(fields, octets, out),
+            Some(18) => Whole(WhatIsNetworkNumberFields).make(fields, octets, out),
+            Some(19) => Whole(NetworkNumberFields(19, Name::Flag)).make(fields, octets, out),
+            Some(kind) => {
+                if has_vendor(kind) {
+                    Whole(VendoredFields).make(fields, octets, out)
+                } else {
+                    Whole(PlainFields).make(fields, octets, out)
+                }
+            }
+            None => Err(Fault::at(Part::Name)),
+        }
+    }
+
+    ghost lawful = { λ part sound. messages_lawful };
 }

@@ -5,7 +5,10 @@ use crate::field::Field;
 use crate::parts::HasFields;
 use bac_service::Service;
 
+pub(crate) mod answers;
+pub(crate) mod confirmed;
 pub(crate) mod cov_notification;
+pub(crate) mod errors;
 pub(crate) mod i_am;
 pub(crate) mod opaque;
 pub(crate) mod properties;
@@ -13,6 +16,7 @@ pub(crate) mod read_property;
 pub(crate) mod read_property_multiple;
 pub(crate) mod service_error;
 pub(crate) mod subscribe_cov;
+pub(crate) mod unconfirmed;
 pub(crate) mod who_is;
 pub(crate) mod write_property;
 pub(crate) mod write_property_multiple;

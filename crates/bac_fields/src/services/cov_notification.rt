@@ -6,10 +6,14 @@ ghost use Rattle.bac_fields.specs.CovNotificationFields.{notification_field};
 
 use crate::cursor::Cursor;
 use crate::field::Field;
+use crate::forms::One;
+use crate::making::{Each, End};
 use crate::names::Name;
-use crate::open_values::ListedIn;
+use crate::open_values::{Closing, ListedIn, Opening};
 use crate::parts::{HasFields, Octet};
-use crate::values::Under;
+use crate::services::properties::ValueFields;
+use crate::values::{NumberUnder, Under, number_under};
+use crate::whole::{Message, Whole};
 use bac_service::CovNotification;
 use bac_value::ObjectId;
 use bac_value::layers::Unsigned32;
@@ -49,4 +53,112 @@ impl HasFields for CovNotification {
         let fields = (process, (device, (object, (remaining, values))));
         (Word(self.confirmed), fields).tell(cursor, room)
     }
+}
+
+/// The fields of a confirmed notification.
+#[derive(Drop)]
+pub(crate) struct ConfirmedFields;
+
+impl Message for ConfirmedFields {
+    ghost use Rattle.bac_service.specs.CovNotification.{Notification, SpellsNotification};
+    ghost use Rattle.bac_service.specs.declared.kind.Kind.TheVariants as kind;
+    ghost use Rattle.bac_fields.specs.declared.names.Name.TheVariants as name;
+    ghost use Rattle.bac_fields.specs.Laws.ServiceMessages.{SpellsChosen};
+    ghost use Rattle.bac_fields.specs.Laws.NotificationMessages.{notification_said, confirmed_message};
+
+    type Parts = (
+        One<Octet>,
+        (
+            One<NumberUnder<Unsigned32, 0>>,
+            (
+                One<NumberUnder<ObjectId, 1>>,
+                (
+                    One<NumberUnder<ObjectId, 2>>,
+                    (
+                        One<NumberUnder<Unsigned32, 3>>,
+                        ((One<Opening>, Each<ValueFields, One<Closing>>), End),
+                    ),
+                ),
+            ),
+        ),
+    );
+
+    ghost Value = { Notification };
+
+    ghost said = { λ message. notification_said kind.Confirmed };
+
+    ghost spells = { λ message request. SpellsChosen 1 (SpellsNotification 32 request) };
+
+    ghost parts = { λ message. (record { 0 = record { 0 = name.ConfirmedCovNotification; 1 = 1 } }, (record { 0 = record { name = name.Process; of = _ } }, (record { 0 = record { name = name.Device; of = _ } }, (record { 0 = record { name = name.Object; of = _ } }, (record { 0 = record { name = name.Remaining; of = _ } }, ((record { 0 = record { 0 = name.Values; 1 = 4; 2 = 0 } }, record { 0 = _; 1 = record { 0 = record { 0 = name.ListEnd; 1 = 4; 2 = 0 } } }), _)))))) };
+
+    fn parts(&self) -> Self::Parts {
+        let start = One(Opening(Name::Values, 4, 0));
+        let end = One(Closing(Name::ListEnd, 4, 0));
+        let values = (start, Each(ValueFields, end));
+        let remaining = number_under::<Unsigned32, 3>(Name::Remaining);
+        let object = number_under::<ObjectId, 2>(Name::Object);
+        let device = number_under::<ObjectId, 1>(Name::Device);
+        let process = number_under::<Unsigned32, 0>(Name::Process);
+        let rest = (device, (object, (remaining, (values, End))));
+        (
+            One(Octet(Name::ConfirmedCovNotification, 1)),
+            (process, rest),
+        )
+    }
+
+    ghost is_message = { λ message. confirmed_message };
+}
+
+/// The fields of an unconfirmed notification.
+#[derive(Drop)]
+pub(crate) struct UnconfirmedFields;
+
+impl Message for UnconfirmedFields {
+    ghost use Rattle.bac_service.specs.CovNotification.{Notification, SpellsNotification};
+    ghost use Rattle.bac_service.specs.declared.kind.Kind.TheVariants as kind;
+    ghost use Rattle.bac_fields.specs.declared.names.Name.TheVariants as name;
+    ghost use Rattle.bac_fields.specs.Laws.ServiceMessages.{SpellsChosen};
+    ghost use Rattle.bac_fields.specs.Laws.NotificationMessages.{notification_said, unconfirmed_message};
+
+    type Parts = (
+        One<Octet>,
+        (
+            One<NumberUnder<Unsigned32, 0>>,
+            (
+                One<NumberUnder<ObjectId, 1>>,
+                (
+                    One<NumberUnder<ObjectId, 2>>,
+                    (
+                        One<NumberUnder<Unsigned32, 3>>,
+                        ((One<Opening>, Each<ValueFields, One<Closing>>), End),
+                    ),
+                ),
+            ),
+        ),
+    );
+
+    ghost Value = { Notification };
+
+    ghost said = { λ message. notification_said kind.Unconfirmed };
+
+    ghost spells = { λ message request. SpellsChosen 2 (SpellsNotification 32 request) };
+
+    ghost parts = { λ message. (record { 0 = record { 0 = name.UnconfirmedCovNotification; 1 = 2 } }, (record { 0 = record { name = name.Process; of = _ } }, (record { 0 = record { name = name.Device; of = _ } }, (record { 0 = record { name = name.Object; of = _ } }, (record { 0 = record { name = name.Remaining; of = _ } }, ((record { 0 = record { 0 = name.Values; 1 = 4; 2 = 0 } }, record { 0 = _; 1 = record { 0 = record { 0 = name.ListEnd; 1 = 4; 2 = 0 } } }), _)))))) };
+
+    fn parts(&self) -> Self::Parts {
+        let start = One(Opening(Name::Values, 4, 0));
+        let end = One(Closing(Name::ListEnd, 4, 0));
+        let values = (start, Each(ValueFields, end));
+        let remaining = number_under::<Unsigned32, 3>(Name::Remaining);
+        let object = number_under::<ObjectId, 2>(Name::Object);
+        let device = number_under::<ObjectId, 1>(Name::Device);
+        let process = number_under::<Unsigned32, 0>(Name::Process);
+        let rest = (device, (object, (remaining, (values, End))));
+        (
+            One(Octet(Name::UnconfirmedCovNotification, 2)),
+            (process, rest),
+        )
+    }
+
+    ghost is_message = { λ message. unconfirmed_message };
 }

@@ -5,9 +5,12 @@ ghost use Rattle.std.specs.Option.{option_map};
 
 use crate::cursor::Cursor;
 use crate::field::Field;
+use crate::forms::One;
+use crate::making::{End, Maybe};
 use crate::names::Name;
 use crate::parts::{HasFields, Octet};
-use crate::values::{Optional, Under, unsigned};
+use crate::values::{NumberUnder, Optional, Under, number_under, unsigned};
+use crate::whole::Message;
 use bac_service::SubscribeCov;
 use bac_value::layers::Unsigned32;
 use bac_value::{Boolean, ObjectId};
@@ -33,4 +36,44 @@ impl HasFields for SubscribeCov {
         let fields = (process, (object, (confirmed, lifetime)));
         (Octet(Name::SubscribeCov, 5), fields).tell(cursor, room)
     }
+}
+
+/// The fields of a SubscribeCOV.
+#[derive(Drop)]
+pub(crate) struct SubscribeCovFields;
+
+impl Message for SubscribeCovFields {
+    ghost use Rattle.bac_service.specs.declared.services.subscribe_cov.SubscribeCov.{SubscribeCov};
+    ghost use Rattle.bac_service.specs.SubscribeCov.{SpellsSubscribeCov};
+    ghost use Rattle.bac_fields.specs.declared.names.Name.TheVariants as name;
+    ghost use Rattle.bac_fields.specs.Laws.ServiceMessages.{SpellsChosen, subscribe_cov_said, subscribe_cov_message};
+
+    type Parts = (
+        One<Octet>,
+        (
+            One<NumberUnder<Unsigned32, 0>>,
+            (
+                One<NumberUnder<ObjectId, 1>>,
+                Maybe<One<NumberUnder<Boolean, 2>>, Maybe<One<NumberUnder<Unsigned32, 3>>, End>>,
+            ),
+        ),
+    );
+
+    ghost Value = { SubscribeCov };
+
+    ghost said = { λ message. subscribe_cov_said };
+
+    ghost spells = { λ message request. SpellsChosen 5 (SpellsSubscribeCov request) };
+
+    ghost parts = { λ message. (record { 0 = record { 0 = name.SubscribeCov; 1 = 5 } }, (record { 0 = record { name = name.Process; of = _ } }, (record { 0 = record { name = name.Object; of = _ } }, record { 0 = record { 0 = record { name = name.Confirmed; of = _ } }; 1 = record { 0 = record { 0 = record { name = name.Lifetime; of = _ } }; 1 = _ } }))) };
+
+    fn parts(&self) -> Self::Parts {
+        let lifetime = Maybe(number_under::<Unsigned32, 3>(Name::Lifetime), End);
+        let confirmed = Maybe(number_under::<Boolean, 2>(Name::Confirmed), lifetime);
+        let object = (number_under::<ObjectId, 1>(Name::Object), confirmed);
+        let process = number_under::<Unsigned32, 0>(Name::Process);
+        (One(Octet(Name::SubscribeCov, 5)), (process, object))
+    }
+
+    ghost is_message = { λ message. subscribe_cov_message };
 }

@@ -2,10 +2,14 @@
 
 use crate::cursor::Cursor;
 use crate::field::Field;
+use crate::forms::One;
+use crate::making::{End, Maybe};
 use crate::names::Name;
 use crate::parts::{HasFields, Octet};
-use crate::values::Under;
+use crate::values::{NumberUnder, Under, number_under};
+use crate::whole::Message;
 use bac_service::WhoIs;
+use bac_value::Instance;
 
 impl HasFields for WhoIs {
     ghost use Rattle.bac_fields.specs.WhoIsFields.{who_is_steps};
@@ -23,4 +27,36 @@ impl HasFields for WhoIs {
             None => word.tell(cursor, room),
         }
     }
+}
+
+/// The fields of a Who-Is.
+#[derive(Drop)]
+pub(crate) struct WhoIsFields;
+
+impl Message for WhoIsFields {
+    ghost use Rattle.bac_service.specs.declared.services.who_is.WhoIs.{WhoIs};
+    ghost use Rattle.bac_service.specs.WhoIs.{SpellsWhoIs};
+    ghost use Rattle.bac_fields.specs.declared.names.Name.TheVariants as name;
+    ghost use Rattle.bac_fields.specs.Laws.ServiceMessages.{SpellsChosen, who_is_said, who_is_message};
+
+    type Parts = (
+        One<Octet>,
+        Maybe<(One<NumberUnder<Instance, 0>>, One<NumberUnder<Instance, 1>>), End>,
+    );
+
+    ghost Value = { WhoIs };
+
+    ghost said = { λ message. who_is_said };
+
+    ghost spells = { λ message request. SpellsChosen 8 (SpellsWhoIs request) };
+
+    ghost parts = { λ message. (record { 0 = record { 0 = name.WhoIs; 1 = 8 } }, record { 0 = (record { 0 = record { name = name.Low; of = _ } }, record { 0 = record { name = name.High; of = _ } }); 1 = _ }) };
+
+    fn parts(&self) -> Self::Parts {
+        let low = number_under::<Instance, 0>(Name::Low);
+        let high = number_under::<Instance, 1>(Name::High);
+        (One(Octet(Name::WhoIs, 8)), Maybe((low, high), End))
+    }
+
+    ghost is_message = { λ message. who_is_message };
 }

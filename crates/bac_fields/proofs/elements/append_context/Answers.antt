@@ -1,0 +1,12 @@
+use Rattle.std.proofs.Common.{◌++◌, ◌∙◌, ap, append_assoc, List, ℕ}
+use Rattle.bac_data.proofs.EventLeastLemmas.{least_context}
+use Rattle.bac_fields.proofs.elements.append_context.Goals as goal
+
+pub returns-clause-ok : goal.returns-clause-ok
+returns-clause-ok c =
+    let a = c.in_ok-append_head.ensures.ok in
+    record {
+      more = a.more ++ c.args.held.now;
+      is_least = least_context c.args.number c.args.held.now a.more c.requires.contents a.is_least;
+      new_is = c.in_ok-extend_from_slice.ensures.items ∙ ap (λ (l : List ℕ). l ++ c.args.held.now) a.new_is ∙ append_assoc c.args.out.now.items a.more c.args.held.now;
+    }

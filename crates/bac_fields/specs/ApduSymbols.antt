@@ -1,0 +1,124 @@
+-- The symbols of APDUs, by their types, and the octets of their heads.
+use Rattle.std.specs.Prelude.{ℕ, nat_eq, Bool, true, false, Option, None, Some, List, [], ◌∷◌, ◌++◌}
+use Rattle.std.specs.Map.{lookup}
+use Rattle.bac_tag.specs.HeadOctets.{Part, typed, limits, octet, window}
+use Rattle.bac_service.specs.ServiceValues.{ServiceValue}
+use Rattle.bac_apdu.specs.declared.confirmed_request.RequestHead.{RequestHead}
+use Rattle.bac_apdu.specs.declared.segment.SegHead.TheVariants.{Request, Ack}
+use Rattle.bac_apdu.specs.Apdus.{ApduValue, SpellsApdu}
+use Rattle.bac_apdu.specs.Apdus as apdus
+use Rattle.bac_fields.specs.declared.numbers.Nothing.{Nothing}
+use Rattle.bac_fields.specs.ApduFields.{apdu_steps}
+use Rattle.bac_fields.specs.Symbols.{Symbol, finished, steps_said}
+
+-- the symbols of an APDU, to the end of the fields
+abbrev pub apdu_said : ApduValue → List Symbol
+apdu_said apdu = steps_said (apdu_steps apdu) ++ finished ∷ []
+
+-- ---- by type
+
+-- requests and answers in segments are types of their own
+pub data ApduType : Type 0 where
+  confirmed_request unconfirmed_request simple_ack complex_ack segment_ack error reject abort request_segment ack_segment : ApduType
+
+-- sequence number, window, whether more follow, service choice, piece
+abbrev pub PieceSaid : Type 0
+PieceSaid = ℕ × (ℕ × (Bool × (ℕ × List ℕ)))
+
+-- what an APDU of a type says
+abbrev pub SaidBy : ApduType → Type 0
+SaidBy confirmed_request = RequestHead × ServiceValue
+SaidBy unconfirmed_request = ServiceValue
+SaidBy simple_ack = ℕ × ℕ
+SaidBy complex_ack = ℕ × ServiceValue
+SaidBy segment_ack = ℕ × (Bool × (Bool × (ℕ × ℕ)))
+SaidBy error = ℕ × ServiceValue
+SaidBy reject = ℕ × ℕ
+SaidBy abort = ℕ × (Bool × ℕ)
+SaidBy request_segment = RequestHead × PieceSaid
+SaidBy ack_segment = ℕ × PieceSaid
+
+abbrev pub apdu_of : (type : ApduType) → SaidBy type → ApduValue
+apdu_of confirmed_request v = apdus.confirmed_request v.0 v.1
+apdu_of unconfirmed_request v = apdus.unconfirmed_request v
+apdu_of simple_ack v = apdus.simple_ack v.0 v.1
+apdu_of complex_ack v = apdus.complex_ack v.0 v.1
+apdu_of segment_ack v = apdus.segment_ack v.0 v.1.0 v.1.1.0 v.1.1.1.0 v.1.1.1.1
+apdu_of error v = apdus.error v.0 v.1
+apdu_of reject v = apdus.reject v.0 v.1
+apdu_of abort v = apdus.abort v.0 v.1.0 v.1.1
+apdu_of request_segment v = apdus.segment (Request v.0) v.1.0 v.1.1.0 v.1.1.1.0 v.1.1.1.1.0 v.1.1.1.1.1
+apdu_of ack_segment v = apdus.segment (Ack v.0) v.1.0 v.1.1.0 v.1.1.1.0 v.1.1.1.1.0 v.1.1.1.1.1
+
+abbrev pub said_by : (type : ApduType) → SaidBy type → List Symbol
+said_by type v = apdu_said (apdu_of type v)
+
+abbrev pub SpellsBy : (type : ApduType) → SaidBy type → List ℕ → Type 0
+SpellsBy type v = SpellsApdu (apdu_of type v)
+
+-- the number of the name that it begins with
+abbrev pub first_name : ApduType → ℕ
+first_name confirmed_request = 10
+first_name unconfirmed_request = 11
+first_name simple_ack = 12
+first_name complex_ack = 13
+first_name segment_ack = 14
+first_name error = 15
+first_name reject = 16
+first_name abort = 17
+first_name request_segment = 18
+first_name ack_segment = 19
+
+-- the type that a name tells
+abbrev pub types_named : List (ℕ × ApduType)
+types_named =
+    (10, confirmed_request) ∷ (11, unconfirmed_request) ∷ (12, simple_ack) ∷ (13, complex_ack) ∷ (14, segment_ack) ∷ (15, error) ∷ (16, reject) ∷ (17, abort)
+    ∷ (18, request_segment) ∷ (19, ack_segment) ∷ []
+
+abbrev pub type_named : ℕ → Option ApduType
+type_named name = lookup (λ n. nat_eq n name) types_named
+
+-- what APDUs begin with
+abbrev pub apdu_leads : List (Option ℕ)
+apdu_leads = Some 10 ∷ Some 11 ∷ Some 12 ∷ Some 13 ∷ Some 14 ∷ Some 15 ∷ Some 16 ∷ Some 17 ∷ Some 18 ∷ Some 19 ∷ []
+
+-- ---- the numbers that fields say before a head is written, and the octets of the head before the service choice
+
+-- invoke id, whether a segmented answer is accepted, max-segments, max-response
+abbrev pub RequestNumbers : Type 0
+RequestNumbers = ℕ × (Bool × (ℕ × ℕ))
+
+-- the word; then, of an answer, the invoke id, and, of a segment, sequence number, window, whether more follow, service choice
+abbrev pub SegmentNumbers : Type 0
+SegmentNumbers = ℕ × (ℕ × (Bool × ℕ))
+
+abbrev pub confirmed_request_front : Nothing × RequestNumbers → List Part
+confirmed_request_front v = typed 0 (Some false) None (Some v.1.1.0) None ∷ limits v.1.1.1.0 v.1.1.1.1 ∷ octet v.1.0 ∷ []
+
+abbrev pub unconfirmed_request_front : Nothing → List Part
+unconfirmed_request_front v = typed 1 None None None None ∷ []
+
+abbrev pub simple_ack_front : Nothing × (ℕ × ℕ) → List Part
+simple_ack_front v = typed 2 None None None None ∷ octet v.1.0 ∷ octet v.1.1 ∷ []
+
+abbrev pub complex_ack_front : Nothing × ℕ → List Part
+complex_ack_front v = typed 3 (Some false) None None None ∷ octet v.1 ∷ []
+
+abbrev pub segment_ack_front : Nothing × (ℕ × (Bool × (Bool × (ℕ × ℕ)))) → List Part
+segment_ack_front v = typed 4 None None (Some v.1.1.0) (Some v.1.1.1.0) ∷ octet v.1.0 ∷ octet v.1.1.1.1.0 ∷ window v.1.1.1.1.1 ∷ []
+
+abbrev pub error_front : Nothing × ℕ → List Part
+error_front v = typed 5 None None None None ∷ octet v.1 ∷ []
+
+abbrev pub reject_front : Nothing × (ℕ × ℕ) → List Part
+reject_front v = typed 6 None None None None ∷ octet v.1.0 ∷ octet v.1.1 ∷ []
+
+abbrev pub abort_front : Nothing × (ℕ × (Bool × ℕ)) → List Part
+abort_front v = typed 7 None None None (Some v.1.1.0) ∷ octet v.1.0 ∷ octet v.1.1.1 ∷ []
+
+abbrev pub request_segment_front : Nothing × (RequestNumbers × SegmentNumbers) → List Part
+request_segment_front v =
+    typed 0 (Some true) (Some v.1.1.1.1.0) (Some v.1.0.1.0) None ∷ limits v.1.0.1.1.0 v.1.0.1.1.1 ∷ octet v.1.0.0 ∷ octet v.1.1.0 ∷ window v.1.1.1.0 ∷ octet v.1.1.1.1.1 ∷ []
+
+abbrev pub ack_segment_front : Nothing × (ℕ × SegmentNumbers) → List Part
+ack_segment_front v = typed 3 (Some true) (Some v.1.1.1.1.0) None None ∷ octet v.1.0 ∷ octet v.1.1.0 ∷ window v.1.1.1.0 ∷ octet v.1.1.1.1.1 ∷ []

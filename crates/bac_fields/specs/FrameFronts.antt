@@ -1,0 +1,7 @@
+-- What was read before the body of a frame.
+use Rattle.bac_npdu.specs.FrameHeads.{address_read}
+use Rattle.bac_fields.specs.declared.frame_heads.Front.{Front}
+use Rattle.bac_fields.specs.FrameSymbols.{HeadSaid, destination_parts}
+
+abbrev pub front_said : Front → HeadSaid
+front_said front = ((front.priority, front.reply), (destination_parts front.to, address_read front.from))
