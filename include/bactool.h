@@ -52,14 +52,14 @@ enum bactool_code {
     BACTOOL_OK = 0,            /* what was asked holds, or is done */
     BACTOOL_TOLERATED = 1,     /* the octets spell a frame, and are not its canonical ones */
     BACTOOL_DIFFERENT = 2,     /* the two inputs spell different frames */
-    BACTOOL_REFUSED = 3,       /* the octets are not accepted: `why` and `place` */
+    BACTOOL_REFUSED = 3,       /* the octets or the fields are not accepted: `why` and `place` */
     BACTOOL_LEFT_REFUSED = 4,  /* the left one of two inputs spells no frame: `why` and `place` */
     BACTOOL_RIGHT_REFUSED = 5, /* the right one spells none, and the left one does: `why` and `place` */
     BACTOOL_NO_ROOM = 6,       /* the room is too small: `count` octets are needed */
     BACTOOL_NO_MEMORY = 7      /* memory was refused: `why` is BACTOOL_OUT_OF_MEMORY */
 };
 
-/* Why octets are refused. bactool_reason gives the name. */
+/* Why octets or fields are refused. bactool_reason gives the name. */
 enum bactool_why {
     BACTOOL_SHORT = 1,          /* the octets end where more must come */
     BACTOOL_TRAILING = 2,       /* octets follow a whole frame */
@@ -72,14 +72,19 @@ enum bactool_why {
     BACTOOL_CONTENT = 9,        /* contents that no value has */
     BACTOOL_DEPTH = 10,         /* a group inside too many others: at most 32 nest */
     BACTOOL_NOT_CANONICAL = 11, /* a tolerated spelling, and canonical octets were asked for */
-    BACTOOL_OUT_OF_MEMORY = 12  /* memory was refused */
+    BACTOOL_OUT_OF_MEMORY = 12, /* memory was refused */
+    /* Only of fields, for which BACTOOL_SHORT and BACTOOL_TRAILING speak of fields in place of octets. */
+    BACTOOL_BAD_NAME = 13,    /* a field with a name that cannot be here */
+    BACTOOL_BAD_NUMBER = 14,  /* a field with a number that it cannot have here */
+    BACTOOL_BAD_CONTENTS = 15 /* a field with contents that it cannot have here, or that are not in the octets */
 };
 
 /* What a call reports beside its code. A field of which the code says nothing is 0. */
 struct bactool_outcome {
     uint32_t why;  /* an enum bactool_why: the reason of a refusal */
     size_t place;  /* the offset, counted from 0, of the first octet that no frame can have there, or of the first one
-                      that differs from the canonical octets; the length if the octets are only too short */
+                      that differs from the canonical octets; the length if the octets are only too short. Of
+                      bactool_encode the index of a field, counted from 0 */
     size_t count;  /* the number of octets that are written, or that would be written if the room were not too small */
     size_t fields; /* the number of fields that are written by bactool_decode, or that would be */
 };
@@ -269,6 +274,34 @@ static inline const struct bactool_field *bactool_find(const struct bactool_fiel
 }
 
 /*
+ * Writes, at the front of `out`, the canonical octets of the frame that `count` fields say: the way back from
+ * bactool_decode. The fields come in the order of the text, and each has its name and its number. Those with contents
+ * by their name, such as a string or an address, have `length` octets of them in `octets`, from `place` + `head` on;
+ * docs/FORMATS.md has the table. In any other field `place`, `head` and `length` count for nothing. So the fields and
+ * the octets that bactool_decode writes give the same octets again, and fields of one's own may have 0 there.
+ *
+ *   BACTOOL_OK          they are written: `count` is their number
+ *   BACTOOL_NO_ROOM     `room` is too small for them: nothing is written, and `count` is their number
+ *   BACTOOL_REFUSED     the fields are those of no frame: `place` is the index of the first field with which no frame's
+ *                       fields continue, and `why` says what of it is at fault. It is BACTOOL_SHORT, and `place` is the
+ *                       number of the fields, if the fields only end too early; and BACTOOL_TRAILING if the fields
+ *                       before that one are already all of a frame
+ *   BACTOOL_NO_MEMORY   memory was refused
+ *
+ *     struct bactool_field fields[] = {
+ *         {BACTOOL_FIELD_NETWORK_PRIORITY, 0, 0, 0, 0}, {BACTOOL_FIELD_REPLY_EXPECTED, 0, 0, 0, 0},
+ *         {BACTOOL_FIELD_UNCONFIRMED_REQUEST, 0, 0, 0, 0}, {BACTOOL_FIELD_WHO_IS, 8, 0, 0, 0},
+ *     };
+ *     uint8_t out[1497];
+ *     if (bactool_encode(fields, 4, NULL, 0, out, sizeof out, &outcome) == BACTOOL_OK)
+ *         send(socket, out, outcome.count, 0);
+ *
+ * sends 01 00 10 08, a Who-Is. `examples/c/fields.c` is a whole program.
+ */
+uint32_t bactool_encode(const struct bactool_field *fields, size_t count, const uint8_t *octets, size_t length,
+                        uint8_t *out, size_t room, struct bactool_outcome *outcome);
+
+/*
  * Writes, at the front of `out`, the text of the frame that the octets spell, as `bactool show` prints it: one line,
  * without a line feed and without a NUL. To learn its length first, call with room 0.
  *
@@ -353,6 +386,12 @@ static inline struct bactool_field *bactool_fields(struct bactool_field *fields)
     return fields != NULL ? fields : &none;
 }
 
+static inline const struct bactool_field *bactool_said(const struct bactool_field *fields)
+{
+    static const struct bactool_field none = {0, 0, 0, 0, 0};
+    return fields != NULL ? fields : &none;
+}
+
 static inline uint32_t bactool_check_any(const uint8_t *octets, size_t length, bool strict,
                                          struct bactool_outcome *outcome)
 {
@@ -370,6 +409,12 @@ static inline uint32_t bactool_decode_any(const uint8_t *octets, size_t length, 
 {
     return bactool_decode(bactool_octets(octets), length, bactool_room(out), room, bactool_fields(fields), most,
                           outcome);
+}
+
+static inline uint32_t bactool_encode_any(const struct bactool_field *fields, size_t count, const uint8_t *octets,
+                                          size_t length, uint8_t *out, size_t room, struct bactool_outcome *outcome)
+{
+    return bactool_encode(bactool_said(fields), count, bactool_octets(octets), length, bactool_room(out), room, outcome);
 }
 
 static inline uint32_t bactool_show_any(const uint8_t *octets, size_t length, char *out, size_t room,
@@ -397,6 +442,7 @@ static inline size_t bactool_name_any(uint32_t name, char *out, size_t room)
 #define bactool_check(...) bactool_check_any(__VA_ARGS__)
 #define bactool_normalise(...) bactool_normalise_any(__VA_ARGS__)
 #define bactool_decode(...) bactool_decode_any(__VA_ARGS__)
+#define bactool_encode(...) bactool_encode_any(__VA_ARGS__)
 #define bactool_show(...) bactool_show_any(__VA_ARGS__)
 #define bactool_same_meaning(...) bactool_same_meaning_any(__VA_ARGS__)
 #define bactool_reason(...) bactool_reason_any(__VA_ARGS__)

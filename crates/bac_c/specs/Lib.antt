@@ -1,2 +1,3 @@
 pub mod Outcomes
 pub mod InPlace
+pub mod Encoding

@@ -31,6 +31,7 @@ mod checking;
 mod codes;
 mod comparing;
 mod decoding;
+mod encoding;
 mod field_names;
 mod in_place;
 mod normalising;
@@ -47,6 +48,7 @@ pub use codes::{
 };
 pub use comparing::bactool_same_meaning;
 pub use decoding::bactool_decode;
+pub use encoding::bactool_encode;
 pub use field_names::bactool_name;
 pub use normalising::bactool_normalise;
 pub use outcomes::Outcome;

@@ -1,9 +1,25 @@
 //! What a call reports beside its code.
 
 ghost use Rattle.std.specs.Prelude.{◌≡◌};
+ghost use Rattle.bac_c.specs.Encoding.{field_number_of, field_refused_as};
 ghost use Rattle.bac_c.specs.Outcomes.{counted as counted_value, decoded as decoded_value, differs_at as differing, nothing as nothing_told, refused_as};
 
-use bac_tag::Refusal;
+use bac_fields::{FieldRefusal, FieldWhy};
+use bac_tag::{Refusal, Why};
+
+/// Returns the number in the header of a reason for which fields are refused.
+fn field_reason(why: FieldWhy) -> u32
+    ensures { result ≡ field_number_of why }
+{
+    match why {
+        FieldWhy::Short => Why::Short as u32,
+        FieldWhy::Trailing => Why::Trailing as u32,
+        FieldWhy::Name => 13,
+        FieldWhy::Number => 14,
+        FieldWhy::Contents => 15,
+        FieldWhy::OutOfMemory => Why::OutOfMemory as u32,
+    }
+}
 
 /// What a call reports beside its code: `struct bactool_outcome` in `include/bactool.h`. A field of which the code says
 /// nothing is 0.
@@ -12,7 +28,8 @@ use bac_tag::Refusal;
 pub struct Outcome {
     /// The number of the reason for which an input is refused.
     pub why: u32,
-    /// The offset at which an input is refused, or at which it first differs from the canonical octets.
+    /// The offset at which an input is refused, or at which it first differs from the canonical octets. Of fields that are
+    /// refused, the index of one of them.
     pub place: usize,
     /// The number of octets that are written, or that would be written if the room were not too small.
     pub count: usize,
@@ -52,6 +69,18 @@ impl Outcome {
         Outcome {
             why: refusal.why as u32,
             place: refusal.place,
+            count: 0,
+            fields: 0,
+        }
+    }
+
+    /// Returns the outcome for fields that are refused.
+    pub(crate) fn field_refused(refusal: FieldRefusal) -> Outcome
+        ensures { result ≡ field_refused_as refusal }
+    {
+        Outcome {
+            why: field_reason(refusal.why),
+            place: refusal.index,
             count: 0,
             fields: 0,
         }
