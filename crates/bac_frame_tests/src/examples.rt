@@ -1,7 +1,7 @@
 //! The examples of the doc comments of bac_apdu, bac_segment, bac_npdu, bac_text and bac_fields, with the same lines.
 
 use bac_apdu::{Apdu, SegHead, decode_apdu, encode_apdu};
-use bac_fields::{Name, append_fields};
+use bac_fields::{Name, append_fields, append_octets};
 use bac_npdu::{
     Body, Frame, NetMessage, NetPriority, Side, decode_frame, decode_strict, encode_frame,
     normalise_frame, same_meaning,
@@ -175,5 +175,27 @@ fn fields_are_appended(rt: HostRuntime) -> Result<(), Fail> {
     assert_eq!(rt; fields.len(), 6);
     assert_eq!(rt; fields[2].name, Name::Destination.number());
     assert_eq!(rt; (fields[2].number, fields[2].place), (0xFFFF, 2));
+    Ok(())
+}
+
+// Of `bac_fields::append_octets`.
+#[test]
+fn octets_are_made_of_fields(rt: HostRuntime) -> Result<(), Fail> {
+    // A WriteProperty is read, and written again with priority 9 in place of 8.
+    let octets = [
+        0x01, 0x04, 0x00, 0x05, 0x03, 0x0F, 0x0C, 0x00, 0x40, 0x00, 0x01, 0x19, 0x55, 0x3E, 0x44,
+        0x42, 0xC8, 0x00, 0x00, 0x3F, 0x49, 0x08,
+    ];
+    let frame = decode_frame(rt.alloc(), &octets)?;
+    let mut canonical = Vec::new(rt.alloc());
+    let mut fields = Vec::new(rt.alloc());
+    append_fields(&frame, &mut canonical, &mut fields)?;
+    let last = fields.last_mut().ok_or("no field")?;
+    assert_eq!(rt; (last.name, last.number), (Name::Priority.number(), 8));
+    last.number = 9;
+    let mut written = Vec::new(rt.alloc());
+    append_octets(&fields, &canonical, &mut written)?;
+    assert_eq!(rt; written.len(), 22);
+    assert!(rt; written.ends_with(&[0x49, 0x09]));
     Ok(())
 }

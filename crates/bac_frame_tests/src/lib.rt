@@ -14,6 +14,8 @@ mod fields;
 #[cfg(test)]
 mod frame;
 #[cfg(test)]
+mod from_fields;
+#[cfg(test)]
 mod long_fronts;
 #[cfg(test)]
 mod segment;

@@ -110,6 +110,31 @@ const NAMES: &str = "
     143 context_primitive
 ";
 
+/// Returns the number of the name with this word. A word that is a number is that of a name that the table need not have.
+pub fn name_of(word: &str) -> Option<u32> {
+    for line in NAMES.lines() {
+        if let Some((number, name)) = line.trim().split_once(" ") {
+            if name == word {
+                return u32::try_from(place_of(number).ok()?).ok();
+            }
+        }
+    }
+    u32::try_from(place_of(word).ok()?).ok()
+}
+
+/// Returns true if fields with this name have contents: the column "Its contents" of the table.
+pub fn has_contents(name: u32) -> bool {
+    matches!(
+        name,
+        3 | 5 | 31 | 47 | 51 | 136 | 137 | 138 | 140 | 141 | 143
+    )
+}
+
+/// Returns true if a field with this name may have any number: the names of Unsigned, Signed and Double.
+pub fn has_any_number(name: u32) -> bool {
+    matches!(name, 132 | 133 | 135)
+}
+
 /// Returns the word for the name with this number. None if the table has no such name.
 pub fn word_of(name: u32) -> Option<&'static str> {
     for line in NAMES.lines() {

@@ -1,5 +1,6 @@
 //! The fields of a frame, each with its place in the canonical octets.
 
+use crate::changes::mistake;
 use crate::faults::RowFault;
 use crate::field_names::word_of;
 use crate::octets::{FIRST, is_appended};
@@ -25,12 +26,18 @@ pub fn found(alloc: Global, octets: &[u8]) -> Result<String, RowFault> {
     }
 }
 
-/// Returns the fields of a frame that are appended after another one, or what is wrong with what is appended.
+/// Returns the fields of a frame that are appended after another one, or what is wrong with what is appended, or with what
+/// its fields come to.
 fn appended(alloc: Global, frame: &Frame) -> Result<String, OutOfMemory> {
     let mut octets = Vec::from_slice(alloc, &[FIRST])?;
     let mut fields = Vec::from_slice(alloc, &[FIRST_FIELD])?;
     append_fields(frame, &mut octets, &mut fields)?;
     let written = encode_frame(alloc, frame)?;
+    if let (true, Some((_, own))) = (is_appended(&octets, &written), fields.split_first()) {
+        if let Some(words) = mistake(alloc, own, &written)? {
+            return Ok(words);
+        }
+    }
     let is_written = is_appended(&octets, &written);
     Ok(words_after(alloc, is_written, &fields)?)
 }

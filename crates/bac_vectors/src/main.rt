@@ -13,12 +13,15 @@
 #![tactic(auto)]
 
 mod apdus;
+mod changes;
 mod faults;
 mod field_names;
 mod fields;
 mod frames;
+mod from_fields;
 mod fronts;
 mod heads;
+mod made;
 mod meanings;
 mod octets;
 mod open_values;

@@ -4,7 +4,8 @@ use crate::faults::RowFault;
 use crate::octets::joined;
 use crate::told::Told;
 use crate::{
-    apdus, fields, frames, fronts, heads, meanings, open_values, services, streams, texts, values,
+    apdus, fields, frames, from_fields, fronts, heads, meanings, open_values, services, streams,
+    texts, values,
 };
 use bac_service::Kind;
 use bac_stream::Mode;
@@ -30,6 +31,8 @@ pub enum Section<'a> {
     Texts,
     /// `[fields]`: the fields of a frame.
     Fields,
+    /// `[from_fields]`: the frame that fields say.
+    FromFields,
     /// `[same_meaning]`: whether two inputs spell one frame.
     Meanings,
     /// `[stream tolerant]` and `[stream strict]`: the records of a stream, in whatever pieces it comes.
@@ -53,6 +56,7 @@ impl<'a> Section<'a> {
             ("bac_npdu", "") => Some(Section::Frames),
             ("text", "") => Some(Section::Texts),
             ("fields", "") => Some(Section::Fields),
+            ("from_fields", "") => Some(Section::FromFields),
             ("same_meaning", "") => Some(Section::Meanings),
             ("stream", "tolerant") => Some(Section::Streams(Mode::Tolerant)),
             ("stream", "strict") => Some(Section::Streams(Mode::Strict)),
@@ -68,6 +72,7 @@ impl<'a> Section<'a> {
     pub fn found(self, alloc: Global, front: &str, row: Row<'_>) -> Result<String, RowFault> {
         match self {
             Section::Meanings => meanings::found(alloc, row.octets),
+            Section::FromFields => from_fields::found(alloc, row.octets),
             Section::Heads => heads::found(alloc, &joined(alloc, front, row.octets)?),
             Section::Texts => texts::found(alloc, &joined(alloc, front, row.octets)?),
             Section::Fields => fields::found(alloc, &joined(alloc, front, row.octets)?),
