@@ -250,6 +250,29 @@ static void try_places(const uint8_t *canonical, size_t count, const struct bact
     EXPECT(end + (tags > 0) == count && (tags == 0 || tags == 3));
 }
 
+/* Makes the octets of fields that were decoded again: with all rooms near the one that is needed, of all fields but the
+   last, and with a number that no frame has. The fields are as they were. */
+static void try_encoded(struct bench bench, const uint8_t *canonical, size_t count, struct bactool_field *fields, size_t most)
+{
+    struct bactool_outcome told = UNTOLD;
+    uint8_t *out = cleared(bench.out, count);
+    EXPECT(bactool_encode(fields, most, canonical, count, NULL, 0, &told) == BACTOOL_NO_ROOM);
+    EXPECT(tells(told, 0, 0, count, 0));
+    EXPECT(bactool_encode(fields, most, canonical, count, out, count - 1, &told) == BACTOOL_NO_ROOM);
+    EXPECT(tells(told, 0, 0, count, 0) && is_kept(bench.out, count));
+    EXPECT(bactool_encode(fields, most, canonical, count, out, count, &told) == BACTOOL_OK);
+    EXPECT(tells(told, 0, 0, count, 0) && memcmp(out, canonical, count) == 0);
+
+    out = cleared(bench.out, count);
+    uint32_t code = bactool_encode(fields, most - 1, canonical, count, out, 0, &told);
+    EXPECT(code == BACTOOL_NO_ROOM || (code == BACTOOL_REFUSED && says(told, BACTOOL_SHORT, most - 1, 0)));
+    uint64_t number = fields[1].number;
+    fields[1].number = 2;
+    EXPECT(bactool_encode(fields, most, canonical, count, out, count, &told) == BACTOOL_REFUSED);
+    EXPECT(says(told, BACTOOL_BAD_NUMBER, 1, 0) && is_kept(bench.out, count));
+    fields[1].number = number;
+}
+
 /* Decodes octets that are accepted: the fields, the line that they make, and every room for short frames. */
 static void try_decoded(struct bench bench, const uint8_t *octets, size_t length, const uint8_t *canonical,
                         size_t count, bool in_each_room)
@@ -261,6 +284,8 @@ static void try_decoded(struct bench bench, const uint8_t *octets, size_t length
     EXPECT(bactool_decode(octets, length, cleared(bench.out, count), count, bench.known, FIELDS, &told) == BACTOOL_OK);
     EXPECT(tells(told, 0, 0, count, fields));
     try_places(canonical, count, bench.known, fields);
+    try_encoded(bench, canonical, count, bench.known, fields);
+    EXPECT(bactool_decode(octets, length, cleared(bench.out, count), count, bench.known, FIELDS, &told) == BACTOOL_OK);
 
     size_t line_length = line_of_fields(canonical, bench.known, fields, bench.line);
     uint8_t *line = cleared(bench.out, TEXT);
@@ -461,6 +486,7 @@ static void try_edges(struct bench bench)
     EXPECT(bactool_normalise(longest, 4, NULL, 0, &told) == BACTOOL_NO_ROOM && says(told, 0, 0, 4));
     EXPECT(bactool_show(longest, 4, NULL, 0, &told) == BACTOOL_NO_ROOM && told.count > 0);
     EXPECT(bactool_decode(NULL, 0, NULL, 0, NULL, 0, &told) == BACTOOL_REFUSED && says(told, BACTOOL_SHORT, 0, 0));
+    EXPECT(bactool_encode(NULL, 0, NULL, 0, NULL, 0, &told) == BACTOOL_REFUSED && says(told, BACTOOL_SHORT, 0, 0));
     EXPECT(bactool_decode(longest, 4, NULL, 0, NULL, 0, &told) == BACTOOL_NO_ROOM && tells(told, 0, 0, 4, 6));
     EXPECT(bactool_find(NULL, 0, BACTOOL_FIELD_OBJECT) == NULL);
     EXPECT(bactool_version() == BACTOOL_VERSION);
@@ -513,7 +539,10 @@ static void try_reasons(struct bench bench)
         [BACTOOL_DEPTH] = "Depth",
         [BACTOOL_NOT_CANONICAL] = "NotCanonical",
         [BACTOOL_OUT_OF_MEMORY] = "OutOfMemory",
-        [BACTOOL_OUT_OF_MEMORY + 1] = "",
+        [BACTOOL_BAD_NAME] = "Name",
+        [BACTOOL_BAD_NUMBER] = "Number",
+        [BACTOOL_BAD_CONTENTS] = "Contents",
+        [BACTOOL_BAD_CONTENTS + 1] = "",
     };
     const uint32_t count = sizeof names / sizeof *names;
     for (uint32_t why = 0; why < count; why++)

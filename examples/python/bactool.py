@@ -1,14 +1,18 @@
 #!/usr/bin/env python3
-"""BACnet frames by libbactool, and as a program: `bactool.py check|show|normalise|json [LIBRARY] < FRAMES`. The status
-is that of `bactool`: 0, 1 if a record is refused, and 2 if the words or the input are at fault.
+"""BACnet frames by libbactool, and as a program: `bactool.py check|show|normalise|json [LIBRARY] < FRAMES` and
+`bactool.py encode [LIBRARY] < LINES`. The status is that of `bactool`: 0, 1 if a record or a line is refused, and 2 if
+the words or the input are at fault.
 
-`json` writes a line for each record: what `Bactool.decode` returns, or `{"refused": WHY, "at": PLACE}`.
+`json` writes a line for each record: what `Bactool.decode` returns, or `{"refused": WHY, "at": PLACE}`. `encode` is the
+way back: it writes a record for each line, up to the first one that is refused.
 
 >>> tool = Bactool()
 >>> tool.show(bytes.fromhex("0120FFFF00FF1008"))
 'prio=0 reply=0 dest=65535/* hops=255 unconf Who-Is'
 >>> tool.decode(bytes.fromhex("0120FFFF00FF1008"))
 {'prio': 0, 'reply': 0, 'dest': '65535/*', 'hops': 255, 'unconf': True, 'Who-Is': True}
+>>> tool.encode({"conf": True, "id": 1, "ReadProperty": True, "object": "0:5", "property": 85}).hex()
+'01040005010c0c000000051955'
 """
 
 import ctypes
@@ -49,6 +53,7 @@ class Field(ctypes.Structure):
 ADDRESSES = {3, 5}
 WORDS = {*range(10, 20), *range(60, 70)}
 CONTENTS = {31, 47, 51}
+NETWORKS = 42
 LISTS = {42, 45, *range(110, 114), 117}
 LISTED_NETWORK = 43
 OBJECTS = {80, 85}
@@ -60,12 +65,32 @@ NULL, BOOLEAN, UNSIGNED, SIGNED, REAL, DOUBLE, OCTET_STRING, CHARACTER_STRING, B
 ENUMERATED, DATE, TIME_OF_DAY, OBJECT_IDENTIFIER, CONTEXT_PRIMITIVE = range(139, 144)
 
 
+# The names that a dict may have, in the order of the text: those of a frame, and those of a dict inside it. The names of
+# what ends have no word of their own.
+OF_FRAMES = [*range(1, 6), *range(10, 20), 40, *range(20, 24), 27, 28, 24, 25, 26, *range(60, 70), 30, 29, 41, 42, 44, 45]
+OF_FRAMES += [48, 49, 93, 94, 84, 85, 80, 81, 82, *range(86, 93), 50, *range(110, 114), 117, 83, 31, 51]
+OF_ITEMS = [41, 46, 47, 80, 81, 82, 93, 94, 111, 112, 113, 117, 119, 83]
+LIST_END, ITEM_END, VALUE, VALUE_END, PROPERTY_ERROR_END, GROUP_END = 114, 116, 117, 118, 120, 122
+
+# The service choices, which are the numbers of the words of services.
+CHOICES = {60: 12, 61: 14, 62: 15, 63: 16, 64: 8, 65: 0, 66: 5, 67: 1, 68: 2, 69: 0}
+
+
 class Refused(Exception):
     """Octets are not accepted: `why` is the name of the reason, `place` the offset."""
 
     def __init__(self, why, place, side=None):
         super().__init__(f"{side + ': ' if side else ''}{why} at {place}")
         self.why, self.place, self.side = why, place, side
+
+
+class RefusedField(Exception):
+    """A dict is that of no frame: `why` is the name of the reason, `path` what of it is at fault, as `results[2].value`.
+    The path is empty if something of the frame itself is not there."""
+
+    def __init__(self, why, path):
+        super().__init__(f"{why} at {path or 'the end'}")
+        self.why, self.path = why, path
 
 
 class CutRecord(Exception):
@@ -89,8 +114,9 @@ class Bactool:
         self.library.bactool_name.restype = ctypes.c_size_t
         fields = [ctypes.POINTER(Field), ctypes.c_size_t]
         self.library.bactool_decode.argtypes = octets + octets + fields + outcome
+        self.library.bactool_encode.argtypes = fields + octets + octets + outcome
         self.words = {}
-        for name in ("check", "normalise", "decode", "show", "same_meaning", "version"):
+        for name in ("check", "normalise", "decode", "encode", "show", "same_meaning", "version"):
             getattr(self.library, f"bactool_{name}").restype = ctypes.c_uint32
 
     def check(self, octets, strict=False):
@@ -101,11 +127,12 @@ class Bactool:
 
     def normalise(self, octets):
         """Returns the canonical octets of the frame."""
+        octets = bytes(octets)
         return self._written(self.library.bactool_normalise, octets, len(octets))
 
     def show(self, octets):
         """Returns the text of the frame."""
-        return self._written(self.library.bactool_show, octets, 256).decode()
+        return self._written(self.library.bactool_show, bytes(octets), 256).decode()
 
     def decode(self, octets):
         """Returns the frame as a dict, which says all that its text says, and of which JSON can be made.
@@ -141,6 +168,23 @@ class Bactool:
         fields = (Field * most)()
         self._accepted(self.library.bactool_decode(octets, len(octets), out, len(octets), fields, most, outcome), outcome)
         return self._nested(out.raw, fields[: outcome.fields])
+
+    def encode(self, frame):
+        """Returns the canonical octets of a frame: a dict as `decode` returns it, in which the keys may have any order.
+
+        What is left out is 0 for `prio`, `sa` and `segs`, 5 (1476 octets) for `resp`, 255 for `hops`, and for `reply` 1 in
+        requests that are confirmed and else 0. Nothing else has a default. A Real or a Double may be a float alone. Where
+        both are there, the bits count."""
+        said = Said(self)
+        said.put_frame(frame)
+        fields, octets = (Field * len(said.fields))(*said.fields), bytes(said.octets)
+        call = lambda _, count, out, room, outcome: self.library.bactool_encode(
+            fields, count, octets, len(octets), out, room, outcome
+        )
+        try:
+            return self._written(call, fields, len(octets) + 16 * len(fields))
+        except Refused as refusal:
+            raise RefusedField(refusal.why, (said.paths + [""])[refusal.place]) from None
 
     def same_meaning(self, left, right):
         """Returns whether both inputs spell one frame."""
@@ -201,7 +245,7 @@ class Bactool:
 
     def _written(self, call, octets, room):
         """Calls with that room, and once more with the room that is wanted."""
-        outcome, octets = Outcome(), bytes(octets)
+        outcome = Outcome()
         for _ in range(2):
             # One octet more than the room, since no buffer is empty.
             out = ctypes.create_string_buffer(room + 1)
@@ -219,6 +263,183 @@ class Bactool:
             side = {LEFT_REFUSED: "left", RIGHT_REFUSED: "right"}.get(code)
             raise Refused(self.reason(outcome.why), outcome.place, side)
         return code
+
+
+class Said:
+    """The fields that a dict says, their contents, and the path of each."""
+
+    def __init__(self, tool):
+        self.tool, self.fields, self.octets, self.paths = tool, [], bytearray(), []
+        self.elements = {tool.name(number): number for number in [GROUP, *range(NULL, CONTEXT_PRIMITIVE + 1)]}
+
+    def put(self, path, name, number=0, contents=b""):
+        """Appends a field."""
+        if not isinstance(number, int) or not 0 <= number < 1 << 64:
+            raise RefusedField("Number", path)
+        self.fields.append(Field(name, number, len(self.octets), 0, len(contents)))
+        self.paths.append(path)
+        self.octets += contents
+
+    def put_frame(self, frame):
+        """Appends the fields of a frame, and what was left out of it."""
+        if not isinstance(frame, dict):
+            raise RefusedField("Contents", "")
+        confirmed = not frame.keys().isdisjoint(("conf", "conf-seg"))
+        defaults = {"prio": 0, "reply": int(confirmed)}
+        if "dest" in frame:
+            defaults["hops"] = 255
+        if confirmed:
+            defaults.update(sa=0, segs=0, resp=5)
+        self.put_dict("", {**defaults, **frame}, OF_FRAMES)
+
+    def put_dict(self, path, said, names):
+        """Appends the fields of a dict, in the order of the text."""
+        if not isinstance(said, dict):
+            raise RefusedField("Contents", path)
+        words = {self.tool.name(name): name for name in names}
+        for word in said:
+            if word not in words:
+                raise RefusedField("Name", joined(path, word))
+        for word, name in words.items():
+            if word in said:
+                self.put_said(joined(path, word), name, said[word])
+
+    def put_said(self, path, name, value):
+        """Appends the fields of a key and its value."""
+        if name == VALUE:
+            self.put(path, name)
+            self.put_elements(path, value)
+            self.put(path, VALUE_END)
+        elif name in LISTS:
+            self.put_list(path, name, value)
+        elif name == PROPERTY_ERROR:
+            self.put(path, name)
+            self.put_dict(path, value, OF_ITEMS)
+            self.put(path, PROPERTY_ERROR_END)
+        elif name in WORDS:
+            if value is not True:
+                raise RefusedField("Number", path)
+            self.put(path, name, CHOICES.get(name, 0))
+        elif name in OBJECTS:
+            self.put(path, name, identified(path, value))
+        elif name in ADDRESSES:
+            network, slash, address = value.partition("/") if isinstance(value, str) else ("", "", "")
+            if not slash or not is_decimal(network):
+                raise RefusedField("Number", path)
+            self.put(path, name, int(network), b"" if address == "*" else octets_of(path, address))
+        elif name in CONTENTS:
+            self.put(path, name, 0, octets_of(path, value))
+        else:
+            self.put(path, name, value)
+
+    def put_list(self, path, name, items):
+        """Appends the fields of a list."""
+        if not isinstance(items, list):
+            raise RefusedField("Contents", path)
+        self.put(path, name)
+        for index, item in enumerate(items):
+            inside = f"{path}[{index}]"
+            if name == NETWORKS:
+                self.put(inside, LISTED_NETWORK, item)
+            else:
+                self.put(inside, ITEM)
+                self.put_dict(inside, item, OF_ITEMS)
+                self.put(inside, ITEM_END)
+        self.put(path, LIST_END)
+
+    def put_elements(self, path, pairs):
+        """Appends the fields of the elements of an open value, or of a group."""
+        if not isinstance(pairs, list):
+            raise RefusedField("Contents", path)
+        for index, pair in enumerate(pairs):
+            inside = f"{path}[{index}]"
+            if not isinstance(pair, (list, tuple)) or len(pair) != 2:
+                raise RefusedField("Contents", inside)
+            name, value = self.elements.get(pair[0]) if isinstance(pair[0], str) else None, pair[1]
+            if name is None:
+                raise RefusedField("Name", inside)
+            if name == GROUP:
+                tag, elements = parts(inside, value, "tag", "value")
+                self.put(inside, GROUP, tag)
+                self.put_elements(inside, elements)
+                self.put(inside, GROUP_END, tag)
+            else:
+                self.put(inside, name, *number_and_contents(inside, name, value))
+
+
+def joined(path, word):
+    return f"{path}.{word}" if path else word
+
+
+def parts(path, value, *words):
+    """Returns what a dict has under these words alone."""
+    if not isinstance(value, dict) or value.keys() != set(words):
+        raise RefusedField("Contents", path)
+    return [value[word] for word in words]
+
+
+def is_decimal(text):
+    return text.isascii() and text.isdigit()
+
+
+def octets_of(path, text):
+    """Returns the octets of hexadecimal digits."""
+    if not isinstance(text, str) or not text.isalnum() and text:
+        raise RefusedField("Contents", path)
+    try:
+        return bytes.fromhex(text)
+    except ValueError:
+        raise RefusedField("Contents", path) from None
+
+
+def identified(path, text):
+    """Returns the 32 bits of an object identifier, of its type and its instance."""
+    kind, colon, instance = text.partition(":") if isinstance(text, str) else ("", "", "")
+    if not colon or not is_decimal(kind) or not is_decimal(instance) or int(kind) > 1023 or int(instance) > 0x3FFFFF:
+        raise RefusedField("Number", path)
+    return int(kind) << 22 | int(instance)
+
+
+def bits_of(path, name, value):
+    """Returns the bits of a Real or a Double: its digits, or those of a float."""
+    if isinstance(value, dict) and "bits" in value:
+        bits = octets_of(path, value["bits"])
+        if len(bits) != (4 if name == REAL else 8):
+            raise RefusedField("Number", path)
+        return int.from_bytes(bits, "big")
+    try:
+        return int.from_bytes(struct.pack(">f" if name == REAL else ">d", value), "big")
+    except (struct.error, OverflowError):
+        raise RefusedField("Number", path) from None
+
+
+def number_and_contents(path, name, value):
+    """Returns the number and the contents of the field of an element that is no group."""
+    if name == NULL:
+        return (0, b"") if value is None else (None, b"")
+    if name == SIGNED:
+        inside = isinstance(value, int) and -(1 << 63) <= value < 1 << 63
+        return value % (1 << 64) if inside else None, b""
+    if name in (REAL, DOUBLE):
+        return bits_of(path, name, value), b""
+    if name == CHARACTER_STRING:
+        if isinstance(value, str):
+            return 0, value.encode(errors="surrogatepass")
+        number, octets = parts(path, value, "set", "octets")
+        return number, octets_of(path, octets)
+    if name == BIT_STRING:
+        if not isinstance(value, str) or value.strip("01"):
+            raise RefusedField("Contents", path)
+        size = (len(value) + 7) // 8
+        return len(value), int(value.ljust(8 * size, "0") or "0", 2).to_bytes(size, "big")
+    if name in (OCTET_STRING, DATE, TIME_OF_DAY):
+        return 0, octets_of(path, value)
+    if name == OBJECT_IDENTIFIER:
+        return identified(path, value), b""
+    if name == CONTEXT_PRIMITIVE:
+        tag, octets = parts(path, value, "tag", "octets")
+        return tag, octets_of(path, octets)
+    return value, b""
 
 
 def digits(octets):
@@ -306,12 +527,34 @@ def run(job, tool, file):
     return status
 
 
+def encode(tool, lines):
+    """Writes a record for each line of JSON, up to the first one that is refused. Returns the status."""
+    status = 0
+    for number, line in enumerate(lines, 1):
+        try:
+            octets = tool.encode(json.loads(line))
+            sys.stdout.buffer.write(len(octets).to_bytes(2, "big") + octets)
+        except RefusedField as refusal:
+            print(f"bactool.py: line {number}: refused {refusal}", file=sys.stderr)
+            status = 1
+            break
+        except (ValueError, TypeError, OverflowError) as fault:
+            print(f"bactool.py: line {number}: {fault}", file=sys.stderr)
+            status = 2
+            break
+    sys.stdout.flush()
+    return status
+
+
 def main():
     words = sys.argv[1:]
-    if not 1 <= len(words) <= 2 or words[0] not in ("check", "show", "normalise", "json"):
+    if not 1 <= len(words) <= 2 or words[0] not in ("check", "show", "normalise", "json", "encode"):
         print("usage: bactool.py check|show|normalise|json [LIBRARY] < FRAMES", file=sys.stderr)
+        print("       bactool.py encode [LIBRARY] < LINES", file=sys.stderr)
         return 2
     try:
+        if words[0] == "encode":
+            return encode(Bactool(*words[1:]), sys.stdin.buffer)
         return run(words[0], Bactool(*words[1:]), sys.stdin.buffer)
     except (OSError, MemoryError) as fault:
         print(f"bactool.py: {fault or 'out of memory'}", file=sys.stderr)

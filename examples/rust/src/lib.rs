@@ -1,4 +1,4 @@
-//! Safe Rust over libbactool: a function for each of its eight calls. `include/bactool.h` says what each call does.
+//! Safe Rust over libbactool: a function for each of its nine calls. `include/bactool.h` says what each call does.
 
 pub mod names;
 
@@ -33,6 +33,8 @@ extern "C" {
     fn bactool_same_meaning(left: *const u8, left_length: usize, right: *const u8, right_length: usize, outcome: &mut Outcome) -> u32;
     fn bactool_decode(octets: *const u8, length: usize, out: *mut u8, room: usize, fields: *mut Part, most: usize,
         outcome: &mut Outcome) -> u32;
+    fn bactool_encode(fields: *const Part, count: usize, octets: *const u8, length: usize, out: *mut u8, room: usize,
+        outcome: &mut Outcome) -> u32;
     fn bactool_name(name: u32, out: *mut u8, room: usize) -> usize;
     fn bactool_reason(why: u32, out: *mut u8, room: usize) -> usize;
     fn bactool_version() -> u32;
@@ -45,7 +47,8 @@ const DIFFERENT: u32 = 2;
 const RIGHT_REFUSED: u32 = 5;
 const NO_ROOM: u32 = 6;
 
-/// Why octets are not accepted, or that memory was refused: a reason by its number in the header, and the offset.
+/// Why octets or fields are not accepted, or that memory was refused: a reason by its number in the header, and the offset
+/// or the index.
 #[derive(Clone, Copy, Debug, PartialEq, Eq)]
 pub struct Refusal {
     pub why: u32,
@@ -146,6 +149,58 @@ pub fn decode(octets: &[u8]) -> Result<Frame, Refusal> {
     out.truncate(outcome.count);
     parts.truncate(outcome.fields);
     Ok(Frame { octets: out, parts })
+}
+
+/// The fields of a frame that is made, in the order of its text: those of a frame that was read, or one's own.
+#[derive(Clone, Default)]
+pub struct Builder {
+    octets: Vec<u8>,
+    parts: Vec<Part>,
+}
+
+impl From<Frame> for Builder {
+    fn from(frame: Frame) -> Builder {
+        let Frame { octets, parts } = frame;
+        Builder { octets, parts }
+    }
+}
+
+impl Builder {
+    /// Returns no fields.
+    pub fn new() -> Builder {
+        Builder::default()
+    }
+
+    /// Appends a field with this name, one of the numbers in `names`, and this number.
+    pub fn say(self, name: u32, number: u64) -> Builder {
+        self.hold(name, number, &[])
+    }
+
+    /// Appends a field that has contents too.
+    pub fn hold(mut self, name: u32, number: u64, contents: &[u8]) -> Builder {
+        let (place, length) = (self.octets.len(), contents.len());
+        self.octets.extend_from_slice(contents);
+        self.parts.push(Part { name, number, place, head: 0, length });
+        self
+    }
+
+    /// Gives each field with this name another number.
+    pub fn set(mut self, name: u32, number: u64) -> Builder {
+        for part in self.parts.iter_mut().filter(|part| part.name == name) {
+            part.number = number;
+        }
+        self
+    }
+
+    /// Returns the canonical octets of the frame that the fields say. The place of a refusal is the index of a field.
+    pub fn encode(&self) -> Result<Vec<u8>, Refusal> {
+        let (parts, count) = (self.parts.as_ptr(), self.parts.len());
+        written(self.octets.len() + 16 * count, |out, outcome| {
+            let (octets, length) = (self.octets.as_ptr(), self.octets.len());
+            // SAFETY: as above, of two vectors.
+            unsafe { bactool_encode(parts, count, octets, length, out.as_mut_ptr(), out.len(), outcome) }
+        })
+    }
 }
 
 /// Returns the text of the frame.

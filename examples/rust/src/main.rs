@@ -1,6 +1,8 @@
 //! `bactool check|show|normalise|values < FRAMES`: writes what the program `bactool` writes of a frame file on standard
-//! input, or what `examples/c/values.c` prints of it. The status is that of `bactool`: 0, 1 if a record is refused, and 2
-//! if the words, the input or the output are at fault.
+//! input, or what `examples/c/values.c` prints of it. `bactool fields` reads nothing, and writes what `examples/c/fields.c`
+//! prints. The status is that of `bactool`: 0, 1 if a record is refused, and 2 if the words, the input or the output are at
+//! fault.
+mod fields;
 mod values;
 
 use bactool::Refusal;
@@ -23,12 +25,27 @@ fn main() -> ExitCode {
         ["show"] => Job::Show,
         ["normalise"] => Job::Normalise,
         ["values"] => Job::Values,
+        ["fields"] => return ended(write_fields()),
         _ => {
             eprintln!("usage: bactool check|show|normalise|values < FRAMES");
+            eprintln!("       bactool fields");
             return ExitCode::from(2);
         }
     };
-    match run(job) {
+    ended(run(job))
+}
+
+/// Writes the frames that are made of fields. None is refused.
+fn write_fields() -> io::Result<bool> {
+    let mut output = io::stdout().lock();
+    fields::write_frames(&mut output)?;
+    output.flush()?;
+    Ok(false)
+}
+
+/// Returns the status of a run, by whether a record was refused, or reports its fault.
+fn ended(run: io::Result<bool>) -> ExitCode {
+    match run {
         Ok(false) => ExitCode::SUCCESS,
         Ok(true) => ExitCode::FAILURE,
         Err(fault) => {
