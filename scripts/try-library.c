@@ -1,6 +1,6 @@
 /*
  * Hostile use of libbactool, for scripts/try-library: `try-library COUNT < FRAMES` tries each record of a file of frames and
- * then COUNT random inputs, in four threads. All octets that are passed end where a page begins that must not be
+ * then COUNT random inputs, in four threads, and of each that is accepted its fields with random changes. All octets that are passed end where a page begins that must not be
  * touched, so a fault of memory ends the program. It prints a line for each thing that is wrong, and one at the end.
  *
  * It is linked with --wrap for malloc and realloc, so that memory can be refused.
@@ -648,6 +648,126 @@ static size_t draw(uint64_t *state, uint8_t *input)
     return length;
 }
 
+/* ---- random fields */
+
+static bool has_contents(uint32_t name)
+{
+    switch (name) {
+    case BACTOOL_FIELD_DESTINATION:
+    case BACTOOL_FIELD_SOURCE:
+    case BACTOOL_FIELD_OCTETS:
+    case BACTOOL_FIELD_PORT_INFO:
+    case BACTOOL_FIELD_DATA:
+    case BACTOOL_FIELD_OCTET_STRING:
+    case BACTOOL_FIELD_CHARACTER_STRING:
+    case BACTOOL_FIELD_BIT_STRING:
+    case BACTOOL_FIELD_DATE:
+    case BACTOOL_FIELD_TIME_OF_DAY:
+    case BACTOOL_FIELD_CONTEXT_PRIMITIVE:
+        return true;
+    default:
+        return false;
+    }
+}
+
+/* Fields that are accepted are those of the frame whose octets are written. */
+static void try_said(struct bench bench, const struct bactool_field *fields, size_t most, const uint8_t *octets, size_t length,
+                     size_t count)
+{
+    struct bactool_outcome told = UNTOLD;
+    uint8_t *out = cleared(bench.right, count);
+    EXPECT(bactool_encode(fields, most, octets, length, out, count, &told) == BACTOOL_OK && told.count == count);
+    struct bactool_field *found = cleared_fields(bench, most);
+    EXPECT(bactool_decode(out, count, cleared(bench.left, count), count, found, most, &told) == BACTOOL_OK);
+    EXPECT(tells(told, 0, 0, count, most));
+    for (size_t k = 0; k < most; k++) {
+        EXPECT(found[k].name == fields[k].name && found[k].number == fields[k].number);
+        if (!has_contents(fields[k].name))
+            continue;
+        const uint8_t *said = octets + fields[k].place + fields[k].head, *written = out + found[k].place + found[k].head;
+        EXPECT(found[k].length == fields[k].length && memcmp(said, written, found[k].length) == 0);
+    }
+}
+
+/* Encodes fields. If they are refused, the fields before the index are all of a frame, or too few, as shorter ones are;
+   and with one more field, or with all, the refusal is the same. */
+static void try_fields(struct bench bench, const struct bactool_field *fields, size_t most, const uint8_t *octets,
+                       size_t length, size_t fewer)
+{
+    struct bactool_outcome told = UNTOLD, front = UNTOLD;
+    uint32_t code = bactool_encode(fields, most, octets, length, NULL, 0, &told);
+    if (code == BACTOOL_NO_ROOM) {
+        try_said(bench, fields, most, octets, length, told.count);
+        return;
+    }
+    EXPECT(code == BACTOOL_REFUSED && told.place <= most && says(told, told.why, told.place, 0));
+    EXPECT((told.why == BACTOOL_SHORT) == (told.place == most));
+    code = bactool_encode(fields, told.place, octets, length, NULL, 0, &front);
+    bool whole = code == BACTOOL_NO_ROOM;
+    EXPECT(whole || (code == BACTOOL_REFUSED && says(front, BACTOOL_SHORT, told.place, 0)));
+    fewer %= told.place + 1;
+    code = bactool_encode(fields, fewer, octets, length, NULL, 0, &front);
+    EXPECT(code == BACTOOL_NO_ROOM || (code == BACTOOL_REFUSED && says(front, BACTOOL_SHORT, fewer, 0)));
+    if (told.place == most)
+        return;
+    EXPECT((told.why == BACTOOL_TRAILING) == whole);
+    code = bactool_encode(fields, told.place + 1, octets, length, NULL, 0, &front);
+    EXPECT(code == BACTOOL_REFUSED && says(front, told.why, told.place, 0));
+}
+
+/* A field by chance, near those that frames have. */
+static struct bactool_field drawn_field(uint64_t *state, size_t length)
+{
+    uint64_t number = drawn(state) % 4 == 0 ? drawn(state) : drawn(state) % 20;
+    return (struct bactool_field){(uint32_t)(drawn(state) % 150), number, drawn(state) % (length + 2), 0, drawn(state) % 4};
+}
+
+/* Changes fields at one place. Returns how many there are then. */
+static size_t change(uint64_t *state, struct bactool_field *fields, size_t most, size_t length)
+{
+    size_t place = drawn(state) % most;
+    struct bactool_field field = fields[place];
+    switch (drawn(state) % 7) {
+    case 0:
+        memmove(fields + place, fields + place + 1, (most - place - 1) * sizeof *fields);
+        return most - 1;
+    case 1:
+        memmove(fields + place + 1, fields + place, (most - place) * sizeof *fields);
+        return most + 1;
+    case 2:
+        fields[place] = fields[most - 1];
+        fields[most - 1] = field;
+        return most;
+    case 3:
+        fields[place].number = drawn_field(state, length).number;
+        return most;
+    case 4:
+        fields[place].place = (size_t)drawn(state);
+        return most;
+    case 5:
+        fields[place].length = drawn(state) % 8;
+        return most;
+    default:
+        fields[place] = drawn_field(state, length);
+        return most;
+    }
+}
+
+/* The fields of octets that are accepted, with one or two changes; or one time in eight fields by chance. */
+static void try_drawn_fields(struct bench bench, uint64_t *state, const uint8_t *input, size_t length, uint8_t *canonical)
+{
+    struct bactool_outcome told = UNTOLD;
+    EXPECT(bactool_decode(input, length, canonical, LONGEST, bench.known, FIELDS - 2, &told) == BACTOOL_OK);
+    size_t most = told.fields, count = told.count;
+    if (drawn(state) % 8 == 0)
+        for (most = 1 + drawn(state) % 12, length = 0; length < most; length++)
+            bench.known[length] = drawn_field(state, count);
+    most = change(state, bench.known, most, count);
+    if (drawn(state) % 2 == 0 && most > 0)
+        most = change(state, bench.known, most, count);
+    try_fields(bench, bench.known, most, canonical, count, (size_t)drawn(state));
+}
+
 struct share {
     uint64_t state;
     unsigned long count, accepted;
@@ -657,11 +777,15 @@ static void *try_share(void *given)
 {
     struct share *share = given;
     struct bench bench = new_bench();
-    uint8_t *input = __real_malloc(LONGEST + 16);
+    uint8_t *input = __real_malloc(LONGEST + 16), *canonical = __real_malloc(LONGEST);
     for (unsigned long k = 0; k < share->count; k++) {
         size_t length = draw(&share->state, input);
-        share->accepted += try_input(bench, input, length, false);
+        if (!try_input(bench, input, length, false))
+            continue;
+        share->accepted++;
+        try_drawn_fields(bench, &share->state, input, length, canonical);
     }
+    free(canonical);
     free(input);
     return NULL;
 }
