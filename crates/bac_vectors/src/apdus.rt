@@ -12,15 +12,15 @@ pub fn told(alloc: Global, octets: &[u8]) -> Result<Told, OutOfMemory> {
     match decode_apdu_marked(alloc, octets) {
         Ok((apdu, mark)) => {
             if mark.is_some() && is_canonical_apdu(alloc, octets) {
-                return Ok(Told::Otherwise("is_canonical_apdu"));
+                return Ok(Told::Differs("is_canonical_apdu"));
             }
             if !is_like(alloc, octets, &apdu)? {
-                return Ok(Told::Otherwise("decode_apdu, or ==, or clone"));
+                return Ok(Told::Differs("decode_apdu, or ==, or clone"));
             }
             written(alloc, &apdu, mark)
         }
         Err(refusal) if is_refused(alloc, octets, refusal) => Ok(Told::Refused(refusal)),
-        Err(_) => Ok(Told::Otherwise("decode_apdu")),
+        Err(_) => Ok(Told::Differs("decode_apdu")),
     }
 }
 

@@ -62,7 +62,7 @@ impl Change {
     /// Returns true if the fields of a frame with these octets may come to this, once they are changed so at this field.
     fn may_give(self, found: &Made, index: usize, field: &Field, octets: &[u8]) -> bool {
         match found {
-            Made::Otherwise(_) => false,
+            Made::Differs(_) => false,
             Made::Octets(written) => match self {
                 Change::Number => has_any_number(field.name),
                 Change::Place => !has_contents(field.name) && written.as_slice() == octets,

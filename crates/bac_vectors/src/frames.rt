@@ -15,7 +15,7 @@ pub fn told(alloc: Global, octets: &[u8]) -> Result<Told, OutOfMemory> {
     match decode_marked(alloc, octets) {
         Ok((frame, mark)) => written(alloc, octets, &frame, mark),
         Err(refusal) => match accepting(alloc, octets, refusal)? {
-            Some(call) => Ok(Told::Otherwise(call)),
+            Some(call) => Ok(Told::Differs(call)),
             None => Ok(Told::Refused(refusal)),
         },
     }

@@ -15,7 +15,7 @@ pub fn found(alloc: Global, octets: &[u8]) -> Result<String, RowFault> {
     match read_head(octets) {
         Ok((head, taken)) => {
             if let Some(call) = dissenting(octets, head, taken) {
-                return Ok(format!(in alloc; "{call} tells otherwise")?);
+                return Ok(format!(in alloc; "{call} says something else")?);
             }
             let words = words_of(alloc, head)?;
             let mark = mark_of(alloc, octets.get(..taken).unwrap_or(octets))?;
@@ -46,7 +46,7 @@ fn mark_of(alloc: Global, spelling: &[u8]) -> Result<String, AllocError> {
     match marked(spelling) {
         Ok(None) => Ok(String::new(alloc)),
         Ok(Some(place)) => format!(in alloc; ", differs at {place}"),
-        Err(call) => format!(in alloc; ", {call} tells otherwise"),
+        Err(call) => format!(in alloc; ", {call} says something else"),
     }
 }
 

@@ -16,7 +16,7 @@ pub enum Made {
     /// They are those of no frame.
     Refused(FieldRefusal),
     /// This call reports something else.
-    Otherwise(&'static str),
+    Differs(&'static str),
 }
 
 impl Made {
@@ -25,7 +25,7 @@ impl Made {
         match self {
             Made::Octets(octets) => digits(alloc, octets),
             Made::Refused(refusal) => format!(in alloc; "{refusal}"),
-            Made::Otherwise(call) => format!(in alloc; "{call} tells otherwise"),
+            Made::Differs(call) => format!(in alloc; "{call} says something else"),
         }
     }
 }
@@ -36,9 +36,9 @@ pub fn make(alloc: Global, fields: &[Field], octets: &[u8]) -> Result<Made, OutO
     match append_octets(fields, octets, &mut out) {
         Ok(()) => accepted(alloc, fields, octets, &out),
         Err(refusal) if refusal.why == FieldWhy::OutOfMemory => Err(OutOfMemory),
-        Err(_) if !is_appended(&out, &[]) => Ok(Made::Otherwise("append_octets leaves octets")),
+        Err(_) if !is_appended(&out, &[]) => Ok(Made::Differs("append_octets leaves octets")),
         Err(refusal) => match dissenting(alloc, fields, octets, refusal)? {
-            Some(call) => Ok(Made::Otherwise(call)),
+            Some(call) => Ok(Made::Differs(call)),
             None => Ok(Made::Refused(refusal)),
         },
     }
@@ -52,16 +52,16 @@ fn accepted(
     out: &[u8],
 ) -> Result<Made, OutOfMemory> {
     let Some((_, written)) = out.split_first() else {
-        return Ok(Made::Otherwise("append_octets takes octets away"));
+        return Ok(Made::Differs("append_octets takes octets away"));
     };
     let Ok(frame) = decode_frame(alloc, written) else {
-        return Ok(Made::Otherwise("append_octets makes no frame"));
+        return Ok(Made::Differs("append_octets makes no frame"));
     };
     if !says(alloc, &frame, written, fields, octets)? {
-        return Ok(Made::Otherwise("append_octets makes another frame"));
+        return Ok(Made::Differs("append_octets makes another frame"));
     }
     if !matches!(frame_of(alloc, fields, octets), Ok(made) if made == frame) {
-        return Ok(Made::Otherwise("frame_of"));
+        return Ok(Made::Differs("frame_of"));
     }
     Ok(Made::Octets(Vec::from_slice(alloc, written)?))
 }

@@ -12,7 +12,7 @@ pub fn found(alloc: Global, inputs: &str) -> Result<String, RowFault> {
     let (left, right) = (octets_of(alloc, left)?, octets_of(alloc, right)?);
     let words = match same_meaning(alloc, &left, &right) {
         Ok(same) if are_equal(alloc, &left, &right) != same => {
-            String::from_str(alloc, "== answers otherwise")?
+            String::from_str(alloc, "== says something else")?
         }
         Ok(true) => String::from_str(alloc, "same")?,
         Ok(false) => String::from_str(alloc, "different")?,

@@ -19,13 +19,11 @@ pub fn told(alloc: Global, number: u8, octets: &[u8]) -> Result<Told, RowFault> 
         return Err(RowFault::Mistake);
     }
     match read_any_marked(alloc, octets, number) {
-        Ok((_, taken, _)) if taken != octets.len() => {
-            Ok(Told::Otherwise("the end of the value"))
-        }
+        Ok((_, taken, _)) if taken != octets.len() => { Ok(Told::Differs("the end of the value")) }
         Ok((value, _, mark)) => Ok(written(alloc, number, octets, &value, mark)?),
         Err(refusal) => Ok(match read_any(alloc, octets, number) {
             Err(plain) if plain == refusal => Told::Refused(refusal),
-            _ => Told::Otherwise("read_any"),
+            _ => Told::Differs("read_any"),
         }),
     }
 }

@@ -13,17 +13,17 @@ pub fn told(alloc: Global, kind: Kind, choice: u8, octets: &[u8]) -> Result<Told
     match decode_service_marked(alloc, kind, choice, octets) {
         Ok((service, mark)) => {
             if service.kind() != kind || service.choice() != choice {
-                return Ok(Told::Otherwise("kind or choice"));
+                return Ok(Told::Differs("kind or choice"));
             }
             if !is_like(alloc, octets, &service)? {
-                return Ok(Told::Otherwise("decode_service, or ==, or clone"));
+                return Ok(Told::Differs("decode_service, or ==, or clone"));
             }
             written(alloc, &service, mark)
         }
         Err(refusal) if is_refused(alloc, kind, choice, octets, refusal) => {
             Ok(Told::Refused(refusal))
         }
-        Err(_) => Ok(Told::Otherwise("decode_service")),
+        Err(_) => Ok(Told::Differs("decode_service")),
     }
 }
 

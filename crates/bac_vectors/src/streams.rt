@@ -20,29 +20,29 @@ const MOST_TOLD: usize = 16;
 /// words name the first way in which it gives something else. A long stream is not cut in two.
 pub fn found(alloc: Global, mode: Mode, stream: &[u8]) -> Result<String, RowFault> {
     let whole = fed(alloc, mode, &[stream])?;
-    let otherwise = otherwise(alloc, mode, stream, &whole)?;
-    Ok(otherwise.unwrap_or(whole.words))
+    let difference = find_difference(alloc, mode, stream, &whole)?;
+    Ok(difference.unwrap_or(whole.words))
 }
 
 /// Returns the first way in which a stream gives something else than as a whole, and what it gives.
-fn otherwise(
+fn find_difference(
     alloc: Global,
     mode: Mode,
     stream: &[u8],
     whole: &Given,
 ) -> Result<Option<String>, RowFault> {
     if !is_run(alloc, mode, stream, whole) {
-        return Ok(Some(String::from_str(alloc, "a run tells otherwise")?));
+        return Ok(Some(String::from_str(alloc, "a run says something else")?));
     }
-    match cut_otherwise(alloc, mode, stream, whole)? {
+    match find_difference_when_cut(alloc, mode, stream, whole)? {
         Some(words) => Ok(Some(words)),
-        None => in_pieces_otherwise(alloc, mode, stream, whole),
+        None => find_difference_in_pieces(alloc, mode, stream, whole),
     }
 }
 
 /// Returns the first place where a stream that is cut there gives something else, and what it gives. A long stream is not
 /// cut.
-fn cut_otherwise(
+fn find_difference_when_cut(
     alloc: Global,
     mode: Mode,
     stream: &[u8],
@@ -61,7 +61,7 @@ fn cut_otherwise(
 }
 
 /// Returns the first size of pieces in which a stream gives something else, and what it gives.
-fn in_pieces_otherwise(
+fn find_difference_in_pieces(
     alloc: Global,
     mode: Mode,
     stream: &[u8],

@@ -37,7 +37,7 @@ fn push_line(frame: &Frame, line: &mut Vec<u8>) -> Result<(), OutOfMemory> {
 fn words_of(alloc: Global, octets: &[u8], line: &[u8]) -> Result<String, AllocError> {
     match record_of(alloc, octets)? {
         Some(record) if !is_shown(alloc, &record, line) => {
-            String::from_str(alloc, "run_show tells otherwise")
+            String::from_str(alloc, "run_show says something else")
         }
         _ => String::from_str(alloc, text_of(line)),
     }

@@ -11,14 +11,14 @@ pub enum Told {
     /// They are refused.
     Refused(Refusal),
     /// This call reports something else than the one that reports the place of the first difference.
-    Otherwise(&'static str),
+    Differs(&'static str),
 }
 
 impl Told {
     /// Returns what octets come to of which these are written, unless a call reports something else.
     pub fn unless(dissenting: Option<&'static str>, written: Vec<u8>, mark: Option<usize>) -> Told {
         match dissenting {
-            Some(call) => Told::Otherwise(call),
+            Some(call) => Told::Differs(call),
             None => Told::Written(written, mark),
         }
     }
@@ -48,7 +48,7 @@ impl Told {
                 marked(alloc, &digits, *mark)
             }
             Told::Refused(refusal) => format!(in alloc; "{refusal}"),
-            Told::Otherwise(call) => format!(in alloc; "{call} tells otherwise"),
+            Told::Differs(call) => format!(in alloc; "{call} says something else"),
         }
     }
 }

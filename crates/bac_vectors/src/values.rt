@@ -45,7 +45,7 @@ pub fn told(alloc: Global, name: &str, octets: &[u8]) -> Result<Told, RowFault> 
 fn told_of_prim<T: Primitive>(alloc: Global, octets: &[u8]) -> Result<Told, OutOfMemory> {
     let told = told_of::<T>(alloc, octets)?;
     if T::APP > 12 || !is_prim(alloc, T::APP, octets, &told)? {
-        return Ok(Told::Otherwise("Prim"));
+        return Ok(Told::Differs("Prim"));
     }
     Ok(told)
 }
@@ -109,7 +109,8 @@ fn written_of<T: Primitive>(
     agreed::<T>(alloc, octets, Told::Written(out, mark), is_counted)
 }
 
-/// Returns what octets come to, if the value counts what is written of it, and the calls that look at a front report the same.
+/// Returns what octets come to, if the value counts what is written of it, and the calls that look at a front report the
+/// same.
 fn agreed<T: Primitive>(
     alloc: Global,
     octets: &[u8],
@@ -117,10 +118,10 @@ fn agreed<T: Primitive>(
     is_counted: bool,
 ) -> Result<Told, OutOfMemory> {
     if !is_counted {
-        return Ok(Told::Otherwise("written_len"));
+        return Ok(Told::Differs("written_len"));
     }
     match dissenting::<T>(alloc, octets, &told)? {
-        Some(call) => Ok(Told::Otherwise(call)),
+        Some(call) => Ok(Told::Differs(call)),
         None => Ok(told),
     }
 }
