@@ -14,3 +14,10 @@ pub mod OneFrame
 mod FrameMaking
 mod WholeFrames
 mod SaidPlaces
+mod Once
+mod OnceValues
+mod OnceItems
+mod OnceServices
+mod OnceApdus
+mod OnceMessages
+mod OnceFrames

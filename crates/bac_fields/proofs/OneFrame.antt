@@ -48,7 +48,7 @@ contents_at k vs = (get_or vs k nothing).contents
 abbrev name_at : ℕ → List FieldValue → ℕ
 name_at k vs = number_of (get_or vs k nothing).name
 
-truth_same : (a b : Bool) → truth a ≡ truth b → a ≡ b
+pub truth_same : (a b : Bool) → truth a ≡ truth b → a ≡ b
 truth_same true true e = refl
 truth_same true false e = absurd (omega (arith, e))
 truth_same false true e = absurd (omega (arith, e))
@@ -117,7 +117,7 @@ keys a c e = sym (key_told a) ∙ ap (λ vs. min (name_at 0 vs) 18) e ∙ key_to
 abbrev request_head : ℕ → Bool → ℕ → ℕ → RequestHead
 request_head invoke sa segs resp = record { invoke = invoke; sa = sa; segs = segs; resp = resp }
 
-head_same : (a b : RequestHead) → a.invoke ≡ b.invoke → a.sa ≡ b.sa → a.segs ≡ b.segs → a.resp ≡ b.resp → a ≡ b
+pub head_same : (a b : RequestHead) → a.invoke ≡ b.invoke → a.sa ≡ b.sa → a.segs ≡ b.segs → a.resp ≡ b.resp → a ≡ b
 head_same a b e f g h =
     ap (λ i. request_head i a.sa a.segs a.resp) e ∙ ap (λ s. request_head b.invoke s a.segs a.resp) f ∙ ap (λ s. request_head b.invoke b.sa s a.resp) g ∙ ap (λ r. request_head b.invoke b.sa b.segs r) h
 

@@ -4,7 +4,9 @@ ghost use Rattle.std.specs.Prelude.{◌≡◌, ℕ, ◌+◌, ◌*◌, ◌^◌, �
 ghost use Rattle.bac_tag.specs.Spelling.{IsLeast};
 ghost use Rattle.bac_npdu.specs.Frames.{FrameValue, SpellsFrame};
 ghost use Rattle.bac_text.specs.FrameText.{text};
+ghost use Rattle.bac_fields.specs.declared.field.Field.{Field};
 ghost use Rattle.bac_fields.specs.FrameFields.{fields, frame_steps, placed_fields, FrameFits};
+ghost use Rattle.bac_fields.specs.FrameSymbols.{frame_said};
 ghost use Rattle.bac_fields.specs.Line.{printed};
 ghost use Rattle.bac_fields.specs.Places.{AreAt};
 ghost use Rattle.bac_fields.specs.Making.{AreFieldsOf};
@@ -45,3 +47,15 @@ pub fn frames_have_few_fields()
 pub fn frames_in_memory_fit()
     ensures { (f : FrameValue) (c : List ℕ) → IsLeast (SpellsFrame f) c → 2 * length c + 2 < 2 ^ 64 → FrameFits f }
 {}
+
+/// Two frames that some octets spell are the same if the same fields are theirs, by names, numbers and contents.
+pub fn what_fields_say_tells_the_frame()
+    ensures { (f g : FrameValue) (b c : List ℕ) → SpellsFrame f b → SpellsFrame g c → frame_said f ≡ frame_said g → f ≡ g }
+{}
+
+/// Fields are those of no two frames that some octets spell.
+pub fn fields_are_of_one_frame()
+    ensures { (octets : List ℕ) (l : List Field) (f g : FrameValue) (b c : List ℕ) → SpellsFrame f b → SpellsFrame g c → AreFieldsOf octets l f → AreFieldsOf octets l g → f ≡ g }
+{
+    what_fields_say_tells_the_frame();
+}

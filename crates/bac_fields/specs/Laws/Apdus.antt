@@ -14,7 +14,7 @@ use Rattle.bac_fields.specs.Laws.Languages.{stop_at_first}
 use Rattle.bac_fields.specs.Laws.Services.{ended, not_nothing}
 
 -- an APDU is one of its type
-type_of : (apdu : ApduValue) → (type : ApduType) × (v : SaidBy type) × (apdu_of type v ≡ apdu)
+pub type_of : (apdu : ApduValue) → (type : ApduType) × (v : SaidBy type) × (apdu_of type v ≡ apdu)
 type_of (apdus.confirmed_request head service) = (confirmed_request, (head, service), refl)
 type_of (apdus.unconfirmed_request service) = (unconfirmed_request, service, refl)
 type_of (apdus.simple_ack invoke choice) = (simple_ack, (invoke, choice), refl)
@@ -27,7 +27,7 @@ type_of (apdus.segment (Request head) seq size more choice piece) = (request_seg
 type_of (apdus.segment (Ack invoke) seq size more choice piece) = (ack_segment, (invoke, (seq, (size, (more, (choice, piece))))), refl)
 
 -- it begins with the name of its type
-begins_so : (type : ApduType) (v : SaidBy type) → (rest : List Symbol) × (said_by type v ≡ named (first_name type) ∷ rest)
+pub begins_so : (type : ApduType) (v : SaidBy type) → (rest : List Symbol) × (said_by type v ≡ named (first_name type) ∷ rest)
 begins_so confirmed_request v = (_, refl)
 begins_so unconfirmed_request v = (_, refl)
 begins_so simple_ack v = (_, refl)
@@ -39,7 +39,7 @@ begins_so abort v = (_, refl)
 begins_so request_segment v = (_, refl)
 begins_so ack_segment v = (_, refl)
 
-name_tells : (type : ApduType) → type_named (first_name type) ≡ Some type
+pub name_tells : (type : ApduType) → type_named (first_name type) ≡ Some type
 name_tells confirmed_request = refl
 name_tells unconfirmed_request = refl
 name_tells simple_ack = refl
@@ -63,7 +63,7 @@ name_leads abort = refl
 name_leads request_segment = refl
 name_leads ack_segment = refl
 
-some_same : {A : Type 0} (a b : A) → Some a ≡ Some b → a ≡ b
+pub some_same : {A : Type 0} (a b : A) → Some a ≡ Some b → a ≡ b
 some_same a b e = cc
 
 first_same : (m n : ℕ) (r s : List Symbol) → named m ∷ r ≡ named n ∷ s → m ≡ n

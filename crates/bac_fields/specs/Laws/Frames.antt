@@ -230,22 +230,22 @@ from_destination_said = maybe_said destination_said from_source_said (Unwritten 
 pub from_destination_lawful : Lawful (Language from_destination_said FromDestination) (destination_leads ++ (source_leads ++ body_leads))
 from_destination_lawful = maybe_lawful destination_said from_source_said (Unwritten destination_fits) FromSource destination_leads (source_leads ++ body_leads) destination_lawful from_source_lawful refl
 
-abbrev FrameParts : Type 0
+abbrev pub FrameParts : Type 0
 FrameParts = (ℕ × Bool) × (Option (SourceValue × ℕ) × (Option SourceValue × BodyValue))
 
 abbrev FromControl : FrameParts → List ℕ → Type 0
 FromControl = Joined (Unwritten control_fits) FromDestination
 
-abbrev from_control_said : FrameParts → List Symbol
+abbrev pub from_control_said : FrameParts → List Symbol
 from_control_said = pair_said control_said from_destination_said (Unwritten control_fits) FromDestination
 
 from_control_lawful : Lawful (Language from_control_said FromControl) (Some 1 ∷ [])
 from_control_lawful = pair_lawful control_said from_destination_said (Unwritten control_fits) FromDestination (Some 1 ∷ []) _ control_lawful from_destination_lawful
 
-abbrev parts_frame : FrameParts → FrameValue
+abbrev pub parts_frame : FrameParts → FrameValue
 parts_frame w = frame_of_parts (w.0, (w.1.0, w.1.1.0)) w.1.1.1
 
-said_is : (c : ℕ × Bool) (d : Option (SourceValue × ℕ)) (s : Option SourceValue) (body : BodyValue) → frame_said (frame_of_parts (c, (d, s)) body) ≡ from_control_said (c, (d, (s, body)))
+pub said_is : (c : ℕ × Bool) (d : Option (SourceValue × ℕ)) (s : Option SourceValue) (body : BodyValue) → frame_said (frame_of_parts (c, (d, s)) body) ≡ from_control_said (c, (d, (s, body)))
 said_is c None None body = refl
 said_is c None (Some s) body = refl
 said_is c (Some d) None body = refl

@@ -27,7 +27,7 @@ Messages = Language message_said SpellsMessage
 
 -- ---- the type of a message
 
-abbrev type_of : MessageValue → ℕ
+abbrev pub type_of : MessageValue → ℕ
 type_of (who_is_router network) = 0
 type_of (i_am_router networks) = 1
 type_of (i_could_be_router network performance) = 2
@@ -42,7 +42,7 @@ type_of what_is_network_number = 18
 type_of (network_number_is network flag) = 19
 type_of (opaque message) = message.kind
 
-message_begins : (message : MessageValue) → (rest : List Symbol) × (message_said message ≡ named 40 ∷ numbered (type_of message) ∷ rest)
+pub message_begins : (message : MessageValue) → (rest : List Symbol) × (message_said message ≡ named 40 ∷ numbered (type_of message) ∷ rest)
 message_begins (who_is_router network) = (_, refl)
 message_begins (i_am_router networks) = (_, refl)
 message_begins (i_could_be_router network performance) = (_, refl)
@@ -63,7 +63,7 @@ abbrev layout_without : Option ℕ → Layout
 layout_without None = plain
 layout_without (Some vendor) = vendored
 
-abbrev layout_of : MessageValue → Layout
+abbrev pub layout_of : MessageValue → Layout
 layout_of (who_is_router network) = who_is
 layout_of (i_am_router networks) = i_am
 layout_of (i_could_be_router network performance) = could_be
@@ -86,7 +86,7 @@ said_without : (kind : ℕ) (vendor : Option ℕ) (octets : List ℕ) → IsSaid
 said_without kind None octets = ((kind, octets), refl)
 said_without kind (Some vendor) octets = ((kind, (vendor, octets)), refl)
 
-said_in : (message : MessageValue) → IsSaid message (layout_of message)
+pub said_in : (message : MessageValue) → IsSaid message (layout_of message)
 said_in (who_is_router network) = (network, refl)
 said_in (i_am_router networks) = (networks, refl)
 said_in (i_could_be_router network performance) = ((network, performance), refl)
@@ -107,7 +107,7 @@ told_without : (kind : ℕ) (vendor : Option ℕ) → is_typed kind ≡ false �
 told_without kind None untyped is = ap (λ (b : Bool). cond b (typed_layout kind) (cond (nat_le 128 kind) vendored plain)) untyped ∙ ap (λ (b : Bool). cond b vendored plain) (lt-leb 128 kind is)
 told_without kind (Some vendor) untyped is = ap (λ (b : Bool). cond b (typed_layout kind) (cond (nat_le 128 kind) vendored plain)) untyped ∙ ap (λ (b : Bool). cond b vendored plain) (le-leb 128 kind is)
 
-layout_is : (message : MessageValue) → IsMessage message → layout_told (type_of message) ≡ layout_of message
+pub layout_is : (message : MessageValue) → IsMessage message → layout_told (type_of message) ≡ layout_of message
 layout_is (who_is_router network) h = refl
 layout_is (i_am_router networks) h = refl
 layout_is (i_could_be_router network performance) h = refl
