@@ -11,12 +11,23 @@ use crate::{BACTOOL_NO_MEMORY, BACTOOL_NO_ROOM, BACTOOL_OK, BACTOOL_REFUSED, Out
 use bac_fields::{Field, FieldRefusal, FieldWhy, append_octets};
 use std::alloc::Global;
 
+/// How many octets there is room for at first: as many as most frames need.
+const FIRST_ROOM: usize = 64;
+
+/// What is reported if memory is refused.
+const NO_MEMORY: FieldRefusal = FieldRefusal {
+    index: 0,
+    why: FieldWhy::OutOfMemory,
+};
+
 /// Returns the canonical octets of the frame that the fields say.
 fn octets_of(alloc: Global, fields: &[Field], octets: &[u8]) -> Result<Vec<u8>, FieldRefusal>
     ensures made { IfOk result (λ canonical. IsSaidBy octets.now fields.now canonical.items) }
     ensures refused { IfErr result (λ refusal. IsFieldRefusal octets.now fields.now refusal) }
 {
-    let mut canonical = Vec::new(alloc);
+    let Ok(mut canonical) = Vec::with_capacity(alloc, FIRST_ROOM) else {
+        return Err(NO_MEMORY);
+    };
     match append_octets(fields, octets, &mut canonical) {
         Ok(()) => Ok(canonical),
         Err(refusal) => Err(refusal),
