@@ -550,10 +550,19 @@ static void try_reasons(struct bench bench)
     try_text(bench, reason, UINT32_MAX, "");
 }
 
-enum { CALLS = 5 };
+enum { CALLS = 6 };
 
-/* One of the five calls that read a frame, with room for half a yard, and for some fields. */
-static uint32_t call(int job, struct bench bench, const uint8_t *octets, size_t length, struct bactool_outcome *told)
+/* The fields that octets come to, and the canonical octets. */
+struct said {
+    const struct bactool_field *fields;
+    const uint8_t *octets;
+    size_t count, length;
+};
+
+/* One of the five calls that read a frame, or the one that makes a frame of its fields, with room for half a yard, and for
+   some fields. */
+static uint32_t call(int job, struct bench bench, const uint8_t *octets, size_t length, struct said said,
+                     struct bactool_outcome *told)
 {
     uint8_t *out = cleared(bench.out, TEXT / 2);
     struct bactool_field *fields = cleared_fields(bench, SOME_FIELDS);
@@ -561,18 +570,22 @@ static uint32_t call(int job, struct bench bench, const uint8_t *octets, size_t 
            : job == 1 ? normalise(octets, length, out, TEXT / 2, told)
            : job == 2 ? show(octets, length, out, TEXT / 2, told)
            : job == 3 ? bactool_decode(octets, length, out, TEXT / 2, fields, SOME_FIELDS, told)
-                      : bactool_same_meaning(octets, length, octets, length, told);
+           : job == 4 ? bactool_same_meaning(octets, length, octets, length, told)
+                      : bactool_encode(said.fields, said.count, said.octets, said.length, out, TEXT / 2, told);
 }
 
 /* Each allocation refused in turn, with all after it or alone, till none is left. Until then a call reports it and writes
    nothing; where others are granted it may also do without, and then it ends as with all of them. */
 static void try_without_memory(struct bench bench, const uint8_t *input, size_t length)
 {
-    static uint8_t whole[TEXT / 2], all_fields[SOME_FIELDS * sizeof(struct bactool_field)];
+    static uint8_t whole[TEXT / 2], all_fields[SOME_FIELDS * sizeof(struct bactool_field)], canonical[LONGEST];
     const uint8_t *octets = placed(bench.left, input, length);
+    struct bactool_outcome read = {0, 0, 0, 0};
+    bactool_decode(octets, length, canonical, LONGEST, bench.known, FIELDS, &read);
+    struct said said = {bench.known, canonical, read.fields, read.count};
     for (int job = 0; job < 2 * CALLS; job++) {
         struct bactool_outcome wanted = UNTOLD;
-        uint32_t ends = call(job % CALLS, bench, octets, length, &wanted);
+        uint32_t ends = call(job % CALLS, bench, octets, length, said, &wanted);
         EXPECT(ends == BACTOOL_OK || ends == BACTOOL_TOLERATED || ends == BACTOOL_REFUSED
                || ends == BACTOOL_LEFT_REFUSED || (ends == BACTOOL_NO_ROOM && wanted.fields > SOME_FIELDS));
         memcpy(whole, bench.out.end - sizeof whole, sizeof whole);
@@ -583,7 +596,7 @@ static void try_without_memory(struct bench bench, const uint8_t *input, size_t 
             struct bactool_outcome told = UNTOLD;
             was_refused = false;
             left = refused;
-            uint32_t code = call(job % CALLS, bench, octets, length, &told);
+            uint32_t code = call(job % CALLS, bench, octets, length, said, &told);
             left = -1;
             refusals += was_refused;
             if (was_refused && (!alone || code == BACTOOL_NO_MEMORY)) {
