@@ -653,6 +653,8 @@ static size_t draw(uint64_t *state, uint8_t *input)
             length = place;
             break;
         default:
+            if (length == LONGEST)
+                break;
             memmove(input + place + 1, input + place, length - place);
             input[place] = (uint8_t)drawn(state);
             length++;
@@ -688,10 +690,10 @@ static void try_said(struct bench bench, const struct bactool_field *fields, siz
                      size_t count)
 {
     struct bactool_outcome told = UNTOLD;
-    uint8_t *out = cleared(bench.right, count);
+    uint8_t *out = cleared(bench.out, count);
     EXPECT(bactool_encode(fields, most, octets, length, out, count, &told) == BACTOOL_OK && told.count == count);
     struct bactool_field *found = cleared_fields(bench, most);
-    EXPECT(bactool_decode(out, count, cleared(bench.left, count), count, found, most, &told) == BACTOOL_OK);
+    EXPECT(bactool_decode(out, count, (uint8_t *)bench.line, TEXT, found, most, &told) == BACTOOL_OK);
     EXPECT(tells(told, 0, 0, count, most));
     for (size_t k = 0; k < most; k++) {
         EXPECT(found[k].name == fields[k].name && found[k].number == fields[k].number);
