@@ -3,6 +3,8 @@ use Rattle.std.specs.Prelude.{◌≡◌, ◌≢◌, ◌⊎◌, ℕ, ◌-◌, ◌
 use Rattle.std.specs.List.{AllByRecursion}
 use Rattle.hex.specs.Hex.{decode_of}
 use Rattle.bac_record.specs.Records.{IsRecord, LONGEST}
+use Rattle.bac_pack.specs.declared.faults.PackFault.{PackFault}
+use Rattle.bac_pack.specs.declared.faults.PackFault.TheVariants.{NotHex, RecordTooLong}
 
 -- ends a line
 abbrev pub LF : ℕ
@@ -16,7 +18,7 @@ CR = 13
 abbrev pub BLANK : ℕ
 BLANK = 32
 
--- the most octets of a line, before its LF
+-- the most octets of a line of digits, before its LF
 abbrev pub LONGEST_LINE : ℕ
 LONGEST_LINE = 200000
 
@@ -52,12 +54,12 @@ IsText lines text = (text ≡ ended lines)
     ⊎ ((front : List (List ℕ)) × (last : List ℕ) × (lines ≡ front ++ last ∷ []) × (last ≢ []) × (text ≡ ended front ++ last))
 
 -- no longer than a line may be
-abbrev pub IsShort : List ℕ → Type 0
-IsShort line = length line ≤ LONGEST_LINE
+abbrev pub IsShort : ℕ → List ℕ → Type 0
+IsShort longest line = length line ≤ longest
 
 -- the octets of a line
-abbrev pub IsLine : List ℕ → Type 0
-IsLine line = IsUnbroken line × IsShort line
+abbrev pub IsLine : ℕ → List ℕ → Type 0
+IsLine longest line = IsUnbroken line × IsShort longest line
 
 -- the line without one CR at its end
 abbrev pub without_return : List ℕ → List ℕ
@@ -71,14 +73,28 @@ without_blanks octets = filter (λ octet. not (octet == BLANK)) octets
 abbrev pub digits_of : List ℕ → List ℕ
 digits_of line = without_blanks (without_return line)
 
--- The line stands for this record: its digits, two an octet, are the record's octets.
-abbrev pub Packs : List ℕ → List ℕ → Type 0
-Packs line octets = (decode_of (digits_of line) ≡ Ok octets) × IsRecord octets
+-- The digits, two an octet, are the octets of a record.
+abbrev pub Spells : List ℕ → List ℕ → Type 0
+Spells digits octets = (decode_of digits ≡ Ok octets) × IsRecord octets
 
 -- The digits are an odd number, or another octet stands among them.
 abbrev pub IsNotHex : List ℕ → Type 0
-IsNotHex line = IsErr (decode_of (digits_of line))
+IsNotHex digits = IsErr (decode_of digits)
 
 -- hexadecimal, but more octets than a record may have
 abbrev pub IsTooLong : List ℕ → Type 0
-IsTooLong line = (octets : List ℕ) × (decode_of (digits_of line) ≡ Ok octets) × (LONGEST < length octets)
+IsTooLong digits = (octets : List ℕ) × (decode_of digits ≡ Ok octets) × (LONGEST < length octets)
+
+-- why the digits are those of no record
+abbrev pub SpellsNone : List ℕ → PackFault → Type 0
+SpellsNone digits (NotHex number) = IsNotHex digits
+SpellsNone digits (RecordTooLong number) = IsTooLong digits
+SpellsNone digits _ = ⊥
+
+-- The line stands for this record: its digits spell it.
+abbrev pub Packs : List ℕ → List ℕ → Type 0
+Packs line = Spells (digits_of line)
+
+-- The line stands for no record: its digits spell none.
+abbrev pub PacksNone : List ℕ → PackFault → Type 0
+PacksNone line = SpellsNone (digits_of line)

@@ -1,4 +1,4 @@
-//! Why a text of hexadecimal lines is packed no further.
+//! Why a text of lines is packed no further.
 
 use thiserror::Error;
 
@@ -7,7 +7,7 @@ use thiserror::Error;
 /// written.
 #[derive(Clone, Copy, Debug, PartialEq, Eq, Error)]
 pub enum PackFault {
-    /// The line of this number has more than 200,000 octets before its LF.
+    /// The line of this number has more octets before its LF than a line may have: for `run_pack` more than 200,000.
     #[error("line {0}: too long")]
     LineTooLong(u32),
     /// What is left of the line of this number is not hexadecimal digits, or is an odd number of them.
@@ -28,4 +28,11 @@ pub enum PackFault {
     /// Memory was refused for the line of this number, or for the window that a run begins with.
     #[error("out of memory")]
     OutOfMemory(u32),
+    /// The line of this number cannot be read: it goes on with no octet that a line has at this column, counted from 1,
+    /// or ends there too early. `run_pack` does not return it.
+    #[error("line {line}: unreadable at column {column}")]
+    Unreadable { line: u32, column: usize },
+    /// The line of this number reports a record that was refused, and no octets. `run_pack` does not return it.
+    #[error("line {0}: refused")]
+    Refused(u32),
 }

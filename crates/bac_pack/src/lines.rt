@@ -6,12 +6,6 @@ ghost use Rattle.bac_pack.specs.Packing.{EndsAt};
 
 use std::alloc::AllocError;
 
-/// How many octets a line has at most, before its LF.
-pub(crate) const LONGEST: usize = 200_000;
-
-/// How many octets a run holds at most: the longest line and one octet more, which is its LF or one too many.
-pub(crate) const PIECE: usize = LONGEST + 1;
-
 /// Returns the place of the first LF, or None if there is none.
 fn first_end(octets: &[u8]) -> Option<usize>
     ensures { result ≡ position (λ octet. octet == LF) octets.now }

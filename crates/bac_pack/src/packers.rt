@@ -4,14 +4,13 @@ ghost use Rattle.std.specs.Prelude.{◌+◌, ◌<◌, ◌^◌, ◌≡◌, ◌≤
 ghost use Rattle.std.specs.Io.KnownBytes.{Appends};
 ghost use Rattle.bac_record.specs.Devices.{HasRisen};
 ghost use Rattle.bac_record.specs.Transfers.{TakesFront};
-ghost use Rattle.bac_pack.specs.Lines.{IsUnbroken, digits_of};
-ghost use Rattle.bac_pack.specs.Packing.{Adds, EndsAt, Halts, IsFound, IsSame, PacksFront, SpellsNone};
+ghost use Rattle.bac_pack.specs.LineForms.{IsRefused};
+ghost use Rattle.bac_pack.specs.Lines.{IsUnbroken};
+ghost use Rattle.bac_pack.specs.Packing.{Adds, EndsAt, Halts, IsFound, IsSame, PacksFront};
 ghost use Rattle.bac_pack.specs.Runs.{Waits};
-ghost use Rattle.bac_pack.specs.declared.lines.TheConstants.{PIECE};
 
-use crate::PackFault;
-use crate::lines::{LONGEST, line_end};
-use crate::packing::pack_line;
+use crate::lines::line_end;
+use crate::{LineForm, PackFault};
 use bac_record::Output;
 use bac_record::layers::write_whole;
 use std::alloc::Global;
@@ -22,8 +21,6 @@ const MOST: u32 = 1_000_000;
 /// What a run makes of lines.
 #[derive(Drop)]
 pub(crate) struct Packer {
-    /// Room for the digits of a line that has blanks.
-    digits: Vec<u8>,
     /// The records that are not yet written.
     pub(crate) output: Vec<u8>,
     /// How many lines were packed.
@@ -40,7 +37,6 @@ impl Packer {
         ensures sent { result.sent ≡ 0 }
     {
         Packer {
-            digits: Vec::new(alloc),
             output: Vec::new(alloc),
             lines: 0,
             sent: 0,
@@ -48,28 +44,37 @@ impl Packer {
     }
 
     /// Adds the record of a line.
-    pub(crate) fn add(&mut self, line: &[u8]) -> Result<(), PackFault>
+    pub(crate) fn add<const PIECE: usize, L: LineForm<PIECE>>(
+        &mut self,
+        form: &mut L,
+        line: &[u8],
+    ) -> Result<(), PackFault>
         requires { self.old.lines < MOST }
-        ensures added { OnOk result (Adds line.now self.old self.new) }
-        ensures fault { IfErr result (SpellsNone (digits_of line.now) (self.old.lines + 1)) }
+        ensures added { OnOk result (Adds L.packs line.now self.old self.new) }
+        ensures fault { IfErr result (IsRefused (L.refuses line.now) (self.old.lines + 1)) }
         ensures err { OnErr result (IsSame self.old self.new) }
     {
-        pack_line(self.lines + 1, line, &mut self.digits, &mut self.output)?;
+        form.push(self.lines + 1, line, &mut self.output)?;
         self.lines += 1;
         Ok(())
     }
 
     /// Adds the record of the line at the front of the octets. None of the first `passed` octets may be an LF. Returns
     /// how many octets were taken, or `None` if no whole line lies there.
-    fn add_next(&mut self, octets: &[u8], passed: usize) -> Result<Option<usize>, PackFault>
+    fn add_next<const PIECE: usize, L: LineForm<PIECE>>(
+        &mut self,
+        form: &mut L,
+        octets: &[u8],
+        passed: usize,
+    ) -> Result<Option<usize>, PackFault>
         requires lines { self.old.lines ≤ MOST }
-        requires room { length octets.now ≤ PIECE }
+        requires room { length octets.now ≤ L.LONGEST + 1 }
         requires within { passed ≤ length octets.now }
         requires passed { IsUnbroken (take passed octets.now) }
         ensures added { IfOk result (λ found. MatchOption found
-            (IsSame self.old self.new × Waits self.old.lines octets.now)
-            (λ taken. (end : ℕ) × EndsAt octets.now end × (taken ≡ end + 1) × (self.old.lines < MOST) × Adds (take end octets.now) self.old self.new)) }
-        ensures fault { IfErr result (IsFound self.old.lines octets.now) }
+            (IsSame self.old self.new × Waits L.LONGEST self.old.lines octets.now)
+            (λ taken. (end : ℕ) × EndsAt octets.now end × (taken ≡ end + 1) × (self.old.lines < MOST) × Adds L.packs (take end octets.now) self.old self.new)) }
+        ensures fault { IfErr result (IsFound L.refuses L.LONGEST self.old.lines octets.now) }
         ensures err { OnErr result (IsSame self.old self.new) }
     {
         if self.lines == MOST {
@@ -79,29 +84,34 @@ impl Packer {
             return Err(PackFault::TooManyLines);
         }
         let Some(end) = line_end(octets, passed) else {
-            if octets.len() > LONGEST {
+            if octets.len() > L::LONGEST {
                 return Err(PackFault::LineTooLong(self.lines + 1));
             }
             return Ok(None);
         };
-        self.add(&octets[..end])?;
+        self.add(form, &octets[..end])?;
         Ok(Some(end + 1))
     }
 
     /// Adds the records of the lines that lie whole at the front of the octets. None of the first `passed` octets may
     /// be an LF. Returns the number of octets of these lines, and the fault of the next one, if there is one.
-    pub(crate) fn add_whole(&mut self, octets: &[u8], passed: usize) -> (usize, Option<PackFault>)
+    pub(crate) fn add_whole<const PIECE: usize, L: LineForm<PIECE>>(
+        &mut self,
+        form: &mut L,
+        octets: &[u8],
+        passed: usize,
+    ) -> (usize, Option<PackFault>)
         requires lines { self.old.lines ≤ MOST }
-        requires room { length octets.now ≤ PIECE }
+        requires room { length octets.now ≤ L.LONGEST + 1 }
         requires within { passed ≤ length octets.now }
         requires passed { IsUnbroken (take passed octets.now) }
-        ensures packed { PacksFront octets.now result.0 self.old self.new }
-        ensures halted { Halts self.new.lines (drop result.0 octets.now) result.1 }
+        ensures packed { PacksFront L.packs L.LONGEST octets.now result.0 self.old self.new }
+        ensures halted { Halts L.refuses L.LONGEST self.new.lines (drop result.0 octets.now) result.1 }
     {
         let mut taken = 0;
         let mut known = passed;
         loop {
-            match self.add_next(&octets[taken..], known) {
+            match self.add_next(form, &octets[taken..], known) {
                 Ok(Some(count)) => taken += count,
                 Ok(None) => return (taken, None),
                 Err(fault) => return (taken, Some(fault)),

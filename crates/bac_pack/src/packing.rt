@@ -1,8 +1,8 @@
 //! The record of a line.
 
 ghost use Rattle.std.specs.Prelude.{◌≡◌, IfErr, OnErr, OnOk, length, take};
-ghost use Rattle.bac_pack.specs.Lines.{digits_of};
-ghost use Rattle.bac_pack.specs.Packing.{Spells, SpellsNone};
+ghost use Rattle.bac_pack.specs.LineForms.{IsRefused, Pushes};
+ghost use Rattle.bac_pack.specs.Lines.{Packs, PacksNone, Spells, SpellsNone};
 
 use crate::PackFault;
 use crate::lines::{copy_digits, strip_return};
@@ -14,8 +14,8 @@ use bac_record::LONGEST;
 /// The digits are decoded to the final place of their octets. The length octets come first. If there are too many
 /// digits, these two are not their length, and the caller removes them with the rest.
 fn push_record(number: u32, digits: &[u8], output: &mut Vec<u8>) -> Result<(), PackFault>
-    ensures ok { OnOk result (Spells digits.now output.old.items output.new.items) }
-    ensures fault { IfErr result (SpellsNone digits.now number) }
+    ensures ok { OnOk result (Pushes (Spells digits.now) output.old.items output.new.items) }
+    ensures fault { IfErr result (IsRefused (SpellsNone digits.now) number) }
     ensures front { OnErr result (take (length output.old.items) output.new.items ≡ output.old.items) }
 {
     let count = digits.len() / 2;
@@ -44,8 +44,8 @@ fn push_line(
     digits: &mut Vec<u8>,
     output: &mut Vec<u8>,
 ) -> Result<(), PackFault>
-    ensures ok { OnOk result (Spells (digits_of line.now) output.old.items output.new.items) }
-    ensures fault { IfErr result (SpellsNone (digits_of line.now) number) }
+    ensures ok { OnOk result (Pushes (Packs line.now) output.old.items output.new.items) }
+    ensures fault { IfErr result (IsRefused (PacksNone line.now) number) }
     ensures front { OnErr result (take (length output.old.items) output.new.items ≡ output.old.items) }
 {
     let octets = strip_return(line);
@@ -65,8 +65,8 @@ pub(crate) fn pack_line(
     digits: &mut Vec<u8>,
     output: &mut Vec<u8>,
 ) -> Result<(), PackFault>
-    ensures ok { OnOk result (Spells (digits_of line.now) output.old.items output.new.items) }
-    ensures fault { IfErr result (SpellsNone (digits_of line.now) number) }
+    ensures ok { OnOk result (Pushes (Packs line.now) output.old.items output.new.items) }
+    ensures fault { IfErr result (IsRefused (PacksNone line.now) number) }
     ensures err { OnErr result (output.new.items ≡ output.old.items) }
 {
     let start = output.len();

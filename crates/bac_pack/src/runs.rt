@@ -1,13 +1,13 @@
 //! Runs over texts of lines.
 
 ghost use Rattle.std.specs.Prelude.{◌≡◌, IfErr, IfOk, List, MatchResult, Some, ℕ};
-ghost use Rattle.bac_pack.specs.Files.{RunsOver};
+ghost use Rattle.bac_pack.specs.Files.{LinesOver, RunsOver};
 ghost use Rattle.bac_pack.specs.Lines.{lines_of};
-ghost use Rattle.bac_pack.specs.Runs.{PacksThrough, RunCounts, Stopped};
+ghost use Rattle.bac_pack.specs.Runs.{LinesStopped, LinesThrough, PacksThrough, RunCounts, Stopped};
 
-use crate::PackFault;
-use crate::lines::PIECE;
+use crate::hex_lines::HexLines;
 use crate::packers::Packer;
+use crate::{LineForm, PackFault};
 use bac_record::layers::Window;
 use bac_record::{Input, Output};
 use std::alloc::Global;
@@ -16,13 +16,14 @@ use std::alloc::Global;
 ///
 /// It reads once, packs every line that lies whole in what it holds, writes all their records, and only then reads
 /// again: nothing known is held back while it waits for input.
-fn run_pieces<R: Input, W: Output>(
+fn run_pieces<const PIECE: usize, L: LineForm<PIECE>, R: Input, W: Output>(
     alloc: Global,
+    form: &mut L,
     reader: &mut R,
     writer: &mut W,
 ) -> Result<u32, PackFault>
-    ensures through { IfOk result (PacksThrough (R.left reader.old) (R.left reader.new) (W.taken writer.old) (W.taken writer.new)) }
-    ensures stopped { IfErr result (Stopped (R.left reader.old) (R.left reader.new) (W.taken writer.old) (W.taken writer.new)) }
+    ensures through { IfOk result (LinesThrough L.packs L.LONGEST (R.left reader.old) (R.left reader.new) (W.taken writer.old) (W.taken writer.new)) }
+    ensures stopped { IfErr result (LinesStopped L.packs L.refuses L.LONGEST (R.left reader.old) (R.left reader.new) (W.taken writer.old) (W.taken writer.new)) }
     ensures counted { MatchResult result
         (λ _. (R.failures reader.new ≡ R.failures reader.old) × (W.failures writer.new ≡ W.failures writer.old))
         (RunCounts (R.failures reader.old) (R.failures reader.new) (W.failures writer.old) (W.failures writer.new)) }
@@ -38,7 +39,7 @@ fn run_pieces<R: Input, W: Output>(
             Ok(_) => {}
             Err(_) => return Err(PackFault::ReadFault(packer.lines + 1)),
         }
-        let (taken, halt) = packer.add_whole(window.octets(), passed);
+        let (taken, halt) = packer.add_whole(form, window.octets(), passed);
         packer.hand_over(writer)?;
         if let Some(fault) = halt {
             return Err(fault);
@@ -48,10 +49,40 @@ fn run_pieces<R: Input, W: Output>(
     // No LF ends what is left.
     let last = window.octets();
     if !last.is_empty() {
-        packer.add(last)?;
+        packer.add(form, last)?;
         packer.hand_over(writer)?;
     }
     Ok(packer.lines)
+}
+
+/// Makes one record of each line of a text, in order, to its end or to a fault. Returns the number of lines. What a line
+/// stands for is told by its form.
+///
+/// A line ends with LF (0A). Octets after the last LF are a line, if there are any.
+///
+/// It takes memory for the longest line of the form with its LF, and for the records of the lines that lie in so many
+/// octets.
+///
+/// # Errors
+/// As [`PackFault`] says. Reading stops at what comes first: an octet after the 1,000,000th line, an octet too many of a
+/// line before its LF, or a failed read.
+pub fn run_lines<const PIECE: usize, L: LineForm<PIECE>, R: Input, W: Output>(
+    alloc: Global,
+    form: &mut L,
+    reader: &mut R,
+    writer: &mut W,
+) -> Result<u32, PackFault>
+    ensures through { IfOk result (LinesThrough L.packs L.LONGEST (R.left reader.old) (R.left reader.new) (W.taken writer.old) (W.taken writer.new)) }
+    ensures stopped { IfErr result (LinesStopped L.packs L.refuses L.LONGEST (R.left reader.old) (R.left reader.new) (W.taken writer.old) (W.taken writer.new)) }
+
+    // If the octets of the reader are known, the answer is that of their lines.
+    ensures files { (file : List ℕ) → R.left reader.old ≡ Some file
+        → LinesOver L.packs L.refuses L.LONGEST (lines_of file) (W.taken writer.old) (W.taken writer.new) result }
+    ensures counted { MatchResult result
+        (λ _. (R.failures reader.new ≡ R.failures reader.old) × (W.failures writer.new ≡ W.failures writer.old))
+        (RunCounts (R.failures reader.old) (R.failures reader.new) (W.failures writer.old) (W.failures writer.new)) }
+{
+    run_pieces(alloc, form, reader, writer)
 }
 
 /// Makes one record of each line of a text, in order, to its end or to a fault. Returns the number of lines.
@@ -93,5 +124,5 @@ pub fn run_pack<R: Input, W: Output>(
         (λ _. (R.failures reader.new ≡ R.failures reader.old) × (W.failures writer.new ≡ W.failures writer.old))
         (RunCounts (R.failures reader.old) (R.failures reader.new) (W.failures writer.old) (W.failures writer.new)) }
 {
-    run_pieces(alloc, reader, writer)
+    run_lines(alloc, &mut HexLines::new(alloc), reader, writer)
 }
