@@ -342,6 +342,10 @@ fn faults_are_told(rt: HostRuntime) {
     let fault = PackFault::TooManyLines;
     assert_shown(&rt, alloc, fault, "more than 1000000 records");
     assert_shown(&rt, alloc, PackFault::OutOfMemory(1), "out of memory");
+    let (line, column) = (2, 7);
+    let fault = PackFault::Unreadable { line, column };
+    assert_shown(&rt, alloc, fault, "line 2: unreadable at column 7");
+    assert_shown(&rt, alloc, PackFault::Refused(3), "line 3: refused");
 }
 
 // The laws are functions that do nothing: their contracts are what they say.

@@ -51,6 +51,8 @@ pack_text (pack.ReadFault at) = line_text at (codes "read fault")
 pack_text (pack.WriteFault count) = write_text count
 pack_text pack.TooManyLines = too_many_text
 pack_text (pack.OutOfMemory at) = memory_text
+pack_text (pack.Unreadable at column) = line_text at (codes "unreadable at column " ++ decimal column)
+pack_text (pack.Refused at) = line_text at (codes "refused")
 
 -- the text of a fault of a job
 abbrev pub fault_text : JobFault → List ℕ

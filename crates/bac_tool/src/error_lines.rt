@@ -88,6 +88,16 @@ fn put_refusal(room: &mut [u8], at: usize, number: u32, refusal: Refusal) -> usi
     put_decimal(room, end, refusal.place as u64)
 }
 
+/// Writes `line N: unreadable at column C`. Returns where it ends.
+fn put_unreadable(room: &mut [u8], at: usize, line: u32, column: usize) -> usize
+    requires { at + 80 ≤ length room.old }
+    ensures text { take result room.new ≡ take at room.old ++ pack_text (PackFault.Unreadable line column) }
+    ensures most { result ≤ at + 80 }
+{
+    let end = put_numbered(room, at, b"line ", line, b"unreadable at column ");
+    put_decimal(room, end, column as u64)
+}
+
 /// Writes the text of why no further line was packed. Returns where it ends.
 fn put_pack_fault(room: &mut [u8], at: usize, fault: PackFault) -> usize
     requires { at + 80 ≤ length room.old }
@@ -103,6 +113,8 @@ fn put_pack_fault(room: &mut [u8], at: usize, fault: PackFault) -> usize
         PackFault::WriteFault(count) => put_write_fault(room, at, count),
         PackFault::TooManyLines => put_word(room, at, b"more than 1000000 records"),
         PackFault::OutOfMemory(_) => put_word(room, at, b"out of memory"),
+        PackFault::Unreadable { line, column } => put_unreadable(room, at, line, column),
+        PackFault::Refused(line) => put_numbered(room, at, b"line ", line, b"refused"),
     }
 }
 

@@ -243,10 +243,15 @@ fn faults_are_told(rt: HostRuntime) {
         (PackFault::ReadFault(2), "line 2: read fault"),
         (PackFault::TooManyLines, "more than 1000000 records"),
         (PackFault::OutOfMemory(2), "out of memory"),
+        (PackFault::Refused(2), "line 2: refused"),
     ];
     for (fault, text) in faults {
         is_told(&rt, alloc, JobFault::Pack(fault), text);
     }
+    let (line, column) = (u32::MAX, usize::MAX);
+    let fault = PackFault::Unreadable { line, column };
+    let text = "line 4294967295: unreadable at column 18446744073709551615";
+    is_told(&rt, alloc, JobFault::Pack(fault), text);
 }
 
 // 2^64 and the largest number have more digits than a number of 64 bits.
