@@ -19,6 +19,7 @@
 mod faults;
 mod hex_lines;
 pub mod laws;
+pub mod layers;
 mod line_forms;
 mod lines;
 mod packers;

@@ -26,7 +26,7 @@ pub(crate) fn line_end(octets: &[u8], passed: usize) -> Option<usize>
 }
 
 /// Returns the line without one CR at its end.
-pub(crate) fn strip_return(line: &[u8]) -> &[u8]
+pub fn strip_return(line: &[u8]) -> &[u8]
     ensures { result.now ≡ without_return line.now }
 {
     match line {

@@ -1,0 +1,39 @@
+-- What reading a line gives.
+use Rattle.std.specs.Prelude.{◌≡◌, ℕ, ◌+◌, ◌≤◌, List, length, cond, nat_lt}
+use Rattle.bac_tag.specs.Spelling.{AppendsLeast}
+use Rattle.bac_npdu.specs.Frames.{FrameValue, SpellsFrame}
+use Rattle.bac_text.specs.FrameText.{text}
+use Rattle.bac_lines.specs.declared.fault.LineFault.{LineFault}
+use Rattle.bac_lines.specs.declared.fault.LineFault.TheVariants.{OutOfMemory, Stop}
+
+-- The line is that of a frame, whose canonical octets are appended.
+pub record IsRead (line old new : List ℕ) : Type 0 where
+  pub frame : FrameValue
+  pub is_line : line ≡ text frame
+  pub appended : AppendsLeast (SpellsFrame frame) old new
+
+-- The octets spell a frame, and the line is its text.
+abbrev pub IsLineOf : List ℕ → List ℕ → Type 0
+IsLineOf octets line = (frame : FrameValue) × SpellsFrame frame octets × (line ≡ text frame)
+
+-- the canonical octets of some frame are appended
+abbrev pub AppendsAFrame : List ℕ → List ℕ → Type 0
+AppendsAFrame old new = (frame : FrameValue) × AppendsLeast (SpellsFrame frame) old new
+
+abbrev pub IfStop : LineFault → (ℕ → Type 0) → Type 0
+IfStop OutOfMemory P = Unit {0}
+IfStop (Stop place) P = P place
+
+-- the fault as it is seen so many octets earlier
+abbrev pub after : ℕ → LineFault → LineFault
+after n OutOfMemory = OutOfMemory
+after n (Stop place) = Stop (n + place)
+
+-- the fault of the second of two parts, of which the first stops at the place: the farther of two places
+abbrev pub farther : ℕ → LineFault → LineFault
+farther p OutOfMemory = OutOfMemory
+farther p (Stop q) = Stop (cond (nat_lt p q) q p)
+
+-- The place is in the line, or at its end.
+abbrev pub IsNear : List ℕ → LineFault → Type 0
+IsNear line fault = IfStop fault (λ place. place ≤ length line)

@@ -1,0 +1,3 @@
+//! For crates that write a form of lines.
+
+pub use crate::lines::strip_return;
