@@ -17,7 +17,7 @@ use Rattle.clap.proofs.OnLiterals.{clap_on_literals}
 use Rattle.std.specs.List.{AllByRecursion}
 use Rattle.bac_tool.specs.CommandLine.{bactool, NamesJob, IsJobOf, HasMode, word_lists}
 use Rattle.bac_tool.specs.declared.command_line.Job.{Job}
-use Rattle.bac_tool.specs.declared.command_line.Job.TheVariants.{Show, Check, Normalise, Pack}
+use Rattle.bac_tool.specs.declared.command_line.Job.TheVariants.{Show, Check, Normalise, Pack, Read}
 use Rattle.bac_stream.specs.declared.modes.Mode.{Mode}
 use Rattle.bac_stream.specs.declared.modes.Mode.TheVariants.{Tolerant, Strict}
 
@@ -62,6 +62,7 @@ name_of_job (Show mode) = codes "show"
 name_of_job (Check mode) = codes "check"
 name_of_job (Normalise mode) = codes "normalise"
 name_of_job Pack = codes "pack"
+name_of_job Read = codes "read"
 
 abbrev pub flag_of_mode : Mode → Text
 flag_of_mode Strict = codes "true"
@@ -72,6 +73,7 @@ flag_of_job (Show mode) = Some (flag_of_mode mode)
 flag_of_job (Check mode) = Some (flag_of_mode mode)
 flag_of_job (Normalise mode) = Some (flag_of_mode mode)
 flag_of_job Pack = None
+flag_of_job Read = None
 
 -- the name that was found
 abbrev name_of : Option (Text × List Row) → Text
@@ -190,19 +192,20 @@ stop_other words none =
     let given = argument_words bactool words in
     walk_other a.top (names_of a) refl given (walk_from nothing_held) tt (both_none (walk_fault a.top (names_of a) (walk_from nothing_held) given) _ none).0
 
--- the names of the four subcommands that have a job
+-- the names of the five subcommands that have a job
 abbrev IsName : Text → Type 0
-IsName n = (n ≡ codes "show") ⊎ ((n ≡ codes "check") ⊎ ((n ≡ codes "normalise") ⊎ ((n ≡ codes "pack") ⊎ ⊥)))
+IsName n = (n ≡ codes "show") ⊎ ((n ≡ codes "check") ⊎ ((n ≡ codes "normalise") ⊎ ((n ≡ codes "pack") ⊎ ((n ≡ codes "read") ⊎ ⊥))))
 
 names_apart : (m n : Text) → bytes_eq m (codes "help") ≡ false → Among (λ s. answers_to m (label_of s)) n (built bactool).subs → IsName n
 names_apart m n other (inl show) = inl show.0
 names_apart m n other (inr (inl check)) = inr (inl check.0)
 names_apart m n other (inr (inr (inl normalise))) = inr (inr (inl normalise.0))
 names_apart m n other (inr (inr (inr (inl pack)))) = inr (inr (inr (inl pack.0)))
-names_apart m n other (inr (inr (inr (inr (inl help))))) =
+names_apart m n other (inr (inr (inr (inr (inl read))))) = inr (inr (inr (inr (inl read.0))))
+names_apart m n other (inr (inr (inr (inr (inr (inl help)))))) =
     let is : bytes_eq (codes "help") m ≡ true = or_false _ help.1 in
     absurd (false≢true (sym other ∙ nat_list_eq_equiv.symm m (codes "help") ∙ is))
-names_apart m n other (inr (inr (inr (inr (inr none))))) = absurd none
+names_apart m n other (inr (inr (inr (inr (inr (inr none)))))) = absurd none
 
 among_subcommands : (stop : Option (Text × List Text)) (n : Text) (r : List Row) → IsOther stop → entered (built bactool) stop ≡ Some (n, r) → IsName n
 among_subcommands None n r other e = cc
@@ -215,16 +218,16 @@ program_names words n r none e = among_subcommands (stop_after (built bactool).t
 pub names_job : (words : List Text) (n : Text) (r : List Row) (job : Job) → subcommand_of bactool words ≡ Some (n, r) → IsJobOf n (one_of (codes "strict") r) job → NamesJob (subcommand_of bactool words) job
 names_job words n r job found is = subst (λ o. NamesJob o job) (sym found) is
 
--- ---- the seven command lines
+-- ---- the eight command lines
 
 pub words_taken : AllByRecursion (λ entry. takes bactool entry.0 ≡ true) word_lists
 unfolding clap_on_literals
-words_taken = (refl, (refl, (refl, (refl, (refl, (refl, (refl, tt)))))))
+words_taken = (refl, (refl, (refl, (refl, (refl, (refl, (refl, (refl, tt))))))))
 
 -- the name and the flag of each
 pub words_named : AllByRecursion (λ entry. named (subcommand_of bactool entry.0) ≡ Some (name_of_job entry.1, flag_of_job entry.1)) word_lists
 unfolding clap_on_literals
-words_named = (refl, (refl, (refl, (refl, (refl, (refl, (refl, tt)))))))
+words_named = (refl, (refl, (refl, (refl, (refl, (refl, (refl, (refl, tt))))))))
 
 one_mode : (flag : Option Text) (mode m : Mode) → HasMode flag mode → flag ≡ Some (flag_of_mode m) → mode ≡ m
 one_mode flag mode Strict h e = h.0 e
@@ -251,6 +254,15 @@ job_is n flag Pack (Normalise m) h e f = absurd (omega (arith, letters n (codes 
 job_is n flag (Show mode) Pack h e f = absurd (omega (arith, letters n (codes "show") (codes "pack") h.0 e))
 job_is n flag (Check mode) Pack h e f = absurd (omega (arith, letters n (codes "check") (codes "pack") h.0 e))
 job_is n flag (Normalise mode) Pack h e f = absurd (omega (arith, letters n (codes "normalise") (codes "pack") h.0 e))
+job_is n flag Read Read h e f = refl
+job_is n flag Read (Show m) h e f = absurd (omega (arith, letters n (codes "read") (codes "show") h e))
+job_is n flag Read (Check m) h e f = absurd (omega (arith, letters n (codes "read") (codes "check") h e))
+job_is n flag Read (Normalise m) h e f = absurd (omega (arith, letters n (codes "read") (codes "normalise") h e))
+job_is n flag Read Pack h e f = absurd (omega (arith, letters n (codes "read") (codes "pack") h e))
+job_is n flag (Show mode) Read h e f = absurd (omega (arith, letters n (codes "show") (codes "read") h.0 e))
+job_is n flag (Check mode) Read h e f = absurd (omega (arith, letters n (codes "check") (codes "read") h.0 e))
+job_is n flag (Normalise mode) Read h e f = absurd (omega (arith, letters n (codes "normalise") (codes "read") h.0 e))
+job_is n flag Pack Read h e f = absurd (omega (arith, letters n (codes "pack") (codes "read") h e))
 
 abbrev name_from : Option (Text × Option Text) → Text
 name_from None = []
@@ -284,7 +296,7 @@ answers words r named_is taken_is =
         answer words _ _ r named_is taken_is t.1.0 n.1.0,
         (
           answer words _ _ r named_is taken_is t.1.1.0 n.1.1.0,
-          (answer words _ _ r named_is taken_is t.1.1.1.0 n.1.1.1.0, (answer words _ _ r named_is taken_is t.1.1.1.1.0 n.1.1.1.1.0, (answer words _ _ r named_is taken_is t.1.1.1.1.1.0 n.1.1.1.1.1.0, (answer words _ _ r named_is taken_is t.1.1.1.1.1.1.0 n.1.1.1.1.1.1.0, tt)))),
+          (answer words _ _ r named_is taken_is t.1.1.1.0 n.1.1.1.0, (answer words _ _ r named_is taken_is t.1.1.1.1.0 n.1.1.1.1.0, (answer words _ _ r named_is taken_is t.1.1.1.1.1.0 n.1.1.1.1.1.0, (answer words _ _ r named_is taken_is t.1.1.1.1.1.1.0 n.1.1.1.1.1.1.0, (answer words _ _ r named_is taken_is t.1.1.1.1.1.1.1.0 n.1.1.1.1.1.1.1.0, tt))))),
         ),
       ),
     )

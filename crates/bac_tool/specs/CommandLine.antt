@@ -5,7 +5,7 @@ use Rattle.clap.specs.declared.builder.action.ArgAction.TheVariants.{SetTrue}
 use Rattle.bac_stream.specs.declared.modes.Mode.{Mode}
 use Rattle.bac_stream.specs.declared.modes.Mode.TheVariants.{Tolerant, Strict}
 use Rattle.bac_tool.specs.declared.command_line.Job.{Job}
-use Rattle.bac_tool.specs.declared.command_line.Job.TheVariants.{Show, Check, Normalise, Pack}
+use Rattle.bac_tool.specs.declared.command_line.Job.TheVariants.{Show, Check, Normalise, Pack, Read}
 
 -- the flag --strict
 abbrev pub strict : Rule
@@ -21,7 +21,8 @@ bare = record (new_app (codes "bactool")) { top = record (new_app (codes "bactoo
 
 -- the program
 abbrev pub bactool : App
-bactool = with_subcommand (with_subcommand (with_subcommand (with_subcommand bare (moded (codes "show")).top) (moded (codes "check")).top) (moded (codes "normalise")).top) (new_app (codes "pack")).top
+bactool = with_subcommand (with_subcommand (with_subcommand (with_subcommand (with_subcommand bare (moded (codes "show")).top) (moded (codes "check")).top) (moded (codes "normalise")).top)
+    (new_app (codes "pack")).top) (new_app (codes "read")).top
 
 -- the mode that the flag's text names
 abbrev pub HasMode : Option Text → Mode → Type 0
@@ -33,6 +34,7 @@ IsJobOf name flag (Show mode) = (name ≡ codes "show") × HasMode flag mode
 IsJobOf name flag (Check mode) = (name ≡ codes "check") × HasMode flag mode
 IsJobOf name flag (Normalise mode) = (name ≡ codes "normalise") × HasMode flag mode
 IsJobOf name flag Pack = name ≡ codes "pack"
+IsJobOf name flag Read = name ≡ codes "read"
 
 -- the job that the matches name
 abbrev pub NamesJob : Option (Text × List Row) → Job → Type 0
@@ -48,4 +50,5 @@ word_lists = (codes "bactool" ∷ codes "show" ∷ [], Show Tolerant)
     ∷ (codes "bactool" ∷ codes "normalise" ∷ [], Normalise Tolerant)
     ∷ (codes "bactool" ∷ codes "normalise" ∷ codes "--strict" ∷ [], Normalise Strict)
     ∷ (codes "bactool" ∷ codes "pack" ∷ [], Pack)
+    ∷ (codes "bactool" ∷ codes "read" ∷ [], Read)
     ∷ []

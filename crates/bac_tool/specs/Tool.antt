@@ -12,10 +12,11 @@ use Rattle.bac_stream.specs.Lines.{ShowsAs, ChecksAs, NormalisesTo}
 use Rattle.bac_record.specs.Devices.{HasRisen}
 use Rattle.bac_record.specs.Runs.{RanThrough, RunCounts, Stopped}
 use Rattle.bac_pack.specs.Runs as packing
-use Rattle.bac_pack.specs.Runs.{PacksThrough}
+use Rattle.bac_pack.specs.Runs.{LinesStopped, LinesThrough, PacksThrough}
+use Rattle.bac_lines.specs.ShownLines.{LONGEST_LINE, StandsFor, StandsForNone}
 use Rattle.bac_record.specs.Transfers.{TakesFront}
 use Rattle.bac_tool.specs.declared.command_line.Job.{Job}
-use Rattle.bac_tool.specs.declared.command_line.Job.TheVariants.{Show, Check, Normalise, Pack}
+use Rattle.bac_tool.specs.declared.command_line.Job.TheVariants.{Show, Check, Normalise, Pack, Read}
 use Rattle.bac_tool.specs.declared.job_faults.JobFault.{JobFault}
 use Rattle.bac_tool.specs.declared.job_faults.JobFault.TheVariants as fault
 use Rattle.bac_record.specs.declared.faults.RunFault.TheVariants.{Frame}
@@ -36,6 +37,8 @@ RunsAs (Normalise mode) left left' taken taken' (Ok refused) = RanOver (Normalis
 RunsAs (Normalise mode) left left' taken taken' (Err (fault.Run stop)) = Stopped (NormalisesTo mode) (Refuses mode) left left' taken taken' stop
 RunsAs Pack left left' taken taken' (Ok refused) = (count : ℕ) × PacksThrough left left' taken taken' count × (refused ≡ 0)
 RunsAs Pack left left' taken taken' (Err (fault.Pack stop)) = packing.Stopped left left' taken taken' stop
+RunsAs Read left left' taken taken' (Ok refused) = (count : ℕ) × LinesThrough StandsFor LONGEST_LINE left left' taken taken' count × (refused ≡ 0)
+RunsAs Read left left' taken taken' (Err (fault.Pack stop)) = LinesStopped StandsFor StandsForNone LONGEST_LINE left left' taken taken' stop
 RunsAs _ left left' taken taken' (Err _) = ⊥
 
 -- Where the fault is that of a device, its failures rose; else they stay.

@@ -2,7 +2,7 @@
 
 use bac_stream::Mode;
 
-/// What the program is asked to do with its standard input: a file of records, or for `Pack` a text.
+/// What the program is asked to do with its standard input: a file of records, or for `Pack` and `Read` a text.
 #[derive(Clone, Copy, Debug, PartialEq, Eq)]
 pub enum Job {
     /// A line for each record: what it says, or why it is refused.
@@ -13,4 +13,6 @@ pub enum Job {
     Normalise(Mode),
     /// A record for each line of hexadecimal digits.
     Pack,
+    /// A record for each line that `show` writes.
+    Read,
 }

@@ -8,7 +8,7 @@ use bac_stream::RunFault;
 pub enum JobFault {
     /// A run over records stopped.
     Run(RunFault),
-    /// No further line was packed.
+    /// No further line was packed or read.
     Pack(PackFault),
 }
 

@@ -1,9 +1,9 @@
-//! The program `bactool`: shows, checks, normalises and packs files of BACnet frames (ANSI/ASHRAE 135).
+//! The program `bactool`: shows, checks and normalises files of BACnet frames (ANSI/ASHRAE 135), and makes them of text.
 //!
 //! A file is a list of records, each two octets of length and then a frame: one NPDU (clause 6), with an APDU (clause
 //! 20.1) or a network message (clause 6.4) in it. The runs over these files are those of bac_stream. The run that makes
-//! a file from lines of hexadecimal digits is that of bac_pack. This crate has the words of the command line, the exit
-//! status and what is written to standard error.
+//! a file from lines of hexadecimal digits is that of bac_pack, and the run that makes one from the lines of `show` that
+//! of bac_lines. This crate has the words of the command line, the exit status and what is written to standard error.
 #![tactic(auto)]
 
 mod command_line;
@@ -15,6 +15,7 @@ mod tool_tests;
 mod words;
 
 use arrayvec::ArrayString;
+pub use bac_lines::run_read;
 pub use bac_pack::{PackFault, run_pack};
 use bac_stream::{Counted, Output};
 pub use command_line::Job;

@@ -7,6 +7,7 @@ ghost use Rattle.bac_tool.specs.Tool.{Answers, Counts, Gives, HasNotRun, HasRun,
 
 use crate::error_lines::{tell_fault, tell_text, tell_write_fault};
 use crate::{Job, JobFault, job};
+use bac_lines::run_read;
 use bac_pack::run_pack;
 use bac_record::layers::write_whole;
 use bac_stream::{Input, Output, RunFault, run_check, run_normalise, run_show};
@@ -88,6 +89,10 @@ fn run_job<R: Input, W: Output>(
         Job::Normalise(mode) => run_normalise(alloc, mode, input, output)?,
         Job::Pack => {
             run_pack(alloc, input, output)?;
+            return Ok(0);
+        }
+        Job::Read => {
+            run_read(alloc, input, output)?;
             return Ok(0);
         }
     };

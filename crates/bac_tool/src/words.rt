@@ -21,7 +21,8 @@ Status:
   0  no record was refused, and all went well; or help or the version was written
   1  a record was refused, and nothing worse happened
   2  the words are no command, the input ends within a record or has too many of
-     them, a line of pack is no record, or a read, a write or memory failed";
+     them, a line of pack or read is no record, or a read, a write or memory
+     failed";
 
 /// Returns the flag for the strict mode.
 fn strict_flag<'a>(alloc: Global) -> Arg<'a>
@@ -32,6 +33,23 @@ fn strict_flag<'a>(alloc: Global) -> Arg<'a>
         .long("strict")
         .action(ArgAction::SetTrue)
         .help("Accept canonical records alone")
+}
+
+/// Returns a command that takes no flag.
+fn plain_command<'a>(
+    alloc: Global,
+    name: &'a str,
+    about: &'a str,
+    usage: &'a str,
+    example: &'a str,
+) -> Command<'a>
+    ensures shape { app_of result ≡ new_app name.now }
+    ensures local { (fields_of result).has_globals ≡ false }
+{
+    Command::new(alloc, name)
+        .about(about)
+        .override_usage(usage)
+        .after_help(example)
 }
 
 /// Returns a command that takes the flag.
@@ -45,22 +63,7 @@ fn moded_command<'a>(
     ensures shape { IfOk result (λ c. app_of c ≡ moded name.now) }
     ensures local { IfOk result (λ c. (fields_of c).has_globals ≡ false) }
 {
-    Command::new(alloc, name)
-        .about(about)
-        .override_usage(usage)
-        .after_help(example)
-        .arg(strict_flag(alloc))
-}
-
-/// Returns the command that reads a text and no records, and so takes no flag.
-fn pack_command<'a>(alloc: Global) -> Command<'a>
-    ensures shape { app_of result ≡ new_app (codes "pack") }
-    ensures local { (fields_of result).has_globals ≡ false }
-{
-    Command::new(alloc, "pack")
-        .about("Write a record for each line of hexadecimal digits")
-        .override_usage("bactool pack < FILE")
-        .after_help("Example: echo 0104 0005010C 0C00000005 1955 | bactool pack | bactool show")
+    plain_command(alloc, name, about, usage, example).arg(strict_flag(alloc))
 }
 
 /// Returns the program without its subcommands.
@@ -69,7 +72,7 @@ fn bare_command<'a>(alloc: Global) -> Command<'a>
 {
     Command::new(alloc, "bactool")
         .about(
-            "Shows, checks, normalises and packs files of BACnet frames, from standard input to standard output",
+            "Shows, checks and normalises files of BACnet frames, and makes them of text, from standard input to standard output",
         )
         .version("0.2.0")
         .subcommand_required(true)
@@ -101,10 +104,25 @@ fn command<'a>(alloc: Global) -> Result<Command<'a>, AllocError>
         "bactool normalise [--strict] < FILE",
         "Example: bactool normalise < site.frames > canonical.frames",
     )?;
+    let pack = plain_command(
+        alloc,
+        "pack",
+        "Write a record for each line of hexadecimal digits",
+        "bactool pack < FILE",
+        "Example: echo 0104 0005010C 0C00000005 1955 | bactool pack | bactool show",
+    );
+    let read = plain_command(
+        alloc,
+        "read",
+        "Write a record for each line of show",
+        "bactool read < FILE",
+        "Example: echo prio=0 reply=0 unconf Who-Is | bactool read | bactool show",
+    );
     let one = bare_command(alloc).subcommand(show)?;
     let two = one.subcommand(check)?;
     let three = two.subcommand(normalise)?;
-    three.subcommand(pack_command(alloc))
+    let four = three.subcommand(pack)?;
+    four.subcommand(read)
 }
 
 /// Returns the mode that the flag of a subcommand's matches names.
@@ -131,6 +149,9 @@ fn named_job<'a>(alloc: Global, words: &'a [&'a str]) -> Result<Job, Error>
     };
     if name == "pack" {
         return Ok(Job::Pack);
+    }
+    if name == "read" {
+        return Ok(Job::Read);
     }
     let mode = mode_of(matches);
     if name == "show" {

@@ -22,6 +22,9 @@ returns-then-eq-2-clause-faultless c = faultless _ _ c.in_ok-command.ensures c.i
 pub returns-then-eq-3-clause-faultless : goal.returns-then-eq-3-clause-faultless
 returns-then-eq-3-clause-faultless c = faultless _ _ c.in_ok-command.ensures c.in_ok-matches.ensures.kinds
 
+pub returns-then-eq-4-clause-faultless : goal.returns-then-eq-4-clause-faultless
+returns-then-eq-4-clause-faultless c = faultless _ _ c.in_ok-command.ensures c.in_ok-matches.ensures.kinds
+
 pub returns-clause-faultless : goal.returns-clause-faultless
 returns-clause-faultless c = faultless _ _ c.in_ok-command.ensures c.in_ok-matches.ensures.kinds
 
@@ -39,12 +42,20 @@ returns-then-eq-2-clause-named c =
     let texts = map {A = Bor (List ℕ)} {B = List ℕ} (λ word. word.now) c.args.words.now in
     let rows = (c.in_ok-matches.ensures.matches (ap is_simple c.in_ok-command.ensures ∙ is_simple_program)).1 ∙ ap (λ (a : App). subcommand_of a texts) c.in_ok-command.ensures in
     let found = sym rows ∙ read_apart _ _ _ _ _ (rw c.in-Some.is at c.subcommand.ensures.name) (rw c.in-Some.is at c.subcommand.ensures.rows) in
+    let name_is : c.in-Some.name.now ≡ codes "read" = search rules in
+    names_job texts c.in-Some.name.now (rows_of (found_of c.in-Some.matches.now)) job.Read found name_is
+
+pub returns-then-eq-3-clause-named : goal.returns-then-eq-3-clause-named
+returns-then-eq-3-clause-named c =
+    let texts = map {A = Bor (List ℕ)} {B = List ℕ} (λ word. word.now) c.args.words.now in
+    let rows = (c.in_ok-matches.ensures.matches (ap is_simple c.in_ok-command.ensures ∙ is_simple_program)).1 ∙ ap (λ (a : App). subcommand_of a texts) c.in_ok-command.ensures in
+    let found = sym rows ∙ read_apart _ _ _ _ _ (rw c.in-Some.is at c.subcommand.ensures.name) (rw c.in-Some.is at c.subcommand.ensures.rows) in
     let name_is : c.in-Some.name.now ≡ codes "show" = search rules in
     let mode_is = subst (λ (t : Option (List ℕ)). HasMode t c.mode_of-mode.result) (one_text-rows (found_of c.in-Some.matches.now) (codes "strict")) c.mode_of-mode.ensures in
     names_job texts c.in-Some.name.now (rows_of (found_of c.in-Some.matches.now)) (job.Show c.mode_of-mode.result) found (name_is, mode_is)
 
-pub returns-then-eq-3-clause-named : goal.returns-then-eq-3-clause-named
-returns-then-eq-3-clause-named c =
+pub returns-then-eq-4-clause-named : goal.returns-then-eq-4-clause-named
+returns-then-eq-4-clause-named c =
     let texts = map {A = Bor (List ℕ)} {B = List ℕ} (λ word. word.now) c.args.words.now in
     let rows = (c.in_ok-matches.ensures.matches (ap is_simple c.in_ok-command.ensures ∙ is_simple_program)).1 ∙ ap (λ (a : App). subcommand_of a texts) c.in_ok-command.ensures in
     let found = sym rows ∙ read_apart _ _ _ _ _ (rw c.in-Some.is at c.subcommand.ensures.name) (rw c.in-Some.is at c.subcommand.ensures.rows) in
@@ -62,7 +73,8 @@ returns-clause-named c =
     let not_check : c.in-Some.name.now ≡ codes "check" → ⊥ = search rules in
     let none = faultless _ _ c.in_ok-command.ensures c.in_ok-matches.ensures.kinds in
     let not_pack : c.in-Some.name.now ≡ codes "pack" → ⊥ = search rules in
+    let not_read : c.in-Some.name.now ≡ codes "read" → ⊥ = search rules in
     names_job texts c.in-Some.name.now (rows_of (found_of c.in-Some.matches.now)) (job.Normalise c.mode_of-mode.result) found (elim (program_names texts c.in-Some.name.now (rows_of (found_of c.in-Some.matches.now)) none found) [
       | inl show ↦ absurd (not_show show)
-      | inr rest ↦ elim rest [ inl check ↦ absurd (not_check check) | inr later ↦ elim later [ inl normalise ↦ (normalise, mode_is) | inr last ↦ elim last [ inl pack ↦ absurd (not_pack pack) | inr none ↦ absurd none ] ] ]
+      | inr rest ↦ elim rest [ inl check ↦ absurd (not_check check) | inr later ↦ elim later [ inl normalise ↦ (normalise, mode_is) | inr last ↦ elim last [ inl pack ↦ absurd (not_pack pack) | inr more ↦ elim more [ inl read ↦ absurd (not_read read) | inr none ↦ absurd none ] ] ] ]
     ])
