@@ -59,7 +59,7 @@ enum bactool_code {
     BACTOOL_NO_MEMORY = 7      /* memory was refused: `why` is BACTOOL_OUT_OF_MEMORY */
 };
 
-/* Why octets or fields are refused. bactool_reason gives the name. */
+/* Why octets, fields or a text are refused. bactool_reason gives the name. */
 enum bactool_why {
     BACTOOL_SHORT = 1,          /* the octets end where more must come */
     BACTOOL_TRAILING = 2,       /* octets follow a whole frame */
@@ -76,7 +76,9 @@ enum bactool_why {
     /* Only of fields, for which BACTOOL_SHORT and BACTOOL_TRAILING speak of fields in place of octets. */
     BACTOOL_BAD_NAME = 13,    /* a field with a name that cannot be here */
     BACTOOL_BAD_NUMBER = 14,  /* a field with a number that it cannot have here */
-    BACTOOL_BAD_CONTENTS = 15 /* a field with contents that it cannot have here, or that are not in the octets */
+    BACTOOL_BAD_CONTENTS = 15, /* a field with contents that it cannot have here, or that are not in the octets */
+    /* Only of text, for which BACTOOL_SHORT says that it ends where more must come. */
+    BACTOOL_BAD_TEXT = 16 /* an octet that no text of a frame has there */
 };
 
 /* What a call reports beside its code. A field of which the code says nothing is 0. */
@@ -84,7 +86,7 @@ struct bactool_outcome {
     uint32_t why;  /* an enum bactool_why: the reason of a refusal */
     size_t place;  /* the offset, counted from 0, of the first octet that no frame can have there, or of the first one
                       that differs from the canonical octets; the length if the octets are only too short. Of
-                      bactool_encode the index of a field, counted from 0 */
+                      bactool_encode the index of a field, counted from 0; of bactool_read the offset in the text */
     size_t count;  /* the number of octets that are written, or that would be written if the room were not too small */
     size_t fields; /* the number of fields that are written by bactool_decode, or that would be */
 };
@@ -320,6 +322,24 @@ uint32_t bactool_encode(const struct bactool_field *fields, size_t count, const 
 uint32_t bactool_show(const uint8_t *octets, size_t length, char *out, size_t room, struct bactool_outcome *outcome);
 
 /*
+ * Writes, at the front of `out`, the canonical octets of the frame whose text is passed: the way back from bactool_show.
+ * The text is accepted exactly as bactool_show writes it, with the same blanks, digits and letters, without a line feed
+ * and without a NUL. There are fewer octets than `length`, so a room of `length` is enough.
+ *
+ *   BACTOOL_OK          they are written: `count` is their number
+ *   BACTOOL_NO_ROOM     `room` is too small for them: nothing is written, and `count` is their number
+ *   BACTOOL_REFUSED     no frame has this text: `place` is the offset of the first octet that no text has there, and `why`
+ *                       is BACTOOL_BAD_TEXT; or `place` is `length` and `why` BACTOOL_SHORT if the text ends too early
+ *   BACTOOL_NO_MEMORY   memory was refused
+ *
+ *     const char text[] = "prio=0 reply=0 unconf Who-Is";
+ *     uint8_t out[1497];
+ *     if (bactool_read(text, strlen(text), out, sizeof out, &outcome) == BACTOOL_OK)
+ *         send(socket, out, outcome.count, 0);
+ */
+uint32_t bactool_read(const char *text, size_t length, uint8_t *out, size_t room, struct bactool_outcome *outcome);
+
+/*
  * Compares the frames that two inputs spell, each in any spelling. The inputs may be the same memory.
  *
  *   BACTOOL_OK             both inputs spell the same frame
@@ -423,6 +443,12 @@ static inline uint32_t bactool_show_any(const uint8_t *octets, size_t length, ch
     return bactool_show(bactool_octets(octets), length, bactool_text(out), room, outcome);
 }
 
+static inline uint32_t bactool_read_any(const char *text, size_t length, uint8_t *out, size_t room,
+                                        struct bactool_outcome *outcome)
+{
+    return bactool_read(text != NULL ? text : bactool_text(NULL), length, bactool_room(out), room, outcome);
+}
+
 static inline uint32_t bactool_same_meaning_any(const uint8_t *left, size_t left_length, const uint8_t *right,
                                                 size_t right_length, struct bactool_outcome *outcome)
 {
@@ -444,6 +470,7 @@ static inline size_t bactool_name_any(uint32_t name, char *out, size_t room)
 #define bactool_decode(...) bactool_decode_any(__VA_ARGS__)
 #define bactool_encode(...) bactool_encode_any(__VA_ARGS__)
 #define bactool_show(...) bactool_show_any(__VA_ARGS__)
+#define bactool_read(...) bactool_read_any(__VA_ARGS__)
 #define bactool_same_meaning(...) bactool_same_meaning_any(__VA_ARGS__)
 #define bactool_reason(...) bactool_reason_any(__VA_ARGS__)
 #define bactool_name(...) bactool_name_any(__VA_ARGS__)

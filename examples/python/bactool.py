@@ -1,14 +1,17 @@
 #!/usr/bin/env python3
 """BACnet frames by libbactool, and as a program: `bactool.py check|show|normalise|json [LIBRARY] < FRAMES` and
-`bactool.py encode [LIBRARY] < LINES`. The status is that of `bactool`: 0, 1 if a record or a line is refused, and 2 if
-the words or the input are at fault.
+`bactool.py encode|read [LIBRARY] < LINES`. The status is that of `bactool`: 0, 1 if a record or a line is refused, and 2
+if the words or the input are at fault.
 
 `json` writes a line for each record: what `Bactool.decode` returns, or `{"refused": WHY, "at": PLACE}`. `encode` is the
-way back: it writes a record for each line, up to the first one that is refused.
+way back: it writes a record for each line, up to the first one that is refused. `read` is the way back from `show`, of
+lines with or without their numbers.
 
 >>> tool = Bactool()
 >>> tool.show(bytes.fromhex("0120FFFF00FF1008"))
 'prio=0 reply=0 dest=65535/* hops=255 unconf Who-Is'
+>>> tool.read("prio=0 reply=0 dest=65535/* hops=255 unconf Who-Is").hex()
+'0120ffff00ff1008'
 >>> tool.decode(bytes.fromhex("0120FFFF00FF1008"))
 {'prio': 0, 'reply': 0, 'dest': '65535/*', 'hops': 255, 'unconf': True, 'Who-Is': True}
 >>> tool.encode({"conf": True, "id": 1, "ReadProperty": True, "object": "0:5", "property": 85}).hex()
@@ -77,7 +80,7 @@ CHOICES = {60: 12, 61: 14, 62: 15, 63: 16, 64: 8, 65: 0, 66: 5, 67: 1, 68: 2, 69
 
 
 class Refused(Exception):
-    """Octets are not accepted: `why` is the name of the reason, `place` the offset."""
+    """Octets or a text are not accepted: `why` is the name of the reason, `place` the offset in octets."""
 
     def __init__(self, why, place, side=None):
         super().__init__(f"{side + ': ' if side else ''}{why} at {place}")
@@ -107,6 +110,7 @@ class Bactool:
         self.library.bactool_check.argtypes = octets + [ctypes.c_bool] + outcome
         self.library.bactool_normalise.argtypes = octets + octets + outcome
         self.library.bactool_show.argtypes = octets + octets + outcome
+        self.library.bactool_read.argtypes = octets + octets + outcome
         self.library.bactool_same_meaning.argtypes = octets + octets + outcome
         self.library.bactool_reason.argtypes = [ctypes.c_uint32] + octets
         self.library.bactool_reason.restype = ctypes.c_size_t
@@ -116,7 +120,7 @@ class Bactool:
         self.library.bactool_decode.argtypes = octets + octets + fields + outcome
         self.library.bactool_encode.argtypes = fields + octets + octets + outcome
         self.words = {}
-        for name in ("check", "normalise", "decode", "encode", "show", "same_meaning", "version"):
+        for name in ("check", "normalise", "decode", "encode", "show", "read", "same_meaning", "version"):
             getattr(self.library, f"bactool_{name}").restype = ctypes.c_uint32
 
     def check(self, octets, strict=False):
@@ -133,6 +137,12 @@ class Bactool:
     def show(self, octets):
         """Returns the text of the frame."""
         return self._written(self.library.bactool_show, bytes(octets), 256).decode()
+
+    def read(self, text):
+        """Returns the canonical octets of the frame with this text: the way back from `show`. The text is a `str`, or
+        `bytes`."""
+        text = text.encode(errors="surrogateescape") if isinstance(text, str) else bytes(text)
+        return self._written(self.library.bactool_read, text, len(text))
 
     def decode(self, octets):
         """Returns the frame as a dict, which says all that its text says, and of which JSON can be made.
@@ -527,14 +537,21 @@ def run(job, tool, file):
     return status
 
 
-def encode(tool, lines):
-    """Writes a record for each line of JSON, up to the first one that is refused. Returns the status."""
+def read(tool, line):
+    """Returns the octets of a line of `show`, with or without its number."""
+    line = line.rstrip(b"\n")
+    number, _, text = line.partition(b" ")
+    return tool.read(text if number.isdigit() else line)
+
+
+def make(octets_of, lines):
+    """Writes a record for each line, up to the first one that is refused. Returns the status."""
     status = 0
     for number, line in enumerate(lines, 1):
         try:
-            octets = tool.encode(json.loads(line))
+            octets = octets_of(line)
             sys.stdout.buffer.write(len(octets).to_bytes(2, "big") + octets)
-        except RefusedField as refusal:
+        except (Refused, RefusedField) as refusal:
             print(f"bactool.py: line {number}: refused {refusal}", file=sys.stderr)
             status = 1
             break
@@ -548,14 +565,17 @@ def encode(tool, lines):
 
 def main():
     words = sys.argv[1:]
-    if not 1 <= len(words) <= 2 or words[0] not in ("check", "show", "normalise", "json", "encode"):
+    if not 1 <= len(words) <= 2 or words[0] not in ("check", "show", "normalise", "json", "encode", "read"):
         print("usage: bactool.py check|show|normalise|json [LIBRARY] < FRAMES", file=sys.stderr)
-        print("       bactool.py encode [LIBRARY] < LINES", file=sys.stderr)
+        print("       bactool.py encode|read [LIBRARY] < LINES", file=sys.stderr)
         return 2
     try:
+        tool = Bactool(*words[1:])
         if words[0] == "encode":
-            return encode(Bactool(*words[1:]), sys.stdin.buffer)
-        return run(words[0], Bactool(*words[1:]), sys.stdin.buffer)
+            return make(lambda line: tool.encode(json.loads(line)), sys.stdin.buffer)
+        if words[0] == "read":
+            return make(lambda line: read(tool, line), sys.stdin.buffer)
+        return run(words[0], tool, sys.stdin.buffer)
     except (OSError, MemoryError) as fault:
         print(f"bactool.py: {fault or 'out of memory'}", file=sys.stderr)
         # Nothing more is written, also where the output is what failed.

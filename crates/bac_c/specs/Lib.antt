@@ -1,3 +1,4 @@
 pub mod Outcomes
+pub mod Reading
 pub mod InPlace
 pub mod Encoding

@@ -2,6 +2,7 @@
 
 ghost use Rattle.std.specs.Prelude.{◌≡◌};
 ghost use Rattle.bac_c.specs.Encoding.{field_number_of, field_refused_as};
+ghost use Rattle.bac_c.specs.Reading.{line_refused_as};
 ghost use Rattle.bac_c.specs.Outcomes.{counted as counted_value, decoded as decoded_value, differs_at as differing, nothing as nothing_told, refused_as};
 
 use bac_fields::{FieldRefusal, FieldWhy};
@@ -81,6 +82,22 @@ impl Outcome {
         Outcome {
             why: field_reason(refusal.why),
             place: refusal.index,
+            count: 0,
+            fields: 0,
+        }
+    }
+
+    /// Returns the outcome for a line of this length that is refused at this place.
+    pub(crate) fn line_refused(length: usize, place: usize) -> Outcome
+        ensures { result ≡ line_refused_as length place }
+    {
+        Outcome {
+            why: if place == length {
+                Why::Short as u32
+            } else {
+                16
+            },
+            place,
             count: 0,
             fields: 0,
         }

@@ -1,6 +1,6 @@
 //! The names of reasons.
 
-ghost use Rattle.std.specs.Prelude.{◌≡◌, ◌⊎◌, ◌++◌, ◌<◌, ◌≤◌, None, Some, IsSomeAnd, length, drop};
+ghost use Rattle.std.specs.Prelude.{◌≡◌, ◌⊎◌, ◌++◌, ◌<◌, ◌≤◌, None, Some, IsSomeAnd, length, drop, codes};
 ghost use Rattle.bac_tag.specs.declared.refusals.Why.{Why as Reason};
 ghost use Rattle.bac_tag.specs.Refusals.{name_of};
 ghost use Rattle.bac_fields.specs.declared.field_refusal.FieldWhy.{FieldWhy as FieldReason};
@@ -14,7 +14,8 @@ use bac_tag::Why;
 fn reason_name(number: u32) -> Option<&'static str>
     ensures some { (reason : Reason) → number ≡ number_of reason → IsSomeAnd result (λ name. name.now ≡ name_of reason) }
     ensures of_fields { (reason : FieldReason) → number ≡ field_number_of reason → IsSomeAnd result (λ name. name.now ≡ field_name_of reason) }
-    ensures none { ((number ≡ 0) ⊎ (15 < number)) → result ≡ None }
+    ensures of_lines { number ≡ 16 → IsSomeAnd result (λ name. name.now ≡ codes "Text") }
+    ensures none { ((number ≡ 0) ⊎ (16 < number)) → result ≡ None }
 {
     match number {
         1 => Some(Why::Short.name()),
@@ -32,6 +33,7 @@ fn reason_name(number: u32) -> Option<&'static str>
         13 => Some("Name"),
         14 => Some("Number"),
         15 => Some("Contents"),
+        16 => Some("Text"),
         _ => None,
     }
 }
@@ -44,8 +46,10 @@ pub extern "C" fn bactool_reason(why: u32, out: &mut [u8]) -> usize
     ensures written { (reason : Reason) → why ≡ number_of reason → result ≤ length out.old → out.new ≡ name_of reason ++ drop result out.old }
     ensures of_fields { (reason : FieldReason) → why ≡ field_number_of reason → result ≡ length (field_name_of reason) }
     ensures written_of_fields { (reason : FieldReason) → why ≡ field_number_of reason → result ≤ length out.old → out.new ≡ field_name_of reason ++ drop result out.old }
+    ensures of_lines { why ≡ 16 → result ≡ 4 }
+    ensures written_of_lines { why ≡ 16 → result ≤ length out.old → out.new ≡ codes "Text" ++ drop result out.old }
     ensures unchanged { length out.old < result → out.new ≡ out.old }
-    ensures unknown { ((why ≡ 0) ⊎ (15 < why)) → (result ≡ 0) × (out.new ≡ out.old) }
+    ensures unknown { ((why ≡ 0) ⊎ (16 < why)) → (result ≡ 0) × (out.new ≡ out.old) }
 {
     let Some(name) = reason_name(why) else {
         return 0;

@@ -30,6 +30,7 @@ extern "C" {
     fn bactool_check(octets: *const u8, length: usize, strict: bool, outcome: &mut Outcome) -> u32;
     fn bactool_normalise(octets: *const u8, length: usize, out: *mut u8, room: usize, outcome: &mut Outcome) -> u32;
     fn bactool_show(octets: *const u8, length: usize, out: *mut u8, room: usize, outcome: &mut Outcome) -> u32;
+    fn bactool_read(text: *const u8, length: usize, out: *mut u8, room: usize, outcome: &mut Outcome) -> u32;
     fn bactool_same_meaning(left: *const u8, left_length: usize, right: *const u8, right_length: usize, outcome: &mut Outcome) -> u32;
     fn bactool_decode(octets: *const u8, length: usize, out: *mut u8, room: usize, fields: *mut Part, most: usize,
         outcome: &mut Outcome) -> u32;
@@ -47,7 +48,7 @@ const DIFFERENT: u32 = 2;
 const RIGHT_REFUSED: u32 = 5;
 const NO_ROOM: u32 = 6;
 
-/// Why octets or fields are not accepted, or that memory was refused: a reason by its number in the header, and the offset
+/// Why octets, fields or a text are not accepted, or that memory was refused: a reason by its number in the header, and the offset
 /// or the index.
 #[derive(Clone, Copy, Debug, PartialEq, Eq)]
 pub struct Refusal {
@@ -210,6 +211,15 @@ pub fn show(octets: &[u8]) -> Result<String, Refusal> {
         unsafe { bactool_show(octets.as_ptr(), octets.len(), out.as_mut_ptr(), out.len(), outcome) }
     })?;
     Ok(String::from_utf8_lossy(&line).into_owned())
+}
+
+/// Returns the canonical octets of the frame with this text: the way back from `show`. The place of a refusal is the
+/// offset in the text.
+pub fn read(text: &[u8]) -> Result<Vec<u8>, Refusal> {
+    written(text.len(), |out, outcome| {
+        // SAFETY: as above.
+        unsafe { bactool_read(text.as_ptr(), text.len(), out.as_mut_ptr(), out.len(), outcome) }
+    })
 }
 
 /// Returns whether both inputs spell one frame, or which of them spells none, and why.

@@ -1,12 +1,12 @@
 //! `bactool check|show|normalise|values < FRAMES`: writes what the program `bactool` writes of a frame file on standard
 //! input, or what `examples/c/values.c` prints of it. `bactool fields` reads nothing, and writes what `examples/c/fields.c`
-//! prints. The status is that of `bactool`: 0, 1 if a record is refused, and 2 if the words, the input or the output are at
-//! fault.
+//! prints. `bactool read < LINES` is the way back from `show`, of lines with or without their numbers. The status is that
+//! of `bactool`: 0, 1 if a record or a line is refused, and 2 if the words, the input or the output are at fault.
 mod fields;
 mod values;
 
 use bactool::Refusal;
-use std::io::{self, BufWriter, Read, Write};
+use std::io::{self, BufRead, BufWriter, Read, Write};
 use std::process::ExitCode;
 
 /// What is done with each record.
@@ -26,8 +26,10 @@ fn main() -> ExitCode {
         ["normalise"] => Job::Normalise,
         ["values"] => Job::Values,
         ["fields"] => return ended(write_fields()),
+        ["read"] => return ended(read_lines()),
         _ => {
             eprintln!("usage: bactool check|show|normalise|values < FRAMES");
+            eprintln!("       bactool read < LINES");
             eprintln!("       bactool fields");
             return ExitCode::from(2);
         }
@@ -41,6 +43,36 @@ fn write_fields() -> io::Result<bool> {
     fields::write_frames(&mut output)?;
     output.flush()?;
     Ok(false)
+}
+
+/// Writes a record for each line, up to the first one that is refused. Returns whether one was.
+fn read_lines() -> io::Result<bool> {
+    let mut output = BufWriter::new(io::stdout().lock());
+    for (index, line) in io::stdin().lock().split(b'\n').enumerate() {
+        match bactool::read(without_number(&line?)) {
+            Ok(octets) => {
+                let length = u16::try_from(octets.len()).map_err(io::Error::other)?;
+                output.write_all(&length.to_be_bytes())?;
+                output.write_all(&octets)?;
+            }
+            Err(refusal) => {
+                eprintln!("bactool: line {}: refused {refusal}", index + 1);
+                output.flush()?;
+                return Ok(true);
+            }
+        }
+    }
+    output.flush()?;
+    Ok(false)
+}
+
+/// Returns the line without the number and the blank with which it may begin.
+fn without_number(line: &[u8]) -> &[u8] {
+    let digits = line.iter().take_while(|octet| octet.is_ascii_digit()).count();
+    match line[digits..].split_first() {
+        Some((b' ', text)) if digits > 0 => text,
+        _ => line,
+    }
 }
 
 /// Returns the status of a run, by whether a record was refused, or reports its fault.
