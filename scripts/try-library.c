@@ -104,14 +104,16 @@ struct bench {
     struct yard left, right, out, fields;
     struct bactool_field *known;
     char *line;
+    uint8_t *shown;
 };
 
 static struct bench new_bench(void)
 {
     struct bench bench = {new_yard(LONGEST), new_yard(LONGEST), new_yard(TEXT),
-                          new_yard(FIELDS * sizeof(struct bactool_field)), NULL, NULL};
+                          new_yard(FIELDS * sizeof(struct bactool_field)), NULL, NULL, NULL};
     bench.known = (struct bactool_field *)new_yard(FIELDS * sizeof(struct bactool_field)).end - FIELDS;
     bench.line = (char *)new_yard(TEXT).end - TEXT;
+    bench.shown = new_yard(LONGEST).end - LONGEST;
     return bench;
 }
 
@@ -273,6 +275,58 @@ static void try_encoded(struct bench bench, const uint8_t *canonical, size_t cou
     fields[1].number = number;
 }
 
+/* Reads a changed line. It is refused at the place at which its front of one octet more is, and the front up to there
+   begins a line; or it is what the library shows of the octets that it is read as. */
+static void try_changed_line(struct bench bench, const char *line, size_t length, size_t changed)
+{
+    struct bactool_outcome told = UNTOLD, front = UNTOLD;
+    uint8_t *out = cleared(bench.out, length);
+    if (bactool_read(line, length, out, length, &told) == BACTOOL_OK) {
+        size_t count = told.count;
+        memcpy(bench.shown, out, count);
+        char *shown = (char *)cleared(bench.out, length);
+        EXPECT(bactool_show(bench.shown, count, shown, length, &told) == BACTOOL_OK && told.count == length);
+        EXPECT(memcmp(shown, line, length) == 0);
+        return;
+    }
+    EXPECT(told.place >= changed && told.place <= length && is_kept(bench.out, length));
+    EXPECT(says(told, told.place == length ? BACTOOL_SHORT : BACTOOL_BAD_TEXT, told.place, 0));
+    uint32_t code = bactool_read(line, told.place, NULL, 0, &front);
+    EXPECT(code == BACTOOL_NO_ROOM || (code == BACTOOL_REFUSED && says(front, BACTOOL_SHORT, told.place, 0)));
+    if (told.place < length) {
+        code = bactool_read(line, told.place + 1, NULL, 0, &front);
+        EXPECT(code == BACTOOL_REFUSED && says(front, BACTOOL_BAD_TEXT, told.place, 0));
+    }
+}
+
+/* Reads the line of a frame, which gives its canonical octets; and, if it is short, its fronts, and the line with each of its
+   octets changed, doubled and left out. */
+static void try_line(struct bench bench, const char *line, size_t length, const uint8_t *canonical, size_t count)
+{
+    static const char others[] = "0159Aaz :=(){}[]\"/*\n\x80\xC3";
+    struct bactool_outcome told = UNTOLD;
+    uint8_t *out = cleared(bench.out, count);
+    EXPECT(bactool_read(line, length, NULL, 0, &told) == BACTOOL_NO_ROOM && tells(told, 0, 0, count, 0));
+    EXPECT(bactool_read(line, length, out, count - 1, &told) == BACTOOL_NO_ROOM && is_kept(bench.out, count));
+    EXPECT(bactool_read(line, length, out, count, &told) == BACTOOL_OK && tells(told, 0, 0, count, 0));
+    EXPECT(memcmp(out, canonical, count) == 0);
+    if (length > 400)
+        return;
+    char changed[402];
+    for (size_t k = 0; k < length; k++) {
+        uint32_t code = bactool_read(line, k, NULL, 0, &told);
+        EXPECT(code == BACTOOL_NO_ROOM || (code == BACTOOL_REFUSED && says(told, BACTOOL_SHORT, k, 0)));
+        memcpy(changed, line, length);
+        changed[k] = others[(k * 7 + count) % (sizeof others - 1)];
+        try_changed_line(bench, changed, length, k);
+        memcpy(changed + k + 1, line + k, length - k);
+        changed[k] = line[k];
+        try_changed_line(bench, changed, length + 1, k);
+        memcpy(changed + k, line + k + 1, length - k - 1);
+        try_changed_line(bench, changed, length - 1, k);
+    }
+}
+
 /* Decodes octets that are accepted: the fields, the line that they make, and every room for short frames. */
 static void try_decoded(struct bench bench, const uint8_t *octets, size_t length, const uint8_t *canonical,
                         size_t count, bool in_each_room)
@@ -291,6 +345,7 @@ static void try_decoded(struct bench bench, const uint8_t *octets, size_t length
     uint8_t *line = cleared(bench.out, TEXT);
     EXPECT(bactool_show(octets, length, (char *)line, TEXT, &told) == BACTOOL_OK && told.count == line_length);
     EXPECT(memcmp(line, bench.line, line_length) == 0);
+    try_line(bench, bench.line, line_length, canonical, count);
 
     const size_t rooms[][2] = {
         {0, 0}, {count, fields}, {count - 1, fields}, {count, fields - 1}, {count + 7, fields + 1},
@@ -542,7 +597,8 @@ static void try_reasons(struct bench bench)
         [BACTOOL_BAD_NAME] = "Name",
         [BACTOOL_BAD_NUMBER] = "Number",
         [BACTOOL_BAD_CONTENTS] = "Contents",
-        [BACTOOL_BAD_CONTENTS + 1] = "",
+        [BACTOOL_BAD_TEXT] = "Text",
+        [BACTOOL_BAD_TEXT + 1] = "",
     };
     const uint32_t count = sizeof names / sizeof *names;
     for (uint32_t why = 0; why < count; why++)
@@ -550,17 +606,18 @@ static void try_reasons(struct bench bench)
     try_text(bench, reason, UINT32_MAX, "");
 }
 
-enum { CALLS = 6 };
+enum { CALLS = 7 };
 
-/* The fields that octets come to, and the canonical octets. */
+/* The fields that octets come to, the canonical octets, and their line. */
 struct said {
     const struct bactool_field *fields;
     const uint8_t *octets;
-    size_t count, length;
+    const char *line;
+    size_t count, length, line_length;
 };
 
-/* One of the five calls that read a frame, or the one that makes a frame of its fields, with room for half a yard, and for
-   some fields. */
+/* One of the five calls that read a frame, or one of the two that make a frame of its fields or of its line, with room for
+   half a yard, and for some fields. */
 static uint32_t call(int job, struct bench bench, const uint8_t *octets, size_t length, struct said said,
                      struct bactool_outcome *told)
 {
@@ -571,7 +628,8 @@ static uint32_t call(int job, struct bench bench, const uint8_t *octets, size_t 
            : job == 2 ? show(octets, length, out, TEXT / 2, told)
            : job == 3 ? bactool_decode(octets, length, out, TEXT / 2, fields, SOME_FIELDS, told)
            : job == 4 ? bactool_same_meaning(octets, length, octets, length, told)
-                      : bactool_encode(said.fields, said.count, said.octets, said.length, out, TEXT / 2, told);
+           : job == 5 ? bactool_encode(said.fields, said.count, said.octets, said.length, out, TEXT / 2, told)
+                      : bactool_read(said.line, said.line_length, out, TEXT / 2, told);
 }
 
 /* Each allocation refused in turn, with all after it or alone, till none is left. Until then a call reports it and writes
@@ -582,7 +640,9 @@ static void try_without_memory(struct bench bench, const uint8_t *input, size_t 
     const uint8_t *octets = placed(bench.left, input, length);
     struct bactool_outcome read = {0, 0, 0, 0};
     bactool_decode(octets, length, canonical, LONGEST, bench.known, FIELDS, &read);
-    struct said said = {bench.known, canonical, read.fields, read.count};
+    struct bactool_outcome shown = {0, 0, 0, 0};
+    show(octets, length, (uint8_t *)bench.line, TEXT, &shown);
+    struct said said = {bench.known, canonical, bench.line, read.fields, read.count, shown.count};
     for (int job = 0; job < 2 * CALLS; job++) {
         struct bactool_outcome wanted = UNTOLD;
         uint32_t ends = call(job % CALLS, bench, octets, length, said, &wanted);

@@ -1,5 +1,6 @@
-//! The examples of the doc comments of bac_record, bac_stream and bac_pack, with the same lines.
+//! The examples of the doc comments of bac_record, bac_stream, bac_pack and bac_lines, with the same lines.
 
+use bac_lines::{LineFault, append_octets_of_line, run_read};
 use bac_npdu::decode_frame;
 use bac_pack::run_pack;
 use bac_record::{Counted, read_record, write_record};
@@ -114,6 +115,37 @@ fn lines_are_packed(rt: HostRuntime) -> Result<(), Fail> {
     let mut writer = Counted::new(Vec::new(rt.alloc()));
     assert_eq!(rt; run_pack(rt.alloc(), &mut reader, &mut writer), Ok(2));
     let records = [0x00, 0x04, 0x01, 0x00, 0x10, 0x08, 0x00, 0x01, 0xAB];
+    assert_eq!(rt; writer.device.as_slice(), records.as_slice());
+    Ok(())
+}
+
+// Of `bac_lines::append_octets_of_line`.
+#[test]
+fn a_line_is_read(rt: HostRuntime) -> Result<(), Fail> {
+    let mut octets = Vec::new(rt.alloc());
+    let line = b"prio=0 reply=0 dest=65535/* hops=255 unconf Who-Is";
+    append_octets_of_line(rt.alloc(), line, &mut octets)?;
+    assert_eq!(rt;
+        octets.as_slice(),
+        [0x01, 0x20, 0xFF, 0xFF, 0x00, 0xFF, 0x10, 0x08].as_slice()
+    );
+
+    // A priority is 0 to 3.
+    let refused = append_octets_of_line(rt.alloc(), b"prio=4 reply=0 unconf Who-Is", &mut octets);
+    assert_eq!(rt; refused, Err(LineFault::Stop(5)));
+    Ok(())
+}
+
+// Of `bac_lines::run_read`.
+#[test]
+fn lines_of_show_are_read(rt: HostRuntime) -> Result<(), Fail> {
+    let text = b"1 prio=0 reply=0 unconf Who-Is\nprio=0 reply=0 net type=12\n";
+    let mut reader = Counted::new(text.as_slice());
+    let mut writer = Counted::new(Vec::new(rt.alloc()));
+    assert_eq!(rt; run_read(rt.alloc(), &mut reader, &mut writer), Ok(2));
+    let records = [
+        0x00, 0x04, 0x01, 0x00, 0x10, 0x08, 0x00, 0x03, 0x01, 0x80, 0x12,
+    ];
     assert_eq!(rt; writer.device.as_slice(), records.as_slice());
     Ok(())
 }

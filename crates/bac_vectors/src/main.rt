@@ -7,9 +7,9 @@
 //! # How it works
 //!
 //! The files in `data` have a row for each case, and the program makes the calls that are about a row: plain, marked
-//! and strict decoding, encoding, appending, fields, copies and `==`, the fast ways of the layers, and the runs. Values
-//! of 1,497, 65,535 and 1,048,576 octets and lists of 10,000 items are rows too. `rt ci` runs the program, and compares
-//! its last line, which counts the rows. A row costs the gate no proof.
+//! and strict decoding, encoding, appending, fields, lines, copies and `==`, the fast ways of the layers, and the runs.
+//! Values of 1,497, 65,535 and 1,048,576 octets and lists of 10,000 items are rows too. `rt ci` runs the program, and
+//! compares its last line, which counts the rows. A row costs the gate no proof.
 #![tactic(auto)]
 
 mod apdus;
@@ -21,6 +21,7 @@ mod frames;
 mod from_fields;
 mod fronts;
 mod heads;
+mod lines;
 mod made;
 mod meanings;
 mod octets;

@@ -4,8 +4,8 @@ use crate::faults::RowFault;
 use crate::octets::joined;
 use crate::told::Told;
 use crate::{
-    apdus, fields, frames, from_fields, fronts, heads, meanings, open_values, services, streams,
-    texts, values,
+    apdus, fields, frames, from_fields, fronts, heads, lines, meanings, open_values, services,
+    streams, texts, values,
 };
 use bac_service::Kind;
 use bac_stream::Mode;
@@ -33,6 +33,8 @@ pub enum Section<'a> {
     Fields,
     /// `[from_fields]`: the frame that fields say.
     FromFields,
+    /// `[line]`: the frame whose line this is.
+    Lines,
     /// `[same_meaning]`: whether two inputs spell one frame.
     Meanings,
     /// `[stream tolerant]` and `[stream strict]`: the records of a stream, in whatever pieces it comes.
@@ -57,6 +59,7 @@ impl<'a> Section<'a> {
             ("text", "") => Some(Section::Texts),
             ("fields", "") => Some(Section::Fields),
             ("from_fields", "") => Some(Section::FromFields),
+            ("line", "") => Some(Section::Lines),
             ("same_meaning", "") => Some(Section::Meanings),
             ("stream", "tolerant") => Some(Section::Streams(Mode::Tolerant)),
             ("stream", "strict") => Some(Section::Streams(Mode::Strict)),
@@ -65,7 +68,7 @@ impl<'a> Section<'a> {
     }
 
     /// Returns what the octets of a row come to, in the words of a row. The octets of `front` are before them, except
-    /// in rows of two inputs.
+    /// in rows of two inputs and of lines.
     ///
     /// # Errors
     /// `Mistake` if the row is none of the section, and `OutOfMemory` if memory is refused.
@@ -73,6 +76,7 @@ impl<'a> Section<'a> {
         match self {
             Section::Meanings => meanings::found(alloc, row.octets),
             Section::FromFields => from_fields::found(alloc, row.octets),
+            Section::Lines => lines::found(alloc, row.octets),
             Section::Heads => heads::found(alloc, &joined(alloc, front, row.octets)?),
             Section::Texts => texts::found(alloc, &joined(alloc, front, row.octets)?),
             Section::Fields => fields::found(alloc, &joined(alloc, front, row.octets)?),
