@@ -51,8 +51,8 @@ fn refuse_memory(outcome: &mut Outcome) -> u32
 ///
 /// - `BACTOOL_OK` if they are written: `outcome` has their number;
 /// - `BACTOOL_NO_ROOM` if `out` is too short for them: nothing is written, and `outcome` has their number;
-/// - `BACTOOL_REFUSED` if no frame has the line: `outcome` has as its place the offset of the first octet with which no
-///   line goes on, or the length of the line if it ends too early, and why;
+/// - `BACTOOL_REFUSED` if no frame has the line: `outcome` has why, and as its place the offset of the first octet that no
+///   line can have there, or the length of the line if it ends too early;
 /// - `BACTOOL_NO_MEMORY` if memory is refused.
 #[unsafe(no_mangle)]
 pub extern "C" fn bactool_read(

@@ -8,7 +8,8 @@ ghost use Rattle.bac_lines.specs.Lines.{IfStop, after, farther};
 pub enum LineFault {
     /// Memory was refused.
     OutOfMemory,
-    /// No line goes on with the octet at this place, counted from 0, or none ends there.
+    /// The octet at this place, counted from 0, is the first one that no line can have there; or the line ends there, too
+    /// early.
     Stop(usize),
 }
 

@@ -9,7 +9,7 @@
 //!
 //! What may come in a line is listed as nested pairs of parts, each a type that implements the private trait `FromLine`
 //! (`from_line.rt`). A part reads a front of the line and adds the fields that it says (`said.rt`), or reports the first
-//! octet with which no line goes on. The fields of a whole line are then made into octets by bac_fields.
+//! octet that no line can have there. The fields of a whole line are then made into octets by bac_fields.
 //!
 //! | Part | What it reads |
 //! |---|---|
@@ -24,8 +24,9 @@
 //! where two parts may come the second is tried after the first, and if both fail, the farther place is reported. Such
 //! parts differ within their first word or so, hence nothing long is read twice.
 //!
-//! At last the line of the frame that was made is compared with the one that was read (`reading.rt`). So what is read is
-//! right, whatever the parts do.
+//! At last the line of the frame that was made is compared with the one that was read (`reading.rt`). So it is proved that
+//! what is read is right, whatever the parts do. That they read every line, and at which octet they stop, is tested: by the
+//! rows of `lines.txt` in bac_vectors.
 #![tactic(auto)]
 
 mod apdus;

@@ -37,7 +37,8 @@ fn read_next<P: FromLine>(
     }
 }
 
-/// Reads at most so many parts. Returns how many octets they have, and the place after them at which no part more goes on.
+/// Reads at most so many parts. Returns how many octets they have, and the place after them of the first octet that no
+/// further part can have there.
 fn read_items<P: FromLine>(
     part: &P,
     most: usize,

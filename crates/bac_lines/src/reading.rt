@@ -40,7 +40,7 @@ impl LineReader {
     /// Appends the canonical octets of the frame that the line says to what is in `out`. The line has no line feed.
     ///
     /// # Errors
-    /// The place of the first octet with which no line goes on, or that of the line's end, if it ends too early; or that
+    /// The place of the first octet that no line can have there, or of the line's end, if it ends too early; or that
     /// memory is refused. `out` then stays as it was.
     pub fn append_octets(&mut self, line: &[u8], out: &mut Vec<u8>) -> Result<(), LineFault>
         ensures read { IfOk result (λ _. IsRead line.now out.old.items out.new.items) }
@@ -116,8 +116,8 @@ impl LineReader {
 /// [`LineReader::append_octets`] does.
 ///
 /// # Errors
-/// The place of the first octet with which no line goes on, or that of the line's end, if it ends too early; or that
-/// memory is refused. `out` then stays as it was.
+/// The place of the first octet that no line can have there, or of the line's end, if it ends too early; or that memory is
+/// refused. `out` then stays as it was.
 ///
 /// # Examples
 /// ```rust

@@ -29,7 +29,8 @@ const REASONS: [Why; 11] = [
     Why::NotCanonical,
 ];
 
-/// Returns how many octets the name of a reason has with which the line begins, or the place at which none goes on.
+/// Returns how many octets the name of a reason has with which the line begins, or the place of the first octet that none
+/// has there.
 fn read_reason(line: &[u8]) -> Result<usize, usize>
     ensures within { IfOk result (λ taken. taken ≤ length line.now) }
     ensures near { IfErr result (λ place. place ≤ length line.now) }
@@ -48,7 +49,7 @@ fn read_reason(line: &[u8]) -> Result<usize, usize>
     Err(farthest)
 }
 
-/// Reads `WHY at P`, or returns the place at which it does not go on.
+/// Reads `WHY at P`, or returns the place of the first octet that is none of it.
 fn read_rest(line: &[u8]) -> Result<(), usize>
     ensures near { IfErr result (λ place. place ≤ length line.now) }
 {
@@ -65,7 +66,7 @@ fn read_rest(line: &[u8]) -> Result<(), usize>
     }
 }
 
-/// Reads the line of a refused record, without its number, or returns the place at which it does not go on.
+/// Reads the line of a refused record, without its number, or returns the place of the first octet that is none of it.
 pub(crate) fn read_refusal(line: &[u8]) -> Result<(), usize>
     ensures begins { IfOk result (λ _. (more : List ℕ) × (line.now ≡ codes "refused " ++ more)) }
     ensures near { IfErr result (λ place. place ≤ length line.now) }

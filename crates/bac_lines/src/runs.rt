@@ -22,8 +22,9 @@ use std::alloc::Global;
 ///
 /// # Errors
 /// As [`PackFault`] says. Reading stops at what comes first: an octet after the 1,000,000th line, the 1,048,577th octet of a
-/// line before its LF, or a failed read. A whole line is `Unreadable`, with the first column at which no line goes on;
-/// `Refused` if it reports a record that was refused; or `RecordTooLong` if its frame has more than 65,535 octets.
+/// line before its LF, or a failed read. A whole line is `Unreadable`, with the column of the first octet that no line can
+/// have there; `Refused` if it reports a record that was refused; or `RecordTooLong` if its frame has more than 65,535
+/// octets.
 ///
 /// # Examples
 /// ```rust

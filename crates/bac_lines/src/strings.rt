@@ -83,7 +83,7 @@ fn read_character(octets: &[u8], most: usize) -> Result<usize, usize>
 }
 
 /// Returns how many octets the characters have with which the octets begin and that are shown as they are, and the place
-/// of the first octet with which no such character goes on.
+/// of the first octet that no such character can have there.
 fn plain_octets(octets: &[u8]) -> (usize, usize)
     ensures front { result.0 ≤ length octets.now }
     ensures place { result.1 ≤ length octets.now }

@@ -28,8 +28,8 @@ pub enum PackFault {
     /// Memory was refused for the line of this number, or for the window that a run begins with.
     #[error("out of memory")]
     OutOfMemory(u32),
-    /// The line of this number cannot be read: it goes on with no octet that a line has at this column, counted from 1,
-    /// or ends there too early. `run_pack` does not return it.
+    /// The line of this number cannot be read: no line can have the octet at this column, counted from 1, there, or it
+    /// ends there, too early. `run_pack` does not return it.
     #[error("line {line}: unreadable at column {column}")]
     Unreadable { line: u32, column: usize },
     /// The line of this number reports a record that was refused, and no octets. `run_pack` does not return it.
