@@ -324,7 +324,7 @@ uint32_t bactool_show(const uint8_t *octets, size_t length, char *out, size_t ro
 /*
  * Writes, at the front of `out`, the canonical octets of the frame whose text is passed: the way back from bactool_show.
  * The text is accepted exactly as bactool_show writes it, with the same blanks, digits and letters, without a line feed
- * and without a NUL. There are fewer octets than `length`, so a room of `length` is enough.
+ * and without a NUL. To learn how much room is needed, call with room 0.
  *
  *   BACTOOL_OK          they are written: `count` is their number
  *   BACTOOL_NO_ROOM     `room` is too small for them: nothing is written, and `count` is their number
