@@ -1,7 +1,7 @@
 //! The canonical octets of the frame that a line says.
 
 ghost use Rattle.std.specs.Prelude.{◌≡◌, ◌≢◌, ◌⊎◌, ◌≤◌, IfErr, IfOk, length};
-ghost use Rattle.bac_lines.specs.Lines.{IsNear};
+ghost use Rattle.bac_lines.specs.Lines.{IfStop, IsNear, IsNoLine};
 ghost use Rattle.bac_c.specs.Outcomes.{IsWritten, LacksRoom, without_memory};
 ghost use Rattle.bac_c.specs.Reading.{IsReadAs, TellsOfLine, line_refused_as};
 
@@ -17,6 +17,7 @@ const FIRST_ROOM: usize = 64;
 /// Returns the canonical octets of the frame that the line says.
 fn octets_of_line(alloc: Global, line: &[u8]) -> Result<Vec<u8>, LineFault>
     ensures read { IfOk result (λ canonical. IsReadAs line.now canonical.items) }
+    ensures refused { IfErr result (λ fault. IfStop fault (λ place. IsNoLine line.now)) }
     ensures near { IfErr result (IsNear line.now) }
 {
     let Ok(mut canonical) = Vec::with_capacity(alloc, FIRST_ROOM) else {
@@ -66,6 +67,7 @@ pub extern "C" fn bactool_read(
     ensures room { result ≡ BACTOOL_NO_ROOM → LacksRoom (IsReadAs line.now) out.old outcome.new }
     ensures unchanged { result ≢ BACTOOL_OK → out.new ≡ out.old }
     ensures refused { result ≡ BACTOOL_REFUSED → TellsOfLine line.now outcome.new }
+    ensures none { result ≡ BACTOOL_REFUSED → IsNoLine line.now }
     ensures memory { result ≡ BACTOOL_NO_MEMORY → outcome.new ≡ without_memory }
 {
     match octets_of_line(alloc, line) {

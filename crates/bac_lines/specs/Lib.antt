@@ -1,2 +1,4 @@
 pub mod Lines
+pub mod Scanning
+pub mod Found
 pub mod ShownLines

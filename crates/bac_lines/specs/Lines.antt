@@ -1,6 +1,7 @@
 -- What reading a line gives.
 use Rattle.std.specs.Prelude.{◌≡◌, ℕ, ◌+◌, ◌≤◌, List, length, cond, nat_lt}
-use Rattle.bac_tag.specs.Spelling.{AppendsLeast}
+use Rattle.bac_tag.specs.Spelling.{AppendsLeast, IsLeast}
+use Rattle.bac_tag.specs.Octets.{IsOctets}
 use Rattle.bac_npdu.specs.Frames.{FrameValue, SpellsFrame}
 use Rattle.bac_text.specs.FrameText.{text}
 use Rattle.bac_lines.specs.declared.fault.LineFault.{LineFault}
@@ -16,9 +17,13 @@ pub record IsRead (line old new : List ℕ) : Type 0 where
 abbrev pub IsLineOf : List ℕ → List ℕ → Type 0
 IsLineOf octets line = (frame : FrameValue) × SpellsFrame frame octets × (line ≡ text frame)
 
--- the canonical octets of some frame are appended
-abbrev pub AppendsAFrame : List ℕ → List ℕ → Type 0
-AppendsAFrame old new = (frame : FrameValue) × AppendsLeast (SpellsFrame frame) old new
+-- Some octets spell the frame.
+abbrev pub IsFrame : FrameValue → Type 0
+IsFrame frame = (octets : List ℕ) × SpellsFrame frame octets
+
+-- The line is that of no frame, whatever canonical octets it has.
+abbrev pub IsNoLine : List ℕ → Type 0
+IsNoLine line = (frame : FrameValue) (octets : List ℕ) → IsLeast (SpellsFrame frame) octets → IsOctets octets → line ≡ text frame → ⊥
 
 abbrev pub IfStop : LineFault → (ℕ → Type 0) → Type 0
 IfStop OutOfMemory P = Unit {0}

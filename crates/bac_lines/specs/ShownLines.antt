@@ -1,24 +1,27 @@
 -- Texts of the lines that `bactool show` writes.
-use Rattle.std.specs.Prelude.{◌≡◌, ◌⊎◌, ℕ, ◌+◌, ◌<◌, ◌≤◌, Bool, ◌&&◌, nat_le, IsTrue, List, ◌∷◌, ◌++◌, length, codes}
-use Rattle.std.specs.List.{list_all}
+use Rattle.std.specs.Prelude.{◌≡◌, ◌⊎◌, ℕ, ◌+◌, ◌<◌, ◌≤◌, List, ◌∷◌, ◌++◌, length, codes}
+use Rattle.bac_tag.specs.Octets.{IsOctets}
 use Rattle.bac_tag.specs.Spelling.{IsLeast}
 use Rattle.bac_npdu.specs.Frames.{FrameValue, SpellsFrame}
 use Rattle.bac_text.specs.FrameText.{text}
+use Rattle.bac_text.specs.Words.{number}
 use Rattle.bac_record.specs.Records.{IsRecord, LONGEST}
 use Rattle.bac_pack.specs.Lines.{without_return}
 use Rattle.bac_pack.specs.declared.faults.PackFault.{PackFault}
 use Rattle.bac_pack.specs.declared.faults.PackFault.TheVariants.{RecordTooLong, Unreadable, Refused}
+use Rattle.bac_lines.specs.Lines.{IsNoLine}
 
 -- the most octets of a line, before its LF
 abbrev pub LONGEST_LINE : ℕ
 LONGEST_LINE = 1048576
 
-abbrev pub is_digit : ℕ → Bool
-is_digit octet = nat_le 48 octet && nat_le octet 57
+-- the greatest number of a record
+abbrev pub RECORDS : ℕ
+RECORDS = 1000000
 
--- The line is this rest, alone or after digits and a blank.
+-- The line is this rest, alone or after the number of a record and a blank.
 abbrev pub IsNumbered : List ℕ → List ℕ → Type 0
-IsNumbered line rest = (line ≡ rest) ⊎ ((digits : List ℕ) × IsTrue (list_all is_digit digits) × (line ≡ digits ++ 32 ∷ rest))
+IsNumbered line rest = (line ≡ rest) ⊎ ((n : ℕ) × (1 ≤ n) × (n ≤ RECORDS) × (line ≡ number n ++ 32 ∷ rest))
 
 -- Without one CR at its end, and a number and a blank before it, the line is that of a frame with these canonical octets.
 pub record IsShownAs (line octets : List ℕ) : Type 0 where
@@ -40,9 +43,17 @@ IsRefusedLine line = (rest more : List ℕ) × IsNumbered (without_return line) 
 abbrev pub IsColumn : List ℕ → ℕ → Type 0
 IsColumn line column = (1 ≤ column) × (column ≤ length line + 1)
 
--- why a line that lost its CR is not read: memory was refused, or it stops at a column
+-- Alone and without its number, the line is that of no frame.
+abbrev pub HasNoLine : List ℕ → Type 0
+HasNoLine line = (rest : List ℕ) → IsNumbered line rest → IsNoLine rest
+
+-- The line stands for no frame.
+abbrev pub IsShownAsNone : List ℕ → Type 0
+IsShownAsNone line = (octets : List ℕ) → IsOctets octets → IsShownAs line octets → ⊥
+
+-- why a line that lost its CR is not read: it is that of no frame, and stops at a column
 abbrev pub IsUnread : List ℕ → PackFault → Type 0
-IsUnread line (Unreadable at column) = IsColumn line column
+IsUnread line (Unreadable at column) = IsColumn line column × HasNoLine line
 IsUnread line _ = ⊥
 
 -- why octets are no record
@@ -50,10 +61,10 @@ abbrev pub IsTooLong : List ℕ → PackFault → Type 0
 IsTooLong octets (RecordTooLong at) = LONGEST < length octets
 IsTooLong octets _ = ⊥
 
--- The line stands for no record, and the fault says why: a column of it or the one after its end, a refused record, or a frame
--- that is too long for a record.
+-- The line stands for no record, and the fault says why: it stands for no frame, with a column of it or the one after its end;
+-- or for a refused record; or for a frame that is too long for a record.
 abbrev pub StandsForNone : List ℕ → PackFault → Type 0
-StandsForNone line (Unreadable at column) = IsColumn (without_return line) column
+StandsForNone line (Unreadable at column) = IsColumn (without_return line) column × IsShownAsNone line
 StandsForNone line (Refused at) = IsRefusedLine line
 StandsForNone line (RecordTooLong at) = (octets : List ℕ) × IsShownAs line octets × (LONGEST < length octets)
 StandsForNone line _ = ⊥

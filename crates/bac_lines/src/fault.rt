@@ -3,13 +3,17 @@
 ghost use Rattle.std.specs.Prelude.{◌≡◌, ◌+◌, ◌^◌, ◌<◌};
 ghost use Rattle.bac_lines.specs.Lines.{IfStop, after, farther};
 
+use thiserror::Error;
+
 /// Why a line is not read.
-#[derive(Clone, Copy, Debug, PartialEq, Eq)]
+#[derive(Clone, Copy, Debug, PartialEq, Eq, Error)]
 pub enum LineFault {
     /// Memory was refused.
+    #[error("out of memory")]
     OutOfMemory,
     /// The octet at this place, counted from 0, is the first one that no line can have there; or the line ends there, too
     /// early.
+    #[error("unreadable at {0}")]
     Stop(usize),
 }
 

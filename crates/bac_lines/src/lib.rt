@@ -7,9 +7,21 @@
 //!
 //! # How it works
 //!
-//! What may come in a line is listed as nested pairs of parts, each a type that implements the private trait `FromLine`
-//! (`from_line.rt`). A part reads a front of the line and adds the fields that it says (`said.rt`), or reports the first
-//! octet that no line can have there. The fields of a whole line are then made into octets by bac_fields.
+//! The line of a frame is its fields, printed. So a line is scanned field by field, without a grammar (`scanning.rt`): what
+//! a field begins with, and the sign after its word, say what it is. An end is that of what was opened last (`closing.rt`).
+//! The fields (`said.rt`) are made into octets by bac_fields, which accepts exactly those that a frame has. At last the line
+//! of the frame that was made is compared with the one that was read (`reading.rt`).
+//!
+//! That each line of a frame is read is proved in three steps: the fields of a frame are as the scanner expects them
+//! (`AreTokens` in `specs/Scanning.antt`; `FrameTokens.antt` and the files that it uses), fields of that kind are found in
+//! the line that is printed of them (`Found.antt`; `NameLemmas.antt`, `WordLemmas.antt`, `StartLemmas.antt` and
+//! `PartwayLemmas.antt`), and these fields are those of one frame (`ReadingLemmas.antt`).
+//!
+//! # Where a line is refused
+//!
+//! The place of a fault is found by parts, each a type that implements the private trait `FromLine` (`from_line.rt`). What
+//! may come in a line is listed as nested pairs of parts. A part reads a front of the line, or reports the first octet that
+//! no line can have there. That the place is right is tested: by the rows of `lines.txt` in bac_vectors.
 //!
 //! | Part | What it reads |
 //! |---|---|
@@ -18,19 +30,16 @@
 //! | `Each` | parts of one kind with one blank between two, and the part after them |
 //! | `Word`, `Number`, `Object`, `Hexadecimal`, `Address` | one field, with the octets before what it says |
 //! | `OpenValue` | an open value (`open_values.rt`, `elements.rt`, `strings.rt`) |
-//! | `Mark`, `End` | octets that say nothing; the end of the line |
+//! | `End` | the end of the line |
 //!
 //! The messages are in files with the names of those of bac_fields. Some words begin alike (`property`, `priority`), so
 //! where two parts may come the second is tried after the first, and if both fail, the farther place is reported. Such
 //! parts differ within their first word or so, hence nothing long is read twice.
-//!
-//! At last the line of the frame that was made is compared with the one that was read (`reading.rt`). So it is proved that
-//! what is read is right, whatever the parts do. That they read every line, and at which octet they stop, is tested: by the
-//! rows of `lines.txt` in bac_vectors.
 #![tactic(auto)]
 
 mod apdus;
 mod choices;
+mod closing;
 mod elements;
 mod fault;
 mod frames;
@@ -44,6 +53,7 @@ mod reading;
 mod refused_lines;
 mod runs;
 mod said;
+mod scanning;
 mod services;
 mod shown_lines;
 mod strings;

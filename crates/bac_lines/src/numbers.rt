@@ -1,7 +1,9 @@
 //! Decimal numbers of a range, without leading zeros, and objects.
 
-ghost use Rattle.std.specs.Prelude.{◌≤◌, ◌<◌, ◌+◌, ◌*◌, length, IfOk, IfErr, IfSome};
+ghost use Rattle.std.specs.Prelude.{◌≡◌, ◌≤◌, ◌<◌, ◌+◌, ◌*◌, ◌++◌, ℕ, List, length, take, drop, slice_index, IsTrue, IfOk, IfErr, IfSome, IfNone};
+ghost use Rattle.bac_text.specs.Words.{number};
 ghost use Rattle.bac_lines.specs.Lines.{IsNear};
+ghost use Rattle.bac_lines.specs.Scanning.{clear, is_decimal};
 
 use crate::fault::LineFault;
 use crate::from_line::FromLine;
@@ -11,8 +13,9 @@ use bac_fields::Name;
 
 /// Returns the decimal digit at the place, or None if there is none.
 #[inline(always)]
-fn digit_at(line: &[u8], place: usize) -> Option<u64>
-    ensures { IfSome result (λ digit. place < length line.now) }
+pub(crate) fn digit_at(line: &[u8], place: usize) -> Option<u64>
+    ensures some { IfSome result (λ digit. (place < length line.now) × ((digit < 10) × (slice_index line.now place ≡ 48 + digit))) }
+    ensures none { IfNone result (IsTrue (clear is_decimal (drop place line.now))) }
 {
     let octet = *line.get(place)?;
     if b'0' <= octet && octet <= b'9' {
@@ -25,7 +28,8 @@ fn digit_at(line: &[u8], place: usize) -> Option<u64>
 /// Returns the number with one digit more, or None if it is greater than `most`.
 #[inline(always)]
 fn with_digit(number: u64, digit: u64, most: u64) -> Option<u64>
-    ensures { IfSome result (λ next. next ≤ most) }
+    ensures some { IfSome result (λ next. (next ≡ number * 10 + digit) × (next ≤ most)) }
+    ensures none { IfNone result (most < number * 10 + digit) }
 {
     let next = number.checked_mul(10)?.checked_add(digit)?;
     if next <= most { Some(next) } else { None }
@@ -34,8 +38,12 @@ fn with_digit(number: u64, digit: u64, most: u64) -> Option<u64>
 /// Returns the number of the range with which the line begins, and how many digits it has. `least` is 0 or 1.
 #[inline(always)]
 pub(crate) fn read_number(line: &[u8], least: u64, most: u64) -> Result<(u64, usize), LineFault>
+    ensures least { IfOk result (λ found. least ≤ found.0) }
     ensures range { IfOk result (λ found. found.0 ≤ most) }
     ensures within { IfOk result (λ found. found.1 ≤ length line.now) }
+    ensures read { IfOk result (λ found. take found.1 line.now ≡ number found.0) }
+    ensures ends { IfOk result (λ found. 0 < found.0 → IsTrue (clear is_decimal (drop found.1 line.now))) }
+    ensures none { IfErr result (λ fault. least ≤ 1 → (n : ℕ) (more : List ℕ) → least ≤ n → n ≤ most → IsTrue (clear is_decimal more) → line.now ≡ number n ++ more → ⊥) }
     ensures near { IfErr result (IsNear line.now) }
 {
     let Some(first) = digit_at(line, 0) else {

@@ -1,16 +1,19 @@
 //! Reading a whole line.
 
-ghost use Rattle.std.specs.Prelude.{◌≡◌, ◌≤◌, length, IfOk, IfErr};
+ghost use Rattle.std.specs.Prelude.{◌≡◌, ◌≢◌, ◌≤◌, false, length, IsTrue, IfOk, IfErr};
 ghost use Rattle.bac_tag.specs.Octets.{Extends};
-ghost use Rattle.bac_npdu.specs.Frames.{value_of};
+ghost use Rattle.bac_npdu.specs.Frames.{FrameValue, SpellsFrame, value_of};
 ghost use Rattle.bac_text.specs.FrameText.{text};
-ghost use Rattle.bac_lines.specs.Lines.{IsRead, IsNear, IsLineOf, AppendsAFrame};
+ghost use Rattle.bac_lines.specs.Lines.{IfStop, IsRead, IsNear, IsLineOf, IsNoLine, IsFrame};
 
+use crate::closing::Closing;
 use crate::fault::LineFault;
 use crate::frames;
 use crate::from_line::FromLine;
 use crate::said::Said;
+use crate::scanning::scan;
 use crate::words::shared_octets;
+use bac_fields::laws::{fields_are_of_one_frame, the_line_is_the_fields};
 use bac_fields::{FieldWhy, append_octets};
 use bac_npdu::laws::frames_have_one_value;
 use bac_npdu::{Frame, decode_frame};
@@ -23,6 +26,8 @@ pub struct LineReader {
     alloc: Global,
     /// What the last line said.
     said: Said,
+    /// The ends of what is open in it.
+    ends: Vec<Closing>,
     /// The line of the frame that was made of it.
     shown: Vec<u8>,
 }
@@ -33,6 +38,7 @@ impl LineReader {
         LineReader {
             alloc,
             said: Said::new(alloc),
+            ends: Vec::new(alloc),
             shown: Vec::new(alloc),
         }
     }
@@ -40,74 +46,92 @@ impl LineReader {
     /// Appends the canonical octets of the frame that the line says to what is in `out`. The line has no line feed.
     ///
     /// # Errors
-    /// The place of the first octet that no line can have there, or of the line's end, if it ends too early; or that
-    /// memory is refused. `out` then stays as it was.
+    /// That the line is that of no frame, with the place of the first octet that no line can have there, or of the line's
+    /// end, if it ends too early; or that memory is refused. `out` then stays as it was.
     pub fn append_octets(&mut self, line: &[u8], out: &mut Vec<u8>) -> Result<(), LineFault>
         ensures read { IfOk result (λ _. IsRead line.now out.old.items out.new.items) }
+        ensures refused { IfErr result (λ fault. IfStop fault (λ place. IsNoLine line.now)) }
         ensures near { IfErr result (IsNear line.now) }
         ensures unchanged { IfErr result (λ _. out.new.items ≡ out.old.items) }
     {
         let start = out.len();
-        let read = self.read(line, out);
-        if read.is_err() {
-            out.truncate(start);
+        match self.append_scanned(line, out) {
+            Ok(true) => return Ok(()),
+            Ok(false) => {}
+            Err(_) => {
+                out.truncate(start);
+                return Err(LineFault::OutOfMemory);
+            }
         }
-        read
+        let fault = self.fault_in(line, out);
+        out.truncate(start);
+        Err(fault)
     }
 
-    /// Appends the octets, and compares the line that they are shown as with the one that was read. If it fails, `out` may
-    /// hold some octets more.
-    fn read(&mut self, line: &[u8], out: &mut Vec<u8>) -> Result<(), LineFault>
-        ensures read { IfOk result (λ _. IsRead line.now out.old.items out.new.items) }
-        ensures near { IfErr result (IsNear line.now) }
+    /// Appends the octets of the frame that the fields of the line say, and compares the line of that frame with the one
+    /// that was read. Returns false if the line is that of no frame. `out` may then hold some octets more, and if memory is
+    /// refused.
+    fn append_scanned(&mut self, line: &[u8], out: &mut Vec<u8>) -> Result<bool, LineFault>
+        ensures read { IfOk result (λ is_line. IsTrue is_line → IsRead line.now out.old.items out.new.items) }
+        ensures none { IfOk result (λ is_line. is_line ≡ false → IsNoLine line.now) }
         ensures kept { Extends out.old.items out.new.items }
     {
+        the_line_is_the_fields();
+        fields_are_of_one_frame();
+        if !scan(line, &mut self.said, &mut self.ends)? {
+            return Ok(false);
+        }
         let start = out.len();
-        self.append_said(line, out)?;
-        frames_have_one_value();
-        self.check(line, &out[start..])
-    }
-
-    /// Returns the fault if the line is not that of the frame which the octets spell.
-    fn check(&mut self, line: &[u8], octets: &[u8]) -> Result<(), LineFault>
-        ensures same { IfOk result (λ _. IsLineOf octets.now line.now) }
-        ensures near { IfErr result (IsNear line.now) }
-    {
-        match decode_frame(self.alloc, octets) {
-            Ok(frame) => self.compare(line, &frame),
-            Err(_) => Err(LineFault::OutOfMemory),
+        match append_octets(&self.said.fields, &self.said.contents, out) {
+            Ok(()) => {
+                frames_have_one_value();
+                self.is_shown(line, &out[start..])
+            }
+            Err(refusal) if refusal.why == FieldWhy::OutOfMemory => Err(LineFault::OutOfMemory),
+            Err(_) => Ok(false),
         }
     }
 
-    /// Appends the canonical octets of the frame that the parts find in the line. If it fails, `out` may hold some octets
-    /// more.
-    fn append_said(&mut self, line: &[u8], out: &mut Vec<u8>) -> Result<(), LineFault>
-        ensures made { IfOk result (λ _. AppendsAFrame out.old.items out.new.items) }
-        ensures near { IfErr result (IsNear line.now) }
+    /// Returns true if the line is that of the frame which the octets spell.
+    fn is_shown(&mut self, line: &[u8], octets: &[u8]) -> Result<bool, LineFault>
+        ensures same { IfOk result (λ is_line. IsTrue is_line → IsLineOf octets.now line.now) }
+        ensures other { IfOk result (λ is_line. is_line ≡ false → (frame : FrameValue) × SpellsFrame frame octets.now × (line.now ≢ text frame)) }
+    {
+        let Ok(frame) = decode_frame(self.alloc, octets) else {
+            return Err(LineFault::OutOfMemory);
+        };
+        self.shown.clear();
+        if append_text(&frame, &mut self.shown).is_err() {
+            return Err(LineFault::OutOfMemory);
+        }
+        Ok(self.shown.as_slice() == line)
+    }
+
+    /// Returns why the line, which is that of no frame, is not read. The parts find the place. `out` may then hold some
+    /// octets more.
+    fn fault_in(&mut self, line: &[u8], out: &mut Vec<u8>) -> LineFault
+        ensures near { IsNear line.now result }
         ensures kept { Extends out.old.items out.new.items }
     {
         self.said.clear();
-        frames::Frame.read(line, &mut self.said)?;
+        if let Err(fault) = frames::Frame.read(line, &mut self.said) {
+            return fault;
+        }
+        let start = out.len();
         match append_octets(&self.said.fields, &self.said.contents, out) {
-            Ok(()) => Ok(()),
-            Err(refusal) if refusal.why == FieldWhy::OutOfMemory => Err(LineFault::OutOfMemory),
-            Err(_) => Err(LineFault::Stop(line.len())),
+            Ok(()) => self.first_difference(line, &out[start..]),
+            Err(refusal) if refusal.why == FieldWhy::OutOfMemory => LineFault::OutOfMemory,
+            Err(_) => LineFault::Stop(line.len()),
         }
     }
 
-    /// Returns the fault if the line is not that of the frame: the place of the first difference.
-    fn compare(&mut self, line: &[u8], frame: &Frame) -> Result<(), LineFault>
-        ensures same { IfOk result (λ _. line.now ≡ text (value_of frame.now)) }
-        ensures near { IfErr result (IsNear line.now) }
+    /// Returns the fault at the first octet at which the line is not that of the frame that the octets spell.
+    fn first_difference(&mut self, line: &[u8], octets: &[u8]) -> LineFault
+        ensures near { IsNear line.now result }
     {
-        self.shown.clear();
-        if append_text(frame, &mut self.shown).is_err() {
-            return Err(LineFault::OutOfMemory);
-        }
-        if self.shown.as_slice() == line {
-            Ok(())
-        } else {
-            Err(LineFault::Stop(shared_octets(&self.shown, line)))
+        match self.is_shown(line, octets) {
+            Ok(_) => LineFault::Stop(shared_octets(&self.shown, line)),
+            Err(_) => LineFault::OutOfMemory,
         }
     }
 }
@@ -116,8 +140,8 @@ impl LineReader {
 /// [`LineReader::append_octets`] does.
 ///
 /// # Errors
-/// The place of the first octet that no line can have there, or of the line's end, if it ends too early; or that memory is
-/// refused. `out` then stays as it was.
+/// That the line is that of no frame, with the place of the first octet that no line can have there, or of the line's end,
+/// if it ends too early; or that memory is refused. `out` then stays as it was.
 ///
 /// # Examples
 /// ```rust
@@ -137,6 +161,7 @@ impl LineReader {
 /// ```
 pub fn append_octets_of_line(alloc: Global, line: &[u8], out: &mut Vec<u8>) -> Result<(), LineFault>
     ensures read { IfOk result (λ _. IsRead line.now out.old.items out.new.items) }
+    ensures refused { IfErr result (λ fault. IfStop fault (λ place. IsNoLine line.now)) }
     ensures near { IfErr result (IsNear line.now) }
     ensures unchanged { IfErr result (λ _. out.new.items ≡ out.old.items) }
 {
@@ -148,17 +173,15 @@ pub fn append_octets_of_line(alloc: Global, line: &[u8], out: &mut Vec<u8>) -> R
 /// # Errors
 /// As for [`append_octets_of_line`].
 pub fn frame_of_line(alloc: Global, line: &[u8]) -> Result<Frame, LineFault>
-    ensures read { IfOk result (λ frame. line.now ≡ text (value_of frame)) }
+    ensures read { IfOk result (λ frame. (line.now ≡ text (value_of frame)) × IsFrame (value_of frame)) }
+    ensures refused { IfErr result (λ fault. IfStop fault (λ place. IsNoLine line.now)) }
     ensures near { IfErr result (IsNear line.now) }
 {
-    let mut reader = LineReader::new(alloc);
     let mut octets = Vec::new(alloc);
-    reader.append_said(line, &mut octets)?;
+    append_octets_of_line(alloc, line, &mut octets)?;
+    frames_have_one_value();
     match decode_frame(alloc, &octets) {
-        Ok(frame) => {
-            reader.compare(line, &frame)?;
-            Ok(frame)
-        }
+        Ok(frame) => Ok(frame),
         Err(_) => Err(LineFault::OutOfMemory),
     }
 }

@@ -1,6 +1,11 @@
 //! The fields that a line says.
 
-ghost use Rattle.std.specs.Prelude.{◌≡◌, IfErr};
+ghost use Rattle.std.specs.Prelude.{◌≡◌, ◌++◌, ◌∷◌, [], false, length, IfErr, IfOk};
+ghost use Rattle.bac_fields.specs.Names.{number_of};
+ghost use Rattle.bac_fields.specs.Fields.{FieldValue};
+ghost use Rattle.bac_fields.specs.Symbols.{has_contents};
+ghost use Rattle.bac_lines.specs.declared.said.Said.{Said};
+ghost use Rattle.bac_lines.specs.Found.{Adds};
 
 use crate::fault::LineFault;
 use bac_fields::{Field, Name};
@@ -45,7 +50,10 @@ impl Said {
     }
 
     /// Takes all away.
-    pub(crate) fn clear(&mut self) {
+    pub(crate) fn clear(&mut self)
+        ensures fields { self.new.fields.items ≡ [] }
+        ensures contents { self.new.contents.items ≡ [] }
+    {
         self.fields.clear();
         self.contents.clear();
     }
@@ -53,7 +61,8 @@ impl Said {
     /// Adds a field without contents.
     #[inline(always)]
     pub(crate) fn add(&mut self, name: Name, number: u64) -> Result<(), LineFault>
-        ensures { IfErr result (λ fault. fault ≡ LineFault.OutOfMemory) }
+        ensures added { (v : FieldValue) → v.name ≡ name → v.number ≡ number → has_contents (number_of name) ≡ false → IfOk result (λ _. Adds v self.old self.new) }
+        ensures memory { IfErr result (λ fault. fault ≡ LineFault.OutOfMemory) }
     {
         let place = self.contents.len();
         self.add_held(name, number, place, 0)
@@ -68,7 +77,9 @@ impl Said {
         place: usize,
         length: usize,
     ) -> Result<(), LineFault>
-        ensures { IfErr result (λ fault. fault ≡ LineFault.OutOfMemory) }
+        ensures added { IfOk result (λ _. self.new.fields.items ≡ self.old.fields.items ++ (record { name = number_of name; number = number; place = place; head = 0; length = length }) ∷ []) }
+        ensures contents { self.new.contents.items ≡ self.old.contents.items }
+        ensures memory { IfErr result (λ fault. fault ≡ LineFault.OutOfMemory) }
     {
         let name = name.number();
         let field = Field {
@@ -82,6 +93,21 @@ impl Said {
             Ok(()) => Ok(()),
             Err(_) => Err(LineFault::OutOfMemory),
         }
+    }
+
+    /// Adds a field whose contents are those from `start` on.
+    #[inline(always)]
+    pub(crate) fn add_since(
+        &mut self,
+        name: Name,
+        number: u64,
+        start: usize,
+    ) -> Result<(), LineFault>
+        ensures added { (before : Said) (v : FieldValue) → v.name ≡ name → v.number ≡ number → length before.contents.items ≡ start → self.old.fields.items ≡ before.fields.items → self.old.contents.items ≡ before.contents.items ++ v.contents → IfOk result (λ _. Adds v before self.new) }
+        ensures memory { IfErr result (λ fault. fault ≡ LineFault.OutOfMemory) }
+    {
+        let length = self.contents.len().saturating_sub(start);
+        self.add_held(name, number, start, length)
     }
 
     /// Returns how much is said.

@@ -1,15 +1,14 @@
 //! The lines that `bactool show` writes.
 
-ghost use Rattle.std.specs.Prelude.{◌≡◌, ◌≤◌, ◌<◌, ◌+◌, ◌++◌, ◌∷◌, length, drop, take, refl, codes, IfOk, IfErr, IfSome, OnOk, OnErr, IsTrue, List, ℕ};
-ghost use Rattle.std.specs.List.{list_all};
+ghost use Rattle.std.specs.Prelude.{◌≡◌, ◌≤◌, ◌<◌, ◌+◌, ◌++◌, length, drop, refl, IfOk, IfErr, OnOk, OnErr};
 ghost use Rattle.bac_tag.specs.Octets.{Extends};
 ghost use Rattle.bac_record.specs.Records.{IsRecord, record_of};
 ghost use Rattle.bac_pack.specs.LineForms.{IsRefused};
-ghost use Rattle.bac_lines.specs.Lines.{IsNear};
-ghost use Rattle.bac_lines.specs.ShownLines.{is_digit, IsNumbered, IsUnread, IsTooLong, StandsFor, StandsForNone, LONGEST_LINE};
+ghost use Rattle.bac_lines.specs.Lines.{IfStop, IsNear, IsNoLine};
+ghost use Rattle.bac_lines.specs.ShownLines.{IsNumbered, HasNoLine, IsUnread, IsTooLong, StandsFor, StandsForNone, LONGEST_LINE};
 
 use crate::fault::LineFault;
-use crate::numbers::read_number;
+use crate::numbers::{digit_at, read_number};
 use crate::reading::LineReader;
 use crate::refused_lines::read_refusal;
 use bac_pack::layers::strip_return;
@@ -44,30 +43,19 @@ impl ShownLines {
     }
 }
 
-/// Returns how many decimal digits the line begins with.
-fn digits_in(line: &[u8]) -> usize
-    ensures within { result ≤ length line.now }
-    ensures digits { IsTrue (list_all is_digit (take result line.now)) }
-{
-    let mut count = 0;
-    while count < line.len() && b'0' <= line[count] && line[count] <= b'9' {
-        count += 1;
-    }
-    count
-}
-
 /// Returns how many octets the number of a record and the blank after it have: none, if the line does not begin with a
 /// digit.
 fn number_len(line: &[u8]) -> Result<usize, LineFault>
     ensures within { IfOk result (λ start. start ≤ length line.now) }
     ensures numbered { IfOk result (λ start. IsNumbered line.now (drop start line.now)) }
+    ensures only { IfOk result (λ start. IsNoLine (drop start line.now) → HasNoLine line.now) }
+    ensures none { IfErr result (λ fault. HasNoLine line.now) }
     ensures near { IfErr result (IsNear line.now) }
 {
-    let digits = digits_in(line);
-    if digits == 0 {
+    if digit_at(line, 0).is_none() {
         return Ok(0);
     }
-    read_number(line, 1, RECORDS)?;
+    let (_, digits) = read_number(line, 1, RECORDS)?;
     match line.get(digits) {
         Some(b' ') => Ok(digits + 1),
         _ => Err(LineFault::Stop(digits)),
@@ -76,7 +64,8 @@ fn number_len(line: &[u8]) -> Result<usize, LineFault>
 
 /// Returns what is reported of a line of this number that is not read.
 fn fault_of(number: u32, line: &[u8], fault: LineFault) -> PackFault
-    requires { IsNear line.now fault }
+    requires near { IsNear line.now fault }
+    requires none { IfStop fault (λ place. HasNoLine line.now) }
     ensures { IsRefused (IsUnread line.now) number result }
 {
     // A length has room in a `usize` with one octet more, so a column has.

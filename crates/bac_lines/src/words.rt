@@ -34,17 +34,6 @@ pub(crate) fn read_word(word: &[u8], line: &[u8]) -> Result<usize, LineFault>
     }
 }
 
-/// These octets, which say nothing.
-#[derive(Drop)]
-pub(crate) struct Mark(pub(crate) &'static [u8]);
-
-impl FromLine for Mark {
-    #[inline(always)]
-    fn read(&self, line: &[u8], _said: &mut Said) -> Result<usize, LineFault> {
-        read_word(self.0, line)
-    }
-}
-
 /// These octets, which say a field with this name and this number.
 #[derive(Drop)]
 pub(crate) struct Word(pub(crate) &'static [u8], pub(crate) Name, pub(crate) u64);

@@ -1,0 +1,34 @@
+use Rattle.std.proofs.Common.{◌∙◌, ◌∷◌, ◌++◌, [], List, ℕ, sym, ap, arith, append_assoc}
+use Rattle.std.proofs.lemmas.List.{length-append}
+use Rattle.bac_record.specs.Digits.{hexadecimal}
+use Rattle.bac_text.specs.Words.{number}
+use Rattle.bac_lines.proofs.ScanLemmas.{not_both, found_is, tag_rest, pair_is}
+use Rattle.bac_lines.proofs.scanning.brackets.add_tagged.Goals as goal
+
+pub returns-in-Some-2-clause-group : goal.returns-in-Some-2-clause-group
+returns-in-Some-2-clause-group c v after more f t l =
+    let line = l ∙ ap (λ (l : List ℕ). 91 ∷ l) (append_assoc (number v.number) (93 ∷ 123 ∷ []) more) in
+    let tag = pair_is (c.in-Some.ensures.found v.number (123 ∷ more) t.0 line) in
+    let r = c.in_ok-taken.ensures.group v after more f t tag.0 (tag_rest c.args.line.now (number v.number) (123 ∷ more) c.in-Some.start line tag.1) in
+    let p = pair_is (sym c.in-Some-2.is ∙ r.0) in
+    (found_is (omega (arith, tag.1, p.0, length-append (number v.number) (93 ∷ 123 ∷ []))) p.1, r.1)
+
+pub returns-in-Some-2-clause-context : goal.returns-in-Some-2-clause-context
+returns-in-Some-2-clause-context c v after more f t e l =
+    let line = l ∙ ap (λ (l : List ℕ). 91 ∷ l) (append_assoc (number v.number) (93 ∷ hexadecimal v.contents) more) in
+    let tag = pair_is (c.in-Some.ensures.found v.number (hexadecimal v.contents ++ more) t.0 line) in
+    let r = c.in_ok-taken.ensures.context v after more f t e tag.0 (tag_rest c.args.line.now (number v.number) (hexadecimal v.contents ++ more) c.in-Some.start line tag.1) in
+    let p = pair_is (sym c.in-Some-2.is ∙ r.0) in
+    (found_is (omega (arith, tag.1, p.0, length-append (number v.number) (93 ∷ hexadecimal v.contents))) p.1, r.1)
+
+pub returns-in-None-clause-group : goal.returns-in-None-clause-group
+returns-in-None-clause-group c v after more f t l =
+    let line = l ∙ ap (λ (l : List ℕ). 91 ∷ l) (append_assoc (number v.number) (93 ∷ 123 ∷ []) more) in
+    let tag = pair_is (c.in-Some.ensures.found v.number (123 ∷ more) t.0 line) in
+    absurd (not_both c.in-None.is (c.in_ok-taken.ensures.group v after more f t tag.0 (tag_rest c.args.line.now (number v.number) (123 ∷ more) c.in-Some.start line tag.1)).0)
+
+pub returns-in-None-clause-context : goal.returns-in-None-clause-context
+returns-in-None-clause-context c v after more f t e l =
+    let line = l ∙ ap (λ (l : List ℕ). 91 ∷ l) (append_assoc (number v.number) (93 ∷ hexadecimal v.contents) more) in
+    let tag = pair_is (c.in-Some.ensures.found v.number (hexadecimal v.contents ++ more) t.0 line) in
+    absurd (not_both c.in-None.is (c.in_ok-taken.ensures.context v after more f t e tag.0 (tag_rest c.args.line.now (number v.number) (hexadecimal v.contents ++ more) c.in-Some.start line tag.1)).0)

@@ -1,0 +1,126 @@
+-- What is found in a line, field by field.
+use Rattle.std.specs.Prelude.{◌≡◌, ℕ, ◌≤◌, take, drop, IsTrue, List, [], ◌∷◌, ◌++◌, Bool, nat_eq, if◌then◌else◌, length, codes, Option, Some, Result, IfOk, ◌⊎◌}
+use Rattle.std.specs.Fmt.{signed_decimal}
+use Rattle.std.specs.Int.{w64, cast_signed}
+use Rattle.std.specs.Prelude.{map}
+use Rattle.bac_value.specs.BitsContents.{bits_in}
+use Rattle.bac_record.specs.Digits.{hexadecimal}
+use Rattle.bac_text.specs.Words.{number, object_text}
+use Rattle.bac_text.specs.PrimitiveText.{bit_digit}
+use Rattle.bac_text.specs.FrameText.{address_text}
+use Rattle.bac_fields.specs.declared.field.Field.{Field}
+use Rattle.bac_fields.specs.declared.names.Name.{Name}
+use Rattle.bac_fields.specs.Names.{number_of, word_of}
+use Rattle.bac_fields.specs.Fields.{FieldValue}
+use Rattle.bac_fields.specs.Symbols.{Symbol, field_said, has_contents, contents_in}
+use Rattle.bac_fields.specs.Line.{Form, as_number, as_object, as_octets, as_address, as_type, as_network, as_list, as_item, as_value, as_group, as_parenthesis, as_brace, as_truth, as_element, as_signed, as_contents, as_bits, as_identifier, as_text, as_context, form_of, object_of, begins}
+use Rattle.bac_lines.specs.declared.closing.Closing.{Closing}
+use Rattle.bac_lines.specs.declared.fault.LineFault.{LineFault}
+use Rattle.bac_lines.specs.declared.said.Said.{Said}
+use Rattle.bac_lines.specs.Scanning.{text_tail, each, clear}
+
+-- With what a field begins: an end, a parenthesis, a bracket, a digit, or a word.
+pub data Sort : Type 0 where
+  by_end by_parenthesis by_bracket by_digit by_word : Sort
+
+abbrev pub sort_of : Form → Sort
+sort_of as_parenthesis = by_end
+sort_of as_brace = by_end
+sort_of as_item = by_parenthesis
+sort_of as_group = by_bracket
+sort_of as_context = by_bracket
+sort_of as_network = by_digit
+sort_of _ = by_word
+
+-- What comes after the word of a field: what begins something, an equals sign, a colon, a text, or nothing of these.
+pub data Link : Type 0 where
+  by_list by_value by_equals by_colon by_text by_itself : Link
+
+abbrev pub link_of : Form → Link
+link_of as_list = by_list
+link_of as_value = by_value
+link_of as_number = by_equals
+link_of as_object = by_equals
+link_of as_octets = by_equals
+link_of as_address = by_equals
+link_of as_element = by_colon
+link_of as_signed = by_colon
+link_of as_contents = by_colon
+link_of as_bits = by_colon
+link_of as_identifier = by_colon
+link_of as_text = by_text
+link_of _ = by_itself
+
+-- the word with which a field begins
+abbrev pub word_before : Form → FieldValue → List ℕ
+word_before as_truth v = if nat_eq v.number 0 then codes "false" else codes "true"
+word_before as_text v = codes "s"
+word_before _ v = word_of v.name
+
+-- what comes after the equals sign or the colon
+abbrev pub value_shown : Form → FieldValue → List ℕ
+value_shown as_number v = number v.number
+value_shown as_object v = object_text (object_of v.number)
+value_shown as_octets v = hexadecimal v.contents
+value_shown as_address v = number v.number ++ (codes "/" ++ address_text v.contents)
+value_shown as_element v = number v.number
+value_shown as_signed v = signed_decimal (cast_signed w64 v.number)
+value_shown as_contents v = hexadecimal v.contents
+value_shown as_bits v = map bit_digit (bits_in v.contents v.number)
+value_shown as_identifier v = object_text (object_of v.number)
+value_shown _ v = []
+
+-- what comes after the word
+abbrev pub after_word : Form → FieldValue → List ℕ
+after_word as_list v = codes "=("
+after_word as_value v = codes "={"
+after_word as_number v = codes "=" ++ value_shown as_number v
+after_word as_object v = codes "=" ++ value_shown as_object v
+after_word as_octets v = codes "=" ++ value_shown as_octets v
+after_word as_address v = codes "=" ++ value_shown as_address v
+after_word as_element v = codes ":" ++ value_shown as_element v
+after_word as_signed v = codes ":" ++ value_shown as_signed v
+after_word as_contents v = codes ":" ++ value_shown as_contents v
+after_word as_bits v = codes ":" ++ value_shown as_bits v
+after_word as_identifier v = codes ":" ++ value_shown as_identifier v
+after_word as_text v = text_tail (record { set = v.number; octets = v.contents })
+after_word as_type v = codes " type=" ++ hexadecimal (v.number ∷ [])
+after_word _ v = []
+
+-- ---- what is added
+
+-- One field more, whose contents, if its name has any, come after those that are there.
+pub record Adds (v : FieldValue) (old new : Said) : Type 0 where
+  pub field : Field
+  pub contents : List ℕ
+  pub fields_are : new.fields.items ≡ old.fields.items ++ field ∷ []
+  pub contents_are : new.contents.items ≡ old.contents.items ++ contents
+  pub is_named : field.name ≡ number_of v.name
+  pub is_numbered : field.number ≡ v.number
+  pub holds : (more : List ℕ) → contents_in (new.contents.items ++ more) field ≡ Some (if has_contents (number_of v.name) then v.contents else [])
+
+-- The field is added, which has so many octets of the line, and what is open is that after it; or memory was refused.
+abbrev pub IsAdded : FieldValue → List Closing → ℕ → Said → Said → List Closing → Result (Option (ℕ × Bool)) LineFault → Type 0
+IsAdded v after n old new ends result = IfOk result (λ found. (found ≡ Some (n, begins (form_of v.name))) × ((ends ≡ after) × Adds v old new))
+
+-- the same of a field that opens and ends nothing
+abbrev pub IsHeld : FieldValue → ℕ → Said → Said → Result (Option ℕ) LineFault → Type 0
+IsHeld v n old new result = IfOk result (λ taken. (taken ≡ Some n) × Adds v old new)
+
+-- So many octets of the line pass the test, and the next one does not.
+pub record IsRun (test : ℕ → Bool) (line : List ℕ) (n : ℕ) : Type 0 where
+  pub within : n ≤ length line
+  pub run : IsTrue (each test (take n line))
+  pub ends : IsTrue (clear test (drop n line))
+
+-- the symbols of fields, one after another
+abbrev pub fields_said : List FieldValue → List Symbol
+fields_said [] = []
+fields_said (v ∷ vs) = field_said v ++ fields_said vs
+
+-- ---- names
+
+-- the name is one of these
+abbrev pub Among : List Name → Name → Type 0
+Among [] name = ⊥
+Among (one ∷ names) name = (name ≡ one) ⊎ Among names name

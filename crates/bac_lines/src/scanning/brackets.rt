@@ -1,0 +1,146 @@
+//! Fields that begin with a bracket or a digit, and ends.
+
+ghost use Rattle.std.specs.Prelude.{◌≡◌, ◌≤◌, ◌<◌, ◌+◌, ◌++◌, ◌∷◌, [], ℕ, List, Bool, true, false, Some, length, IsTrue, IfOk, IfErr, IfSome};
+ghost use Rattle.bac_record.specs.Digits.{hexadecimal};
+ghost use Rattle.bac_text.specs.Words.{number};
+ghost use Rattle.bac_fields.specs.Names.{number_of};
+ghost use Rattle.bac_fields.specs.Fields.{FieldValue};
+ghost use Rattle.bac_fields.specs.Symbols.{has_contents};
+ghost use Rattle.bac_fields.specs.Line.{form_of, begins, shown, as_item, as_group, as_context, as_network};
+ghost use Rattle.bac_lines.specs.declared.closing.Closing.{Closing};
+ghost use Rattle.bac_lines.specs.Scanning.{TokenIn, ends_field, open_end};
+ghost use Rattle.bac_lines.specs.Found.{IsAdded, IsHeld};
+
+use super::Found;
+use super::numbers::find_number;
+use super::octets::add_octets;
+use crate::closing::Closing;
+use crate::fault::LineFault;
+use crate::said::Said;
+use bac_fields::Name;
+
+/// Opens what ends with a field of this name and this number.
+pub(crate) fn open(ends: &mut Vec<Closing>, name: Name, number: u64) -> Result<(), LineFault>
+    ensures opened { IfOk result (λ _. ends.new.items ≡ ends.old.items ++ open_end name number ∷ []) }
+    ensures memory { IfErr result (λ fault. fault ≡ LineFault.OutOfMemory) }
+{
+    match ends.push(Closing { name, number }) {
+        Ok(()) => Ok(()),
+        Err(_) => Err(LineFault::OutOfMemory),
+    }
+}
+
+/// Adds the end of what was opened last. None if nothing is open.
+pub(crate) fn add_end(said: &mut Said, ends: &mut Vec<Closing>) -> Result<Option<Found>, LineFault>
+    ensures found { (v : FieldValue) (after : List Closing) → begins (form_of v.name) ≡ false → has_contents (number_of v.name) ≡ false → ends.old.items ≡ after ++ open_end v.name v.number ∷ [] → IsAdded v after 1 said.old said.new ends.new.items result }
+    ensures one { IfOk result (λ found. IfSome found (λ f. f.0 ≡ 1)) }
+    ensures memory { IfErr result (λ fault. fault ≡ LineFault.OutOfMemory) }
+{
+    let Some(end) = ends.pop() else {
+        return Ok(None);
+    };
+    said.add(end.name, end.number)?;
+    Ok(Some((1, false)))
+}
+
+/// Adds an item of a list, which begins with a parenthesis.
+pub(crate) fn add_item(said: &mut Said, ends: &mut Vec<Closing>) -> Result<Option<Found>, LineFault>
+    ensures found { (v : FieldValue) (after : List Closing) → form_of v.name ≡ as_item → TokenIn as_item ends.old.items v after → IsAdded v after 1 said.old said.new ends.new.items result }
+    ensures one { IfOk result (λ found. IfSome found (λ f. f.0 ≡ 1)) }
+    ensures memory { IfErr result (λ fault. fault ≡ LineFault.OutOfMemory) }
+{
+    said.add(Name::Item, 0)?;
+    open(ends, Name::ItemEnd, 0)?;
+    Ok(Some((1, true)))
+}
+
+/// Returns the number of the tag with which the line begins, in brackets, and how many octets it has with them.
+fn find_tag(line: &[u8]) -> Option<(u64, usize)>
+    requires { 0 < length line.now }
+    ensures found { (n : ℕ) (more : List ℕ) → n < 256 → line.now ≡ 91 ∷ (number n ++ 93 ∷ more) → result ≡ Some (n, length (number n) + 2) }
+    ensures some { IfSome result (λ found. 0 < found.1) }
+    ensures within { IfSome result (λ found. found.1 ≤ length line.now) }
+{
+    let (number, digits) = find_number(&line[1..])?;
+    if line.get(digits + 1) != Some(&b']') {
+        return None;
+    }
+    Some((number, digits + 2))
+}
+
+/// Adds octets under a context tag with this number.
+fn add_context(number: u64, line: &[u8], said: &mut Said) -> Result<Option<usize>, LineFault>
+    ensures found { (ends : List Closing) (v : FieldValue) (after : List Closing) (more : List ℕ) → form_of v.name ≡ as_context → TokenIn as_context ends v after → IsTrue (ends_field more) → number ≡ v.number → line.now ≡ hexadecimal v.contents ++ more → IsHeld v (length (hexadecimal v.contents)) said.old said.new result }
+    ensures within { IfOk result (λ taken. IfSome taken (λ t. t ≤ length line.now)) }
+    ensures memory { IfErr result (λ fault. fault ≡ LineFault.OutOfMemory) }
+{
+    let start = said.contents.len();
+    let Some(taken) = add_octets(line, &mut said.contents)? else {
+        return Ok(None);
+    };
+    said.add_since(Name::ContextPrimitive, number, start)?;
+    Ok(Some(taken))
+}
+
+/// Adds what comes after the number of a tag in brackets: the beginning of a group, or octets.
+fn add_after_tag(
+    number: u64,
+    line: &[u8],
+    said: &mut Said,
+    ends: &mut Vec<Closing>,
+) -> Result<Option<Found>, LineFault>
+    ensures group { (v : FieldValue) (after : List Closing) (more : List ℕ) → form_of v.name ≡ as_group → TokenIn as_group ends.old.items v after → number ≡ v.number → line.now ≡ 123 ∷ more → IsAdded v after 1 said.old said.new ends.new.items result }
+    ensures context { (v : FieldValue) (after : List Closing) (more : List ℕ) → form_of v.name ≡ as_context → TokenIn as_context ends.old.items v after → IsTrue (ends_field more) → number ≡ v.number → line.now ≡ hexadecimal v.contents ++ more → IsAdded v after (length (hexadecimal v.contents)) said.old said.new ends.new.items result }
+    ensures within { IfOk result (λ found. IfSome found (λ f. f.0 ≤ length line.now)) }
+    ensures memory { IfErr result (λ fault. fault ≡ LineFault.OutOfMemory) }
+{
+    if let Some(octet) = line.first() {
+        if *octet == b'{' {
+            said.add(Name::Group, number)?;
+            open(ends, Name::GroupEnd, number)?;
+            return Ok(Some((1, true)));
+        }
+    }
+    match add_context(number, line, said)? {
+        Some(taken) => Ok(Some((taken, false))),
+        None => Ok(None),
+    }
+}
+
+/// Adds what begins with a bracket: the beginning of a group, or octets under a context tag.
+pub(crate) fn add_tagged(
+    line: &[u8],
+    said: &mut Said,
+    ends: &mut Vec<Closing>,
+) -> Result<Option<Found>, LineFault>
+    requires { 0 < length line.now }
+    ensures group { (v : FieldValue) (after : List Closing) (more : List ℕ) → form_of v.name ≡ as_group → TokenIn as_group ends.old.items v after → line.now ≡ shown as_group v ++ more → IsAdded v after (length (shown as_group v)) said.old said.new ends.new.items result }
+    ensures context { (v : FieldValue) (after : List Closing) (more : List ℕ) → form_of v.name ≡ as_context → TokenIn as_context ends.old.items v after → IsTrue (ends_field more) → line.now ≡ shown as_context v ++ more → IsAdded v after (length (shown as_context v)) said.old said.new ends.new.items result }
+    ensures some { IfOk result (λ found. IfSome found (λ f. 0 < f.0)) }
+    ensures within { IfOk result (λ found. IfSome found (λ f. f.0 ≤ length line.now)) }
+    ensures memory { IfErr result (λ fault. fault ≡ LineFault.OutOfMemory) }
+{
+    let Some((number, start)) = find_tag(line) else {
+        return Ok(None);
+    };
+    match add_after_tag(number, &line[start..], said, ends)? {
+        Some((taken, begins)) => Ok(Some((start + taken, begins))),
+        None => Ok(None),
+    }
+}
+
+/// Adds a network of a list, which has no word.
+pub(crate) fn add_network(line: &[u8], said: &mut Said) -> Result<Option<Found>, LineFault>
+    ensures found { (ends : List Closing) (v : FieldValue) (after : List Closing) (more : List ℕ) → form_of v.name ≡ as_network → TokenIn as_network ends v after → IsTrue (ends_field more) → line.now ≡ shown as_network v ++ more → IsAdded v after (length (shown as_network v)) said.old said.new ends result }
+    ensures some { IfOk result (λ found. IfSome found (λ f. 0 < f.0)) }
+    ensures within { IfOk result (λ found. IfSome found (λ f. f.0 ≤ length line.now)) }
+    ensures memory { IfErr result (λ fault. fault ≡ LineFault.OutOfMemory) }
+{
+    match find_number(line) {
+        Some((number, digits)) if digits > 0 => {
+            said.add(Name::ListedNetwork, number)?;
+            Ok(Some((digits, false)))
+        }
+        _ => Ok(None),
+    }
+}

@@ -1,0 +1,100 @@
+//! Numbers and objects, as a line has them.
+
+ghost use Rattle.std.specs.Prelude.{◌≡◌, ◌≤◌, ◌<◌, ◌+◌, ◌*◌, ◌^◌, ◌∷◌, length, drop, slice_index, IsTrue, IfSome, IfNone};
+ghost use Rattle.std.specs.Fmt.{signed_decimal};
+ghost use Rattle.std.specs.Int.{w64, cast_signed};
+ghost use Rattle.bac_text.specs.Words.{number, object_text};
+ghost use Rattle.bac_fields.specs.Line.{object_of};
+ghost use Rattle.bac_lines.specs.Scanning.{clear, is_decimal, Finds};
+
+/// Returns true if the octet is a decimal digit.
+#[inline(always)]
+pub(crate) fn is_decimal(octet: u8) -> bool
+    ensures { result ≡ is_decimal octet }
+{
+    b'0' <= octet && octet <= b'9'
+}
+
+/// Returns the decimal digit at the place, or None if there is none.
+#[inline(always)]
+fn digit_at(line: &[u8], place: usize) -> Option<u64>
+    ensures some { IfSome result (λ digit. (place < length line.now) × ((digit < 10) × (slice_index line.now place ≡ 48 + digit))) }
+    ensures none { IfNone result (IsTrue (clear is_decimal (drop place line.now))) }
+{
+    let octet = *line.get(place)?;
+    if b'0' <= octet && octet <= b'9' {
+        Some(u64::from(octet - b'0'))
+    } else {
+        None
+    }
+}
+
+/// Returns the number with one digit more, or None if it has no room.
+#[inline(always)]
+pub(crate) fn with_digit(number: u64, base: u64, digit: u64) -> Option<u64>
+    ensures some { IfSome result (λ next. next ≡ number * base + digit) }
+    ensures none { IfNone result (2 ^ 64 ≤ number * base + digit) }
+{
+    number.checked_mul(base)?.checked_add(digit)
+}
+
+/// Returns the decimal number with which the line begins, and how many digits it has. None if there is no digit, or the
+/// number has no room.
+pub(crate) fn find_number(line: &[u8]) -> Option<(u64, usize)>
+    ensures found { Finds (λ n. n < 2 ^ 64) number is_decimal line.now result }
+    ensures within { IfSome result (λ found. found.1 ≤ length line.now) }
+{
+    let mut number: u64 = 0;
+    let mut taken = 0;
+    while let Some(digit) = digit_at(line, taken) {
+        number = with_digit(number, 10, digit)?;
+        taken += 1;
+    }
+    if taken == 0 {
+        return None;
+    }
+    Some((number, taken))
+}
+
+/// The greatest type of an object.
+const KINDS: u64 = 1023;
+
+/// The greatest instance of an object.
+const INSTANCES: u64 = 4_194_303;
+
+/// Returns the 32 bits of the object with which the line begins, as `TYPE:INSTANCE`, and how many octets it has.
+pub(crate) fn find_object(line: &[u8]) -> Option<(u64, usize)>
+    ensures found { Finds (λ bits. bits < 2 ^ 32) (λ bits. object_text (object_of bits)) is_decimal line.now result }
+    ensures within { IfSome result (λ found. found.1 ≤ length line.now) }
+{
+    let (kind, digits) = find_number(line)?;
+    let [b':', rest @ ..] = &line[digits..] else {
+        return None;
+    };
+    let (instance, more) = find_number(rest)?;
+    if kind > KINDS || instance > INSTANCES {
+        return None;
+    }
+    Some((kind * (INSTANCES + 1) + instance, digits + 1 + more))
+}
+
+/// Returns the negative number whose digits the line begins with, after the minus sign, as 64 bits of two's complement, and
+/// how many octets it has with the sign.
+fn find_negative(line: &[u8]) -> Option<(u64, usize)>
+    ensures found { Finds (λ bits. bits < 2 ^ 64) (λ bits. signed_decimal (cast_signed w64 bits)) is_decimal (45 ∷ line.now) result }
+    ensures within { IfSome result (λ found. found.1 ≤ length line.now + 1) }
+{
+    let (magnitude, digits) = find_number(line)?;
+    Some((magnitude.wrapping_neg(), digits + 1))
+}
+
+/// Returns the signed number with which the line begins, as 64 bits of two's complement, and how many octets it has.
+pub(crate) fn find_signed(line: &[u8]) -> Option<(u64, usize)>
+    ensures found { Finds (λ bits. bits < 2 ^ 64) (λ bits. signed_decimal (cast_signed w64 bits)) is_decimal line.now result }
+    ensures within { IfSome result (λ found. found.1 ≤ length line.now) }
+{
+    match line {
+        [b'-', digits @ ..] => find_negative(digits),
+        _ => find_number(line),
+    }
+}
