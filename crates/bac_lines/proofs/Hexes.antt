@@ -1,5 +1,5 @@
 -- Hexadecimal digits, and the octets that they are.
-use Rattle.std.specs.Prelude.{◌≡◌, ◌⊎◌, ℕ, ◌+◌, ◌-◌, ◌*◌, ◌/◌, ◌%◌, ◌^◌, ◌<◌, ◌≤◌, List, [], ◌∷◌, ◌++◌, length, take, drop, slice_index, Option, Some, None, Result, ◌&&◌, ◌||◌, ◌==◌, not, nat_le, nat_lt, if◌then◌else◌, IsTrue, IfOk, refl}
+use Rattle.std.specs.Prelude.{◌≡◌, ◌⊎◌, ℕ, ◌+◌, ◌-◌, ◌*◌, ◌/◌, ◌%◌, ◌^◌, ◌<◌, ◌≤◌, List, [], ◌∷◌, ◌++◌, length, take, drop, slice_index, Option, Some, None, ◌&&◌, ◌||◌, ◌==◌, not, nat_le, nat_lt, if◌then◌else◌, IsTrue, refl}
 use Rattle.std.proofs.Common.{sym, ◌∙◌, ap, subst, arith, suc, zero, inl, inr, append_assoc}
 use Rattle.std.proofs.lemmas.Bool.{or_cases, or_left, or_right, eqb-true, le-leb, lt-ltb, le-ltb, cases_lt}
 use Rattle.std.proofs.lemmas.List.{take-append-drop, length-take-le, take_more}
@@ -8,7 +8,6 @@ use Rattle.bac_tag.specs.Octets.{IsOctets}
 use Rattle.bac_tag.specs.Laws.Octets.{octets_append}
 use Rattle.bac_record.specs.Digits.{digit, hexadecimal}
 use Rattle.bac_text.specs.FrameText.{address_text}
-use Rattle.bac_lines.specs.declared.fault.LineFault.{LineFault}
 use Rattle.bac_lines.specs.Scanning.{clear, each, is_hex, ends_field, number_after}
 use Rattle.bac_lines.proofs.SymbolRuns.{run_more, run_goes_on, run_is_one}
 
@@ -127,20 +126,67 @@ number_below m (x ∷ octets) (suc k) o le =
     let power : (m + 1) * 256 ^ suc k ≡ (m + 1) * 256 * 256 ^ k = ap (λ (n : ℕ). (m + 1) * n) (pow-succ' 256 k) ∙ sym (mul_assoc (m + 1) 256 (256 ^ k)) in
     omega (arith, here, more, power)
 
+number_join : (m : ℕ) (octets : List ℕ) (octet : ℕ) → number_after m (octets ++ octet ∷ []) ≡ number_after m octets * 256 + octet
+number_join m [] octet = refl
+number_join m (x ∷ octets) octet = number_join (m * 256 + x) octets octet
+
+-- ---- the octets at the front of a line
+
+-- The digits of the octets are the first ones of the line.
+pub record AreRead (line : List ℕ) (taken : ℕ) (octets : List ℕ) : Type 0 where
+  pub are_octets : IsOctets octets
+  pub within : taken ≤ length line
+  pub digits : take taken line ≡ hexadecimal octets
+
+one_read : (line : List ℕ) (taken first second : ℕ) (octets : List ℕ) → AreRead line taken octets → first < 16 → second < 16 → taken + 1 < length line → slice_index line taken ≡ digit first → slice_index line (taken + 1) ≡ digit second
+    → AreRead line (taken + 2) (octets ++ (first * 16 + second) ∷ [])
+one_read line taken first second octets r low high lt is is_too = record {
+  are_octets = octets_append octets ((first * 16 + second) ∷ []) r.are_octets (omega (arith, low, high), tt);
+  within = omega (arith, lt);
+  digits =
+      let two : taken + 2 ≡ (taken + 1) + 1 = omega arith in
+      let front : (first * 16 + second) / 16 ≡ first = omega (arith, high) in
+      let back : (first * 16 + second) % 16 ≡ second = omega (arith, high) in
+      ap (λ (n : ℕ). take n line) two ∙ take_more line (taken + 1) 0 lt ∙ ap (λ (l : List ℕ). l ++ slice_index line (taken + 1) ∷ []) (take_more line taken 0 (omega (arith, lt)))
+      ∙ append_assoc (take taken line) (slice_index line taken ∷ []) (slice_index line (taken + 1) ∷ []) ∙ ap (λ (l : List ℕ). l ++ slice_index line taken ∷ slice_index line (taken + 1) ∷ []) r.digits
+      ∙ ap (λ (x : ℕ). hexadecimal octets ++ x ∷ slice_index line (taken + 1) ∷ []) (is ∙ ap digit (sym front)) ∙ ap (λ (x : ℕ). hexadecimal octets ++ digit ((first * 16 + second) / 16) ∷ x ∷ []) (is_too ∙ ap digit (sym back))
+      ∙ sym (hex_join octets ((first * 16 + second) ∷ []));
+}
+
+module _ (line : List ℕ) (taken : ℕ) (octets : List ℕ) (r : AreRead line taken octets) where
+  all_hex : IsTrue (each is_hex (take taken line))
+  all_hex = rw r.digits (hex_digits octets r.are_octets)
+
+  -- no others are read if no digit comes next
+  all_read : IsTrue (clear is_hex (drop taken line)) → (others more : List ℕ) → IsOctets others → IsTrue (clear is_hex more) → line ≡ hexadecimal others ++ more → (octets ≡ others) × (taken ≡ length (hexadecimal others))
+  all_read k others more are ends is =
+      let same = run_is_one is_hex (take taken line) (hexadecimal others) (drop taken line) more all_hex (hex_digits others are) (take-append-drop taken line ∙ is) k ends in
+      (hex_tells octets others r.are_octets are (sym r.digits ∙ sym same), sym (length-take-le taken line r.within) ∙ ap length (sym same))
+
+  -- no octets have half an octet at their end
+  pub half_read : (first : ℕ) → taken < length line → first < 16 → slice_index line taken ≡ digit first → IsTrue (clear is_hex (drop (taken + 1) line)) → (others more : List ℕ) → IsOctets others → IsTrue (clear is_hex more)
+      → line ≡ hexadecimal others ++ more → ⊥
+  half_read first lt below is k others more are ends whole =
+      let longer = run_more is_hex line taken lt all_hex (rw is (digit_is_hex first below)) in
+      let same = run_is_one is_hex (take (taken + 1) line) (hexadecimal others) (drop (taken + 1) line) more longer (hex_digits others are) (take-append-drop (taken + 1) line ∙ whole) k ends in
+      let size : length (hexadecimal others) ≡ taken + 1 = ap length same ∙ length-take-le (taken + 1) line (omega (arith, lt)) in
+      let even : taken ≡ length (hexadecimal octets) = sym (length-take-le taken line r.within) ∙ ap length r.digits in
+      omega (arith, size, even, hex_length others, hex_length octets)
+
 -- ---- digits read as a number
 
--- Hexadecimal digits are the first ones of the line, and these are their number.
+-- The octets at the front of the line are the number.
 pub record IsHexRead (line : List ℕ) (taken n : ℕ) : Type 0 where
-  pub within : taken ≤ length line
-  pub digits : IsTrue (each is_hex (take taken line))
-  pub is_value : hex_after 0 (take taken line) ≡ n
+  pub octets : List ℕ
+  pub read : AreRead line taken octets
+  pub is_number : n ≡ number_after 0 octets
 
-pub hex_read : (line : List ℕ) (taken n value : ℕ) → IsHexRead line taken n → taken < length line → value < 16 → slice_index line taken ≡ digit value → IsHexRead line (taken + 1) (n * 16 + value)
-hex_read line taken n value r lt below is = record {
-  within = omega (arith, lt);
-  digits = run_more is_hex line taken lt r.digits (rw is (digit_is_hex value below));
-  is_value = ap (hex_after 0) (take_more line taken 0 lt) ∙ hex_after_join 0 (take taken line) (slice_index line taken ∷ []) ∙ ap (λ (m : ℕ). m * 16 + hex_value (slice_index line taken)) r.is_value
-      ∙ ap (λ (x : ℕ). n * 16 + hex_value x) is ∙ ap (λ (x : ℕ). n * 16 + x) (value_of_digit value below);
+pub hex_read : (line : List ℕ) (taken n first second next : ℕ) → IsHexRead line taken n → first < 16 → second < 16 → taken + 1 < length line → slice_index line taken ≡ digit first → slice_index line (taken + 1) ≡ digit second
+    → next ≡ n * 256 + (first * 16 + second) → IsHexRead line (taken + 2) next
+hex_read line taken n first second next h low high lt is is_too more = record {
+  octets = h.octets ++ (first * 16 + second) ∷ [];
+  read = one_read line taken first second h.octets h.read low high lt is is_too;
+  is_number = more ∙ ap (λ (m : ℕ). m * 256 + (first * 16 + second)) h.is_number ∙ sym (number_join 0 h.octets (first * 16 + second));
 }
 
 abbrev pub FindsBits : List ℕ → Option (ℕ × ℕ) → Type 0
@@ -148,68 +194,44 @@ FindsBits line result = (octets more : List ℕ) → length octets ≤ 8 → IsO
 
 -- none of more than eight octets
 pub no_room_for_bits : (line : List ℕ) (taken n : ℕ) → IsHexRead line taken n → 2 ^ 64 ≤ n → FindsBits line None
-no_room_for_bits line taken n r large octets more few are ends is =
-    let run = run_goes_on is_hex (take taken line) (hexadecimal octets) (drop taken line) more r.digits (take-append-drop taken line ∙ is) ends in
-    let value : number_after 0 octets ≡ hex_after n run.0 = sym (hex_number 0 octets are) ∙ ap (hex_after 0) run.1 ∙ hex_after_join 0 (take taken line) run.0 ∙ ap (λ (m : ℕ). hex_after m run.0) r.is_value in
+no_room_for_bits line taken n h large octets more few are ends is =
+    let run = run_goes_on is_hex (take taken line) (hexadecimal octets) (drop taken line) more (all_hex line taken h.octets h.read) (take-append-drop taken line ∙ is) ends in
+    let value : number_after 0 octets ≡ hex_after n run.0 = sym (hex_number 0 octets are) ∙ ap (hex_after 0) run.1 ∙ hex_after_join 0 (take taken line) run.0
+    ∙ ap (λ (l : List ℕ). hex_after (hex_after 0 l) run.0) h.read.digits ∙ ap (λ (m : ℕ). hex_after m run.0) (hex_number 0 h.octets h.read.are_octets ∙ sym h.is_number) in
     absurd (omega (arith, number_below 0 octets 8 are few, large, value, hex_grows n run.0))
 
 pub all_hex_read : (line : List ℕ) (taken n : ℕ) → IsHexRead line taken n → IsTrue (clear is_hex (drop taken line)) → FindsBits line (Some (n, taken))
-all_hex_read line taken n r k octets more few are ends is =
-    let same = run_is_one is_hex (take taken line) (hexadecimal octets) (drop taken line) more r.digits (hex_digits octets are) (take-append-drop taken line ∙ is) k ends in
-    let value : n ≡ number_after 0 octets = sym r.is_value ∙ ap (hex_after 0) (sym same) ∙ hex_number 0 octets are in
-    let size : taken ≡ length (hexadecimal octets) = sym (length-take-le taken line r.within) ∙ ap length (sym same) in
-    rw (value, size) refl
+all_hex_read line taken n h k octets more few are ends is =
+    let all = all_read line taken h.octets h.read k octets more are ends is in
+    let value : n ≡ number_after 0 octets = h.is_number ∙ ap (number_after 0) all.0 in
+    rw (value, all.1) refl
 
 -- ---- digits read as octets
 
--- The digits of octets are the first ones of the line, and the octets have been added.
+-- The octets at the front of the line have been added.
 pub record AreAdded (line : List ℕ) (taken : ℕ) (old new : List ℕ) : Type 0 where
   pub octets : List ℕ
-  pub are_octets : IsOctets octets
-  pub within : taken ≤ length line
-  pub digits : take taken line ≡ hexadecimal octets
+  pub read : AreRead line taken octets
   pub added : new ≡ old ++ octets
 
 pub octet_added : (line : List ℕ) (taken first second : ℕ) (old now next : List ℕ) → AreAdded line taken old now → first < 16 → second < 16 → taken + 1 < length line
     → slice_index line taken ≡ digit first → slice_index line (taken + 1) ≡ digit second → next ≡ now ++ (first * 16 + second) ∷ [] → AreAdded line (taken + 2) old next
 octet_added line taken first second old now next a low high lt is is_too pushed = record {
   octets = a.octets ++ (first * 16 + second) ∷ [];
-  are_octets = octets_append a.octets ((first * 16 + second) ∷ []) a.are_octets (omega (arith, low, high), tt);
-  within = omega (arith, lt);
-  digits =
-      let two : taken + 2 ≡ (taken + 1) + 1 = omega arith in
-      let front : (first * 16 + second) / 16 ≡ first = omega (arith, high) in
-      let back : (first * 16 + second) % 16 ≡ second = omega (arith, high) in
-      ap (λ (n : ℕ). take n line) two ∙ take_more line (taken + 1) 0 lt ∙ ap (λ (l : List ℕ). l ++ slice_index line (taken + 1) ∷ []) (take_more line taken 0 (omega (arith, lt)))
-      ∙ append_assoc (take taken line) (slice_index line taken ∷ []) (slice_index line (taken + 1) ∷ []) ∙ ap (λ (l : List ℕ). l ++ slice_index line taken ∷ slice_index line (taken + 1) ∷ []) a.digits
-      ∙ ap (λ (x : ℕ). hexadecimal a.octets ++ x ∷ slice_index line (taken + 1) ∷ []) (is ∙ ap digit (sym front)) ∙ ap (λ (x : ℕ). hexadecimal a.octets ++ digit ((first * 16 + second) / 16) ∷ x ∷ []) (is_too ∙ ap digit (sym back))
-      ∙ sym (hex_join a.octets ((first * 16 + second) ∷ []));
+  read = one_read line taken first second a.octets a.read low high lt is is_too;
   added = pushed ∙ ap (λ (l : List ℕ). l ++ (first * 16 + second) ∷ []) a.added ∙ append_assoc old a.octets ((first * 16 + second) ∷ []);
 }
 
 pub all_added : (line : List ℕ) (taken : ℕ) (old new : List ℕ) → AreAdded line taken old new → IsTrue (clear is_hex (drop taken line)) → (octets more : List ℕ) → IsOctets octets → IsTrue (clear is_hex more)
     → line ≡ hexadecimal octets ++ more → (◌≡◌ {A = Option ℕ} (Some taken) (Some (length (hexadecimal octets)))) × (new ≡ old ++ octets)
 all_added line taken old new a k octets more are ends is =
-    let run : IsTrue (each is_hex (take taken line)) = rw a.digits (hex_digits a.octets a.are_octets) in
-    let same = run_is_one is_hex (take taken line) (hexadecimal octets) (drop taken line) more run (hex_digits octets are) (take-append-drop taken line ∙ is) k ends in
-    let size : taken ≡ length (hexadecimal octets) = sym (length-take-le taken line a.within) ∙ ap length (sym same) in
-    (ap (λ (n : ℕ). Some n) size, a.added ∙ ap (λ (l : List ℕ). old ++ l) (hex_tells a.octets octets a.are_octets are (sym a.digits ∙ sym same)))
-
--- no octets have half an octet at their end
-pub half_added : (line : List ℕ) (taken first : ℕ) (old new : List ℕ) → AreAdded line taken old new → taken < length line → first < 16 → slice_index line taken ≡ digit first → IsTrue (clear is_hex (drop (taken + 1) line))
-    → (octets more : List ℕ) → IsOctets octets → IsTrue (clear is_hex more) → line ≡ hexadecimal octets ++ more → ⊥
-half_added line taken first old new a lt below is k octets more are ends whole =
-    let run : IsTrue (each is_hex (take taken line)) = rw a.digits (hex_digits a.octets a.are_octets) in
-    let longer = run_more is_hex line taken lt run (rw is (digit_is_hex first below)) in
-    let same = run_is_one is_hex (take (taken + 1) line) (hexadecimal octets) (drop (taken + 1) line) more longer (hex_digits octets are) (take-append-drop (taken + 1) line ∙ whole) k ends in
-    let size : length (hexadecimal octets) ≡ taken + 1 = ap length same ∙ length-take-le (taken + 1) line (omega (arith, lt)) in
-    let even : taken ≡ length (hexadecimal a.octets) = sym (length-take-le taken line a.within) ∙ ap length a.digits in
-    omega (arith, size, even, hex_length octets, hex_length a.octets)
+    let all = all_read line taken a.octets a.read k octets more are ends is in
+    (ap (λ (n : ℕ). Some n) all.1, a.added ∙ ap (λ (l : List ℕ). old ++ l) all.0)
 
 -- ---- the octets of an address
 
 -- what ends a field is no digit
-pub end_is_clear : (more : List ℕ) → IsTrue (ends_field more) → IsTrue (clear is_hex more)
+end_is_clear : (more : List ℕ) → IsTrue (ends_field more) → IsTrue (clear is_hex more)
 end_is_clear [] e = refl
 end_is_clear (x ∷ more) e = elim (or_cases (x == 32) ((x == 41) || (x == 125)) e) [
   | inl a ↦ subst (λ (y : ℕ). IsTrue (not (is_hex y))) (sym (eqb-true x 32 a)) refl
@@ -219,10 +241,29 @@ end_is_clear (x ∷ more) e = elim (or_cases (x == 32) ((x == 41) || (x == 125))
   ])
 ]
 
-abbrev pub AreFound : (List ℕ → List ℕ) → List ℕ → List ℕ → List ℕ → Result (Option ℕ) LineFault → Type 0
-AreFound text line old new result = (octets more : List ℕ) → IsOctets octets → IsTrue (ends_field more) → line ≡ text octets ++ more → IfOk result (λ taken. (taken ≡ Some (length (text octets))) × (new ≡ old ++ octets))
+abbrev FindsOctets : List ℕ → List ℕ → List ℕ → Option ℕ → Type 0
+FindsOctets line old new taken = (octets more : List ℕ) → IsOctets octets → IsTrue (clear is_hex more) → line ≡ hexadecimal octets ++ more → (taken ≡ Some (length (hexadecimal octets))) × (new ≡ old ++ octets)
 
--- an address has octets if its text does not begin with an asterisk
-pub address_found : (line old new : List ℕ) (result : Result (Option ℕ) LineFault) → ((rest : List ℕ) → line ≡ 42 ∷ rest → ⊥) → AreFound hexadecimal line old new result → AreFound address_text line old new result
-address_found line old new result other found [] more are ends is = absurd (other more is)
-address_found line old new result other found (x ∷ octets) more are ends is = found (x ∷ octets) more are ends is
+abbrev FindsAddress : List ℕ → List ℕ → List ℕ → Option ℕ → Type 0
+FindsAddress line old new taken = (octets more : List ℕ) → IsOctets octets → IsTrue (ends_field more) → line ≡ address_text octets ++ more → (taken ≡ Some (length (address_text octets))) × (new ≡ old ++ octets)
+
+module _ (line old new : List ℕ) (other : (rest : List ℕ) → line ≡ 42 ∷ rest → ⊥) where
+  -- an address has octets if its text does not begin with an asterisk
+  pub address_found : (taken : Option ℕ) → FindsOctets line old new taken → FindsAddress line old new taken
+  address_found taken found [] more are ends is = absurd (other more is)
+  address_found taken found (x ∷ octets) more are ends is = found (x ∷ octets) more are (end_is_clear more ends) is
+
+  -- and digits
+  pub no_address : FindsOctets line old new (Some 0) → FindsAddress line old new None
+  no_address found [] more are ends is = absurd (other more is)
+  no_address found (x ∷ octets) more are ends is =
+      let some = (found (x ∷ octets) more are (end_is_clear more ends) is).0 in
+      absurd (cc)
+
+-- the number of one octet
+pub one_octet : (digits : List ℕ) (k n : ℕ) (octets : List ℕ) → n ≡ 2 → n ≤ length digits → take n digits ≡ hexadecimal octets → k ≡ number_after 0 octets → IsOctets octets → (k < 256) × (take 2 digits ≡ hexadecimal (k ∷ []))
+one_octet digits k n [] e le d is o = absurd (omega (arith, e, length-take-le n digits le, ap length d))
+one_octet digits k n (x ∷ []) e le d is o =
+    let same : x ≡ k = omega (arith, is) in
+    (omega (arith, same, o.0), ap (λ (m : ℕ). take m digits) (sym e) ∙ d ∙ ap (λ (m : ℕ). hexadecimal (m ∷ [])) same)
+one_octet digits k n (x ∷ y ∷ octets) e le d is o = absurd (omega (arith, e, length-take-le n digits le, ap length d))

@@ -1,11 +1,14 @@
 mod AddLemmas
 mod BitsAndTexts
 mod Digits
+mod FoundLemmas
 mod FrameTokens
 mod Hexes
 mod LinkLemmas
 mod NameLemmas
+mod PackedBits
 mod PartwayLemmas
+mod PrintedLemmas
 mod ReadingLemmas
 mod RecordNumbers
 mod ScanLemmas

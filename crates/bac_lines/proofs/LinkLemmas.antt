@@ -1,7 +1,8 @@
 -- The names of the fields that have a value after their word.
-use Rattle.std.specs.Prelude.{◌≡◌, ◌⊎◌, ℕ, ◌≤◌, List, [], ◌∷◌, ◌++◌, length, Bool, true, false, ◌&&◌, not, IsTrue, nat_eq, Option, Some, None, Result, refl}
+use Rattle.std.specs.Prelude.{◌≡◌, ◌⊎◌, ℕ, ◌*◌, List, [], ◌∷◌, ◌++◌, length, take, Bool, true, false, ◌&&◌, not, IsTrue, nat_eq, Option, Some, None, Result, Ok, Err, IfOk, IfSome, refl}
 use Rattle.std.proofs.Common.{sym, ◌∙◌, ap, subst, inl, inr, arith}
 use Rattle.std.proofs.lemmas.Bool.{and_parts, not-true, both_ways}
+use Rattle.std.proofs.lemmas.Option.{IfSome_then}
 use Rattle.std.specs.Cmp.Lexicographic.{pointwise, bytes_decides}
 use Rattle.bac_fields.specs.declared.names.Name.{Name}
 use Rattle.bac_fields.specs.declared.names.Name.TheVariants as name
@@ -12,8 +13,9 @@ use Rattle.bac_fields.specs.Line.{Form, as_number, as_object, as_octets, as_addr
 use Rattle.bac_lines.specs.declared.closing.Closing.{Closing}
 use Rattle.bac_lines.specs.declared.fault.LineFault.{LineFault}
 use Rattle.bac_lines.specs.declared.said.Said.{Said}
-use Rattle.bac_lines.specs.Scanning.{TokenIn, IsNamed, HasBits, number_after}
-use Rattle.bac_lines.specs.Found.{Among, link_of, by_equals, by_colon, by_text, value_shown, IsHeld}
+use Rattle.bac_lines.specs.Scanning.{TokenIn, IsFound, IsNamed, HasBits, number_after, text_tail}
+use Rattle.bac_lines.specs.Found.{Among, Link, link_of, by_equals, by_colon, by_text, value_shown, shown_value, IsHeld, Adds, Valued, ValueOf}
+use Rattle.bac_lines.proofs.BitsAndTexts.{HasText}
 use Rattle.bac_lines.proofs.NameLemmas.{numbers, objects, octets, addresses, counts, reals, strings, Named, named, one_name, never_both}
 
 -- ---- lists of names
@@ -138,19 +140,27 @@ pub element_named : (n m : Name) → link_of (form_of n) ≡ by_colon → Among 
 element_named n m link among e = one_name element_names n m refl (colon_form (form_of n) n (named n) link) among e
 
 -- the word is that of this name
+pub is_word_of : (m : Name) (word text : List ℕ) (same : Bool) → same ≡ pointwise nat_eq word text → same ≡ true → text ≡ word_of m → word ≡ word_of m
+is_word_of m word text same e agrees is_m = (bytes_decides word text).0 (sym e ∙ agrees) ∙ is_m
+
 pub is_same : (n m : Name) (word text : List ℕ) (same : Bool) → same ≡ pointwise nat_eq word text → same ≡ true → text ≡ word_of m → word ≡ word_of n → word_of n ≡ word_of m
-is_same n m word text same e agrees is_m is_n = sym is_n ∙ (bytes_decides word text).0 (sym e ∙ agrees) ∙ is_m
+is_same n m word text same e agrees is_m is_n = sym is_n ∙ is_word_of m word text same e agrees is_m
 
 -- and where it is not, the name is another one
 pub is_other : (n m : Name) (word text : List ℕ) (same : Bool) → same ≡ pointwise nat_eq word text → same ≡ false → text ≡ word_of m → word ≡ word_of n → n ≡ m → ⊥
 is_other n m word text same e differs is_m is_n is = both_ways same differs (e ∙ (bytes_decides word text).1 (is_n ∙ ap word_of is ∙ sym is_m))
 
 -- an element is one of these
-pub none_of_elements : (n : Name) → link_of (form_of n) ≡ by_colon → (Among counts n → ⊥) → (Among reals n → ⊥) → (Among strings n → ⊥) →
+pub none_of_elements : (n : Name) → link_of (form_of n) ≡ by_colon → (Among counts n → ⊥) → (n ≡ name.Real → ⊥) → (n ≡ name.Double → ⊥) → (Among strings n → ⊥) →
     (n ≡ name.Signed → ⊥) → (n ≡ name.ObjectIdentifier → ⊥) → (n ≡ name.BitString → ⊥) → ⊥
-none_of_elements n link no_count no_real no_string no_signed no_identifier no_bits =
+none_of_elements n link no_count no_single no_double no_string no_signed no_identifier no_bits =
     neither counts (reals ++ (strings ++ lone_names)) n no_count (neither reals (strings ++ lone_names) n no_real (neither strings lone_names n no_string no_lone)) (colon_form (form_of n) n (named n) link)
   where
+    no_real : Among reals n → ⊥
+    no_real (inl is) = no_single is
+    no_real (inr (inl is)) = no_double is
+    no_real (inr (inr m)) = m
+
     no_lone : Among lone_names n → ⊥
     no_lone (inl is) = no_signed is
     no_lone (inr (inl is)) = no_identifier is
@@ -158,10 +168,17 @@ none_of_elements n link no_count no_real no_string no_signed no_identifier no_bi
     no_lone (inr (inr (inr m))) = m
 
 -- the bits of a number
-pub real_bits : (n : Name) (number : ℕ) (held : List ℕ) → Among reals n → HasBits n number held → (number ≡ number_after 0 held) × (length held ≤ 8)
-real_bits n number held (inl is) h = let bits : HasBits name.Real number held = subst (λ (k : Name). HasBits k number held) is h in (bits.0, omega arith)
-real_bits n number held (inr (inl is)) h = let bits : HasBits name.Double number held = subst (λ (k : Name). HasBits k number held) is h in (bits.0, omega arith)
-real_bits n number held (inr (inr m)) h = absurd m
+pub single_bits : (n : Name) (number : ℕ) (held : List ℕ) → n ≡ name.Real → HasBits n number held → (number ≡ number_after 0 held) × (2 * length held ≡ 8)
+single_bits n number held is h = let bits : HasBits name.Real number held = subst (λ (k : Name). HasBits k number held) is h in (bits.0, omega (arith, bits.1))
+
+pub double_bits : (n : Name) (number : ℕ) (held : List ℕ) → n ≡ name.Double → HasBits n number held → (number ≡ number_after 0 held) × (2 * length held ≡ 16)
+double_bits n number held is h = let bits : HasBits name.Double number held = subst (λ (k : Name). HasBits k number held) is h in (bits.0, omega (arith, bits.1))
+
+pub has_single : (n : Name) (number : ℕ) (held : List ℕ) → n ≡ name.Real → number ≡ number_after 0 held → 2 * length held ≡ 8 → HasBits n number held
+has_single n number held is value size = let bits : HasBits name.Real number held = (value, omega (arith, size)) in subst (λ (k : Name). HasBits k number held) (sym is) bits
+
+pub has_double : (n : Name) (number : ℕ) (held : List ℕ) → n ≡ name.Double → number ≡ number_after 0 held → 2 * length held ≡ 16 → HasBits n number held
+has_double n number held is value size = let bits : HasBits name.Double number held = (value, omega (arith, size)) in subst (λ (k : Name). HasBits k number held) (sym is) bits
 
 -- octets have no number
 pub string_bits : (n : Name) (number : ℕ) (held : List ℕ) → Among strings n → HasBits n number held → number ≡ 0
@@ -169,6 +186,12 @@ string_bits n number held (inl is) h = subst (λ (k : Name). HasBits k number he
 string_bits n number held (inr (inl is)) h = subst (λ (k : Name). HasBits k number held) is h
 string_bits n number held (inr (inr (inl is))) h = subst (λ (k : Name). HasBits k number held) is h
 string_bits n number held (inr (inr (inr m))) h = absurd m
+
+pub string_has : (n : Name) (number : ℕ) (held : List ℕ) → Among strings n → number ≡ 0 → HasBits n number held
+string_has n number held (inl is) h = subst (λ (k : Name). HasBits k number held) (sym is) h
+string_has n number held (inr (inl is)) h = subst (λ (k : Name). HasBits k number held) (sym is) h
+string_has n number held (inr (inr (inl is))) h = subst (λ (k : Name). HasBits k number held) (sym is) h
+string_has n number held (inr (inr (inr m))) h = absurd m
 
 -- ---- a text
 
@@ -189,6 +212,9 @@ pub at_form : (F : Form) (v : FieldValue) (ends after : List Closing) (more line
     TokenIn (form_of v.name) ends v after → line ≡ value_shown (form_of v.name) v ++ more → IsHeld v (length (value_shown (form_of v.name) v)) old new result
 at_form F v ends after more line old new result form held = subst (λ (G : Form). TokenIn G ends v after → line ≡ value_shown G v ++ more → IsHeld v (length (value_shown G v)) old new result) (sym form) held
 
+pub held_so : (v : FieldValue) (m n : ℕ) (old new : Said) (result : Result (Option ℕ) LineFault) → m ≡ n → IsHeld v m old new result → IsHeld v n old new result
+held_so v m n old new result same held = subst (λ (k : ℕ). IsHeld v k old new result) same held
+
 -- a pair is one pair
 pub same_pair : (o : Option (ℕ × ℕ)) (a b c d : ℕ) → o ≡ Some (a, b) → o ≡ Some (c, d) → (a ≡ c) × (b ≡ d)
 same_pair o a b c d e f = (ap first (sym e ∙ f), ap second (sym e ∙ f))
@@ -200,3 +226,64 @@ same_pair o a b c d e f = (ap first (sym e ∙ f), ap second (sym e ∙ f))
     second : Option (ℕ × ℕ) → ℕ
     second None = 0
     second (Some p) = p.1
+
+-- ---- what is valued
+
+-- a field with a number and these contents
+abbrev pub with_contents : Name → ℕ → List ℕ → FieldValue
+with_contents name number contents = record { name = name; number = number; head = []; contents = contents }
+
+-- what is found and added is valued
+pub found_valued : (name : Name) (found : Option (ℕ × ℕ)) (Is : FieldValue → Type 0) (text : FieldValue → List ℕ) (line : List ℕ) (old new : Said) (result : Result (Option ℕ) LineFault) → has_contents (number_of name) ≡ false →
+    ((v : FieldValue) (n : ℕ) → v.name ≡ name → has_contents (number_of name) ≡ false → found ≡ Some (v.number, n) → IsHeld v n old new result) →
+    IfOk result (λ taken. IfSome taken (λ n. (number : ℕ) × (found ≡ Some (number, n)))) →
+    IfSome found (λ f. (contents : List ℕ) × (Is (with_contents name f.0 contents) × (take f.1 line ≡ text (with_contents name f.0 contents)))) →
+    IfOk result (λ taken. IfSome taken (λ n. Valued Is text line n old new))
+found_valued name found Is text line old new (Err fault) bare held is kept = tt
+found_valued name found Is text line old new (Ok None) bare held is kept = tt
+found_valued name None Is text line old new (Ok (Some n)) bare held is kept = let none : ◌≡◌ {A = Option (ℕ × ℕ)} None (Some (is.0, n)) = is.1 in absurd (cc)
+found_valued name (Some (number, taken)) Is text line old new (Ok (Some n)) bare held is kept =
+    let same = same_pair _ _ _ _ _ refl is.1 in
+    record {
+      field = with_contents name number kept.0;
+      has = kept.1.0;
+      is_text = ap (λ (m : ℕ). take m line) (sym same.1) ∙ kept.1.1;
+      added = (held (with_contents name number kept.0) n refl bare (ap (λ (m : ℕ). Some (number, m)) same.1)).1;
+    }
+
+-- the same of a number that is found
+pub number_valued : (name : Name) (found : Option (ℕ × ℕ)) (fits : ℕ → Type 0) (shown_as : ℕ → List ℕ) (Is : FieldValue → Type 0) (text : FieldValue → List ℕ) (line : List ℕ) (old new : Said)
+    (result : Result (Option ℕ) LineFault) → has_contents (number_of name) ≡ false →
+    ((v : FieldValue) (n : ℕ) → v.name ≡ name → has_contents (number_of name) ≡ false → found ≡ Some (v.number, n) → IsHeld v n old new result) →
+    IfOk result (λ taken. IfSome taken (λ n. (number : ℕ) × (found ≡ Some (number, n)))) → IsFound fits shown_as line found →
+    ((number : ℕ) → fits number → Is (with_contents name number []) × (shown_as number ≡ text (with_contents name number []))) →
+    IfOk result (λ taken. IfSome taken (λ n. Valued Is text line n old new))
+number_valued name found fits shown_as Is text line old new result bare held is there gives =
+    found_valued name found Is text line old new result bare held is (IfSome_then found there (λ f h. ([], ((gives f.0 h.0).0, h.1 ∙ (gives f.0 h.0).1))))
+
+-- what is valued as one thing is valued as another
+pub valued_as : (Is Also : FieldValue → Type 0) (text shown_as : FieldValue → List ℕ) (line : List ℕ) (old new : Said) (result : Result (Option ℕ) LineFault) →
+    ((v : FieldValue) → Is v → Also v × (text v ≡ shown_as v)) →
+    IfOk result (λ taken. IfSome taken (λ n. Valued Is text line n old new)) → IfOk result (λ taken. IfSome taken (λ n. Valued Also shown_as line n old new))
+valued_as Is Also text shown_as line old new (Err fault) gives h = tt
+valued_as Is Also text shown_as line old new (Ok None) gives h = tt
+valued_as Is Also text shown_as line old new (Ok (Some n)) gives h =
+    let more = gives h.field h.has in
+    record { field = h.field; has = more.0; is_text = h.is_text ∙ more.1; added = h.added }
+
+-- the value of a field whose name has this form
+pub value_of : (F : Form) (link : Link) (word : List ℕ) (ends : List Closing) (v : FieldValue) → form_of v.name ≡ F → link_of F ≡ link → TokenIn F ends v ends → word ≡ word_of v.name →
+    ValueOf link word ends v × (value_shown F v ≡ shown_value v)
+value_of F link word ends v form is_link token is_word =
+    ((ap link_of form ∙ is_link, (subst (λ (G : Form). TokenIn G ends v ends) (sym form) token, is_word)), ap (λ (G : Form). value_shown G v) (sym form))
+
+-- a text that is added is valued
+pub text_valued : (ends : List Closing) (line now : List ℕ) (old new : Said) (found : ℕ × ℕ) → HasText line old.contents.items now found →
+    ((v : FieldValue) → v.name ≡ name.CharacterString → v.number ≡ found.0 → now ≡ old.contents.items ++ v.contents → Adds v old new) →
+    Valued (λ v. (v.name ≡ name.CharacterString) × TokenIn as_text ends v ends) (λ v. text_tail (record { set = v.number; octets = v.contents })) line found.1 old new
+text_valued ends line now old new found (text, (set, (low, (are, (holds, is))))) adds = record {
+  field = with_contents name.CharacterString text.set text.octets;
+  has = (refl, (low, (are, refl)));
+  is_text = is;
+  added = adds (with_contents name.CharacterString text.set text.octets) refl (sym set) holds;
+}

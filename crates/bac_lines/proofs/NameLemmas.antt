@@ -7,7 +7,8 @@ use Rattle.bac_fields.specs.declared.names.Name.{Name}
 use Rattle.bac_fields.specs.declared.names.Name.TheVariants as name
 use Rattle.bac_fields.specs.Names.{word_of}
 use Rattle.bac_fields.specs.Line.{Form, as_word, as_number, as_object, as_octets, as_address, as_type, as_network, as_list, as_item, as_value, as_group, as_parenthesis, as_brace, as_truth, as_element, as_signed, as_contents, as_bits, as_identifier, as_text, as_context, form_of}
-use Rattle.bac_lines.specs.Scanning.{each, is_letter}
+use Rattle.bac_lines.specs.Scanning.{each, is_letter, IsNamed}
+use Rattle.bac_lines.specs.declared.closing.Closing.{Closing}
 use Rattle.bac_lines.specs.Found.{Among}
 
 -- ---- the names of a form
@@ -369,3 +370,43 @@ number_found (Some m) word some = (form_among as_number numbers m all some.0, so
     all : AllHave as_number numbers
     all = (refl, (refl, (refl, (refl, (refl, (refl, (refl, (refl, (refl, (refl, (refl, (refl, (refl, (refl, (refl, (refl, (refl, (refl, (refl, (refl, (refl, (refl, (refl, (refl, (refl, (refl, (refl, (refl, (refl, (refl, (refl, (refl, tt))))))))))))))))))))))))))))))))
 number_found None word some = some
+
+-- no name of these is that of a port, and the invoke id has its word
+pub named_among : (ends : List Closing) (n : Name) → Among numbers n → (word_of n ≡ word_of name.InvokeId → ends ≡ []) → IsNamed ends n
+named_among ends n (inl is) id = subst (λ (m : Name). IsNamed ends m) (sym is) tt
+named_among ends n (inr (inl is)) id = subst (λ (m : Name). IsNamed ends m) (sym is) tt
+named_among ends n (inr (inr (inl is))) id = subst (λ (m : Name). IsNamed ends m) (sym is) (id (ap word_of is))
+named_among ends n (inr (inr (inr (inl is)))) id = subst (λ (m : Name). IsNamed ends m) (sym is) tt
+named_among ends n (inr (inr (inr (inr (inl is))))) id = subst (λ (m : Name). IsNamed ends m) (sym is) tt
+named_among ends n (inr (inr (inr (inr (inr (inl is)))))) id = subst (λ (m : Name). IsNamed ends m) (sym is) tt
+named_among ends n (inr (inr (inr (inr (inr (inr (inl is))))))) id = subst (λ (m : Name). IsNamed ends m) (sym is) tt
+named_among ends n (inr (inr (inr (inr (inr (inr (inr (inl is)))))))) id = subst (λ (m : Name). IsNamed ends m) (sym is) tt
+named_among ends n (inr (inr (inr (inr (inr (inr (inr (inr (inl is))))))))) id = subst (λ (m : Name). IsNamed ends m) (sym is) tt
+named_among ends n (inr (inr (inr (inr (inr (inr (inr (inr (inr (inl is)))))))))) id = subst (λ (m : Name). IsNamed ends m) (sym is) tt
+named_among ends n (inr (inr (inr (inr (inr (inr (inr (inr (inr (inr (inl is))))))))))) id = subst (λ (m : Name). IsNamed ends m) (sym is) tt
+named_among ends n (inr (inr (inr (inr (inr (inr (inr (inr (inr (inr (inr (inl is)))))))))))) id = subst (λ (m : Name). IsNamed ends m) (sym is) tt
+named_among ends n (inr (inr (inr (inr (inr (inr (inr (inr (inr (inr (inr (inr (inl is))))))))))))) id = subst (λ (m : Name). IsNamed ends m) (sym is) tt
+named_among ends n (inr (inr (inr (inr (inr (inr (inr (inr (inr (inr (inr (inr (inr (inl is)))))))))))))) id = subst (λ (m : Name). IsNamed ends m) (sym is) tt
+named_among ends n (inr (inr (inr (inr (inr (inr (inr (inr (inr (inr (inr (inr (inr (inr (inl is))))))))))))))) id = subst (λ (m : Name). IsNamed ends m) (sym is) tt
+named_among ends n (inr (inr (inr (inr (inr (inr (inr (inr (inr (inr (inr (inr (inr (inr (inr (inl is)))))))))))))))) id = subst (λ (m : Name). IsNamed ends m) (sym is) tt
+named_among ends n (inr (inr (inr (inr (inr (inr (inr (inr (inr (inr (inr (inr (inr (inr (inr (inr (inl is))))))))))))))))) id = subst (λ (m : Name). IsNamed ends m) (sym is) tt
+named_among ends n (inr (inr (inr (inr (inr (inr (inr (inr (inr (inr (inr (inr (inr (inr (inr (inr (inr (inl is)))))))))))))))))) id = subst (λ (m : Name). IsNamed ends m) (sym is) tt
+named_among ends n (inr (inr (inr (inr (inr (inr (inr (inr (inr (inr (inr (inr (inr (inr (inr (inr (inr (inr (inl is))))))))))))))))))) id = subst (λ (m : Name). IsNamed ends m) (sym is) tt
+named_among ends n (inr (inr (inr (inr (inr (inr (inr (inr (inr (inr (inr (inr (inr (inr (inr (inr (inr (inr (inr (inl is)))))))))))))))))))) id = subst (λ (m : Name). IsNamed ends m) (sym is) tt
+named_among ends n (inr (inr (inr (inr (inr (inr (inr (inr (inr (inr (inr (inr (inr (inr (inr (inr (inr (inr (inr (inr (inl is))))))))))))))))))))) id = subst (λ (m : Name). IsNamed ends m) (sym is) tt
+named_among ends n (inr (inr (inr (inr (inr (inr (inr (inr (inr (inr (inr (inr (inr (inr (inr (inr (inr (inr (inr (inr (inr (inl is)))))))))))))))))))))) id = subst (λ (m : Name). IsNamed ends m) (sym is) tt
+named_among ends n (inr (inr (inr (inr (inr (inr (inr (inr (inr (inr (inr (inr (inr (inr (inr (inr (inr (inr (inr (inr (inr (inr (inl is))))))))))))))))))))))) id = subst (λ (m : Name). IsNamed ends m) (sym is) tt
+named_among ends n (inr (inr (inr (inr (inr (inr (inr (inr (inr (inr (inr (inr (inr (inr (inr (inr (inr (inr (inr (inr (inr (inr (inr (inl is)))))))))))))))))))))))) id = subst (λ (m : Name). IsNamed ends m) (sym is) tt
+named_among ends n (inr (inr (inr (inr (inr (inr (inr (inr (inr (inr (inr (inr (inr (inr (inr (inr (inr (inr (inr (inr (inr (inr (inr (inr (inl is))))))))))))))))))))))))) id = subst (λ (m : Name). IsNamed ends m) (sym is) tt
+named_among ends n (inr (inr (inr (inr (inr (inr (inr (inr (inr (inr (inr (inr (inr (inr (inr (inr (inr (inr (inr (inr (inr (inr (inr (inr (inr (inl is)))))))))))))))))))))))))) id = subst (λ (m : Name). IsNamed ends m) (sym is) tt
+named_among ends n (inr (inr (inr (inr (inr (inr (inr (inr (inr (inr (inr (inr (inr (inr (inr (inr (inr (inr (inr (inr (inr (inr (inr (inr (inr (inr (inl is))))))))))))))))))))))))))) id = subst (λ (m : Name). IsNamed ends m) (sym is) tt
+named_among ends n (inr (inr (inr (inr (inr (inr (inr (inr (inr (inr (inr (inr (inr (inr (inr (inr (inr (inr (inr (inr (inr (inr (inr (inr (inr (inr (inr (inl is)))))))))))))))))))))))))))) id = subst (λ (m : Name). IsNamed ends m) (sym is) tt
+named_among ends n (inr (inr (inr (inr (inr (inr (inr (inr (inr (inr (inr (inr (inr (inr (inr (inr (inr (inr (inr (inr (inr (inr (inr (inr (inr (inr (inr (inr (inl is))))))))))))))))))))))))))))) id = subst (λ (m : Name). IsNamed ends m) (sym is) tt
+named_among ends n (inr (inr (inr (inr (inr (inr (inr (inr (inr (inr (inr (inr (inr (inr (inr (inr (inr (inr (inr (inr (inr (inr (inr (inr (inr (inr (inr (inr (inr (inl is)))))))))))))))))))))))))))))) id = subst (λ (m : Name). IsNamed ends m) (sym is) tt
+named_among ends n (inr (inr (inr (inr (inr (inr (inr (inr (inr (inr (inr (inr (inr (inr (inr (inr (inr (inr (inr (inr (inr (inr (inr (inr (inr (inr (inr (inr (inr (inr (inl is))))))))))))))))))))))))))))))) id = subst (λ (m : Name). IsNamed ends m) (sym is) tt
+named_among ends n (inr (inr (inr (inr (inr (inr (inr (inr (inr (inr (inr (inr (inr (inr (inr (inr (inr (inr (inr (inr (inr (inr (inr (inr (inr (inr (inr (inr (inr (inr (inr (inl is)))))))))))))))))))))))))))))))) id = subst (λ (m : Name). IsNamed ends m) (sym is) tt
+named_among ends n (inr (inr (inr (inr (inr (inr (inr (inr (inr (inr (inr (inr (inr (inr (inr (inr (inr (inr (inr (inr (inr (inr (inr (inr (inr (inr (inr (inr (inr (inr (inr (inr (x))))))))))))))))))))))))))))))))) id = absurd x
+
+pub number_named : (r : Option Name) (word : List ℕ) (ends : List Closing) → IfSome r (λ m. Among numbers m × (word ≡ word_of m)) → (word ≡ word_of name.InvokeId → ends ≡ []) → IfSome r (IsNamed ends)
+number_named (Some m) word ends some id = named_among ends m some.0 (λ e. id (some.1 ∙ e))
+number_named None word ends some id = some

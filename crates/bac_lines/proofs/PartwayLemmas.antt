@@ -1,7 +1,7 @@
 -- A line that is scanned to some place.
-use Rattle.std.specs.Prelude.{◌≡◌, ℕ, ◌+◌, ◌<◌, ◌≤◌, List, [], ◌∷◌, ◌++◌, length, drop, Bool, true, false, IsTrue, Option, refl}
+use Rattle.std.specs.Prelude.{◌≡◌, ℕ, ◌+◌, ◌-◌, ◌<◌, ◌≤◌, List, [], ◌∷◌, ◌++◌, length, take, drop, Bool, true, false, IsTrue, Option, refl}
 use Rattle.std.proofs.Common.{sym, ◌∙◌, ap, subst, arith, append_assoc}
-use Rattle.std.proofs.lemmas.List.{append-nil, drop-drop, drop_all, length-drop}
+use Rattle.std.proofs.lemmas.List.{append-nil, drop-drop, drop_all, take_all, length-drop}
 use Rattle.std.proofs.Math.Seq.{drop-append_seam}
 use Rattle.bac_fields.specs.declared.field.Field.{Field}
 use Rattle.bac_fields.specs.Names.{number_of}
@@ -12,7 +12,8 @@ use Rattle.bac_fields.specs.Symbols.{Symbol, named, numbered, containing, finish
 use Rattle.bac_lines.specs.declared.closing.Closing.{Closing}
 use Rattle.bac_lines.specs.declared.said.Said.{Said}
 use Rattle.bac_lines.specs.Scanning.{TokenIn, AreTokens, ends_field}
-use Rattle.bac_lines.specs.Found.{Adds, fields_said}
+use Rattle.bac_lines.specs.Found.{Adds, Scanned, AreScanned, fields_said}
+use Rattle.bac_lines.proofs.ScanLemmas.{take_next}
 use Rattle.bac_lines.proofs.StartLemmas.{whole_some, printed_ends}
 
 -- ---- what is said so far
@@ -123,3 +124,37 @@ scan_ends line vs first taken ends said le p = by p.rest p.are (sym (drop_all ta
     by : (rest : List FieldValue) → vs ≡ p.done ++ rest → [] ≡ printed_from first rest → AreTokens ends rest → symbols_in said.contents.items said.fields.items ≡ fields_said vs ++ finished ∷ []
     by [] a l t = all_said p.done said p.holds ∙ ap (λ (ws : List FieldValue). fields_said ws ++ finished ∷ []) (sym (a ∙ append-nil p.done))
     by (v ∷ rest) a l t = absurd (whole_some first (form_of v.name) ends v t.0 (printed_from (begins (form_of v.name)) rest) t.1.0 l)
+
+-- ---- what is scanned is printed
+
+-- So many octets of the line are those of fields, and these are said, whatever fields come next.
+pub record IsScannedTo (line : List ℕ) (first : Bool) (taken : ℕ) (ends : List Closing) (said : Said) : Type 0 where
+  pub done : List FieldValue
+  pub tokens : (rest : List FieldValue) → AreTokens ends rest → AreTokens [] (done ++ rest)
+  pub is_line : (rest : List FieldValue) → take taken line ++ printed_from first rest ≡ printed (done ++ rest)
+  pub holds : Holds done said
+
+pub nothing_scanned : (line : List ℕ) (ends : List Closing) (said : Said) → ends ≡ [] → said.fields.items ≡ [] → IsScannedTo line true 0 ends said
+nothing_scanned line ends said e f = record { done = []; tokens = λ rest t. subst (λ (s : List Closing). AreTokens s rest) e t; is_line = λ rest. refl; holds = nothing_said_yet said f }
+
+pub scanned_more : (line : List ℕ) (first begin : Bool) (taken more : ℕ) (ends next : List Closing) (old new : Said) → taken ≤ length line → IsScannedTo line first taken ends old
+    → Scanned first (take (length line - taken) (drop taken line)) (more, begin) ends next old new → IsScannedTo line begin (taken + more) next new
+scanned_more line first begin taken more ends next old new le p s = record {
+  done = p.done ++ s.field ∷ [];
+  tokens = λ rest t. subst (λ (vs : List FieldValue). AreTokens [] vs) (sym (append_assoc p.done (s.field ∷ []) rest)) (p.tokens (s.field ∷ rest) (next, (s.token, t)));
+  is_line = λ rest.
+      ap (λ (l : List ℕ). l ++ printed_from begin rest) (take_next line taken more le ∙ ap (λ (l : List ℕ). take taken line ++ l) s.is_text)
+      ∙ append_assoc (take taken line) (lead first (form_of s.field.name) ++ shown (form_of s.field.name) s.field) (printed_from begin rest)
+      ∙ ap (λ (b : Bool). take taken line ++ ((lead first (form_of s.field.name) ++ shown (form_of s.field.name) s.field) ++ printed_from b rest)) s.begun
+      ∙ p.is_line (s.field ∷ rest)
+      ∙ ap printed (sym (append_assoc p.done (s.field ∷ []) rest));
+  holds = said_more p.done s.field old new p.holds s.added;
+}
+
+pub all_scanned : (line : List ℕ) (first : Bool) (taken : ℕ) (ends : List Closing) (said : Said) → length line ≤ taken → IsScannedTo line first taken ends said → AreScanned line said
+all_scanned line first taken ends said le p = record {
+  fields = p.done ++ [];
+  tokens = p.tokens [] tt;
+  is_line = sym (append-nil line) ∙ ap (λ (l : List ℕ). l ++ []) (sym (take_all taken line le)) ∙ p.is_line [];
+  are_said = all_said p.done said p.holds ∙ ap (λ (vs : List FieldValue). fields_said vs ++ finished ∷ []) (sym (append-nil p.done));
+}

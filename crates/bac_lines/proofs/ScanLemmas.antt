@@ -1,11 +1,15 @@
 -- What the fields of a line begin with, and what comes after them.
-use Rattle.std.specs.Prelude.{◌≡◌, ℕ, ◌+◌, ◌-◌, ◌/◌, List, [], ◌∷◌, ◌++◌, length, take, drop, slice_get, Bool, true, false, ◌==◌, ◌||◌, not, IsTrue, Option, Some, None, refl}
-use Rattle.std.proofs.Common.{sym, ◌∙◌, ap, subst, inl, inr, arith, append_assoc}
+use Rattle.std.specs.Prelude.{◌≡◌, ◌⊎◌, ℕ, ◌+◌, ◌-◌, ◌/◌, ◌<◌, ◌≤◌, slice_index_or, List, [], ◌∷◌, ◌++◌, length, take, drop, slice_get, Bool, true, false, ◌==◌, ◌||◌, not, IsTrue, Option, Some, None, refl}
+use Rattle.std.proofs.Common.{sym, ◌∙◌, ap, subst, inl, inr, arith, zero, suc, append_assoc}
 use Rattle.std.proofs.lemmas.Bool.{and_parts, or_cases, eqb-true, both_ways}
-use Rattle.std.proofs.Math.Seq.{drop-append_seam}
-use Rattle.std.proofs.lemmas.List.{take_rest, length-append}
+use Rattle.std.proofs.Math.Seq.{drop-append_seam, take-append-add}
+use Rattle.std.proofs.lemmas.List.{take_rest, length-append, length-take-le, take-append-drop}
 use Rattle.bac_tag.specs.Octets.{IsOctets}
 use Rattle.bac_record.specs.Digits.{digit, hexadecimal}
+use Rattle.bac_text.specs.Words.{number}
+use Rattle.bac_fields.specs.Fields.{FieldValue}
+use Rattle.bac_fields.specs.Line.{Form, as_group, as_context, shown}
+use Rattle.bac_lines.specs.Found.{tagged_text}
 use Rattle.bac_lines.proofs.Hexes.{hex_digits}
 use Rattle.bac_lines.specs.Scanning.{clear, is_hex, ends_field}
 
@@ -68,3 +72,33 @@ tag_rest line digits tail start e is =
 
 pub pair_is : {A B : Type 0} {a c : A} {b d : B} → ◌≡◌ {A = Option (A × B)} (Some (a, b)) (Some (c, d)) → (a ≡ c) × (b ≡ d)
 pair_is e = let p = some_is _ _ e in ((λ i. (p i).0), (λ i. (p i).1))
+
+-- so many octets of a line, and then of what comes after them
+pub take_next : (line : List ℕ) (m n : ℕ) → m ≤ length line → take (m + n) line ≡ take m line ++ take n (take (length line - m) (drop m line))
+take_next line m n le =
+    ap (λ (l : List ℕ). take (m + n) l) (sym (take-append-drop m line)) ∙ ap (λ (k : ℕ). take (k + n) (take m line ++ drop m line)) (sym (length-take-le m line le))
+    ∙ take-append-add (take m line) (drop m line) n ∙ ap (λ (l : List ℕ). take m line ++ take n l) (sym (take_rest line m))
+
+-- what begins with a tag in brackets
+pub tagged_shown : (form : Form) (v : FieldValue) (n : ℕ) → (form ≡ as_group) ⊎ (form ≡ as_context) → v.number ≡ n → (91 ∷ (number n ++ 93 ∷ [])) ++ tagged_text form v ≡ shown form v
+tagged_shown form v n (inl k) e =
+    ap (λ (f : Form). (91 ∷ (number n ++ 93 ∷ [])) ++ tagged_text f v) k ∙ ap (λ (l : List ℕ). 91 ∷ l) (append_assoc (number n) (93 ∷ []) (123 ∷ [])) ∙ ap (λ (m : ℕ). 91 ∷ (number m ++ 93 ∷ 123 ∷ [])) (sym e) ∙ ap (λ (f : Form). shown f v) (sym k)
+tagged_shown form v n (inr k) e =
+    ap (λ (f : Form). (91 ∷ (number n ++ 93 ∷ [])) ++ tagged_text f v) k ∙ ap (λ (l : List ℕ). 91 ∷ l) (append_assoc (number n) (93 ∷ []) (hexadecimal v.contents)) ∙ ap (λ (m : ℕ). 91 ∷ (number m ++ 93 ∷ hexadecimal v.contents)) (sym e)
+    ∙ ap (λ (f : Form). shown f v) (sym k)
+
+-- a list by its last one, and those before it
+pub last_of : {X : Type 0} (xs ys : List X) (x : X) (m n : ℕ) → n ≡ length xs → m + 1 ≡ n → ys ≡ take (n - 1) xs → ((d : X) → 0 < n → ◌≡◌ {A = Option X} (Some x) (Some (slice_index_or xs (n - 1) d))) → xs ≡ ys ++ x ∷ []
+last_of {X} xs ys x m n size next front last =
+    let some : 0 < n = omega (arith, next) in
+    let end = some_is x (slice_index_or xs (n - 1) x) (last x some) in
+    by xs (n - 1) (omega (arith, size, some)) ∙ ap (λ (l : List X). l ++ slice_index_or xs (n - 1) x ∷ []) (sym front) ∙ ap (λ (y : X). ys ++ y ∷ []) (sym end)
+  where
+    by : (xs : List X) (k : ℕ) → k + 1 ≡ length xs → xs ≡ take k xs ++ slice_index_or xs k x ∷ []
+    by [] k e = absurd (omega (arith, e))
+    by (y ∷ []) zero e = refl
+    by (y ∷ z ∷ xs) zero e = absurd (omega (arith, e))
+    by (y ∷ xs) (suc k) e = ap (λ (l : List X). y ∷ l) (by xs k (omega (arith, e)))
+
+pub take_sign : (x : ℕ) (line : List ℕ) (n : ℕ) → take (n + 1) (x ∷ line) ≡ x ∷ take n line
+take_sign x line n = let next : n + 1 ≡ suc n = omega arith in rw next refl

@@ -1,5 +1,5 @@
 -- With what the fields of a line begin.
-use Rattle.std.specs.Prelude.{◌≡◌, ◌⊎◌, ℕ, ◌<◌, ◌^◌, List, [], ◌∷◌, ◌++◌, length, Bool, true, false, IsTrue, refl}
+use Rattle.std.specs.Prelude.{◌≡◌, ◌⊎◌, ℕ, ◌<◌, ◌^◌, List, [], ◌∷◌, ◌++◌, length, Bool, true, false, if◌then◌else◌, IsTrue, refl}
 use Rattle.std.specs.Fmt.{decimal}
 use Rattle.std.proofs.Common.{sym, ◌∙◌, ap, subst, inl, inr, arith, append_assoc}
 use Rattle.std.proofs.lemmas.Bool.{both_ways, and_parts, not-true}
@@ -8,8 +8,8 @@ use Rattle.bac_text.specs.WalkText.{blank}
 use Rattle.bac_fields.specs.Fields.{FieldValue}
 use Rattle.bac_fields.specs.Line.{Form, as_word, as_number, as_object, as_octets, as_address, as_type, as_network, as_list, as_item, as_value, as_group, as_parenthesis, as_brace, as_truth, as_element, as_signed, as_contents, as_bits, as_identifier, as_text, as_context, form_of, shown, begins, lead, printed_from}
 use Rattle.bac_lines.specs.declared.closing.Closing.{Closing}
-use Rattle.bac_lines.specs.Scanning.{TokenIn, is_decimal, is_letter, each, ends_field}
-use Rattle.bac_lines.specs.Found.{Sort, by_end, by_parenthesis, by_bracket, by_digit, by_word, sort_of, Link, by_equals, by_colon, link_of, word_before, value_shown, after_word}
+use Rattle.bac_lines.specs.Scanning.{TokenIn, open_end, is_decimal, is_letter, each, ends_field}
+use Rattle.bac_lines.specs.Found.{ending, Sort, by_end, by_parenthesis, by_bracket, by_digit, by_word, sort_of, Link, by_equals, by_colon, link_of, word_before, value_shown, after_word}
 use Rattle.bac_fields.specs.Names.{number_of, word_of}
 use Rattle.bac_fields.specs.declared.names.Name.{Name}
 use Rattle.bac_fields.specs.declared.names.Name.TheVariants as name
@@ -171,6 +171,52 @@ colon_begins as_identifier v k = refl
 colon_begins as_text v k = absurd (not_colon (link_of as_text) refl k)
 colon_begins as_context v k = absurd (not_colon (link_of as_context) refl k)
 
+pub equals_sort : (form : Form) → link_of form ≡ by_equals → sort_of form ≡ by_word
+equals_sort as_word k = absurd (not_equals (link_of as_word) refl k)
+equals_sort as_number k = refl
+equals_sort as_object k = refl
+equals_sort as_octets k = refl
+equals_sort as_address k = refl
+equals_sort as_type k = absurd (not_equals (link_of as_type) refl k)
+equals_sort as_network k = absurd (not_equals (link_of as_network) refl k)
+equals_sort as_list k = absurd (not_equals (link_of as_list) refl k)
+equals_sort as_item k = absurd (not_equals (link_of as_item) refl k)
+equals_sort as_value k = absurd (not_equals (link_of as_value) refl k)
+equals_sort as_group k = absurd (not_equals (link_of as_group) refl k)
+equals_sort as_parenthesis k = absurd (not_equals (link_of as_parenthesis) refl k)
+equals_sort as_brace k = absurd (not_equals (link_of as_brace) refl k)
+equals_sort as_truth k = absurd (not_equals (link_of as_truth) refl k)
+equals_sort as_element k = absurd (not_equals (link_of as_element) refl k)
+equals_sort as_signed k = absurd (not_equals (link_of as_signed) refl k)
+equals_sort as_contents k = absurd (not_equals (link_of as_contents) refl k)
+equals_sort as_bits k = absurd (not_equals (link_of as_bits) refl k)
+equals_sort as_identifier k = absurd (not_equals (link_of as_identifier) refl k)
+equals_sort as_text k = absurd (not_equals (link_of as_text) refl k)
+equals_sort as_context k = absurd (not_equals (link_of as_context) refl k)
+
+pub colon_sort : (form : Form) → link_of form ≡ by_colon → sort_of form ≡ by_word
+colon_sort as_word k = absurd (not_colon (link_of as_word) refl k)
+colon_sort as_number k = absurd (not_colon (link_of as_number) refl k)
+colon_sort as_object k = absurd (not_colon (link_of as_object) refl k)
+colon_sort as_octets k = absurd (not_colon (link_of as_octets) refl k)
+colon_sort as_address k = absurd (not_colon (link_of as_address) refl k)
+colon_sort as_type k = absurd (not_colon (link_of as_type) refl k)
+colon_sort as_network k = absurd (not_colon (link_of as_network) refl k)
+colon_sort as_list k = absurd (not_colon (link_of as_list) refl k)
+colon_sort as_item k = absurd (not_colon (link_of as_item) refl k)
+colon_sort as_value k = absurd (not_colon (link_of as_value) refl k)
+colon_sort as_group k = absurd (not_colon (link_of as_group) refl k)
+colon_sort as_parenthesis k = absurd (not_colon (link_of as_parenthesis) refl k)
+colon_sort as_brace k = absurd (not_colon (link_of as_brace) refl k)
+colon_sort as_truth k = absurd (not_colon (link_of as_truth) refl k)
+colon_sort as_element k = refl
+colon_sort as_signed k = refl
+colon_sort as_contents k = refl
+colon_sort as_bits k = refl
+colon_sort as_identifier k = refl
+colon_sort as_text k = absurd (not_colon (link_of as_text) refl k)
+colon_sort as_context k = absurd (not_colon (link_of as_context) refl k)
+
 -- ---- sorts
 
 -- what the first octet of a field is, by its sort
@@ -329,11 +375,11 @@ lead_of first as_context e = refl
 
 -- ---- a field with the blank before it
 
-abbrev is_end_sort : Sort → Bool
+abbrev pub is_end_sort : Sort → Bool
 is_end_sort by_end = true
 is_end_sort _ = false
 
-not_end_sort : (sort : Sort) → is_end_sort sort ≡ false → sort ≡ by_end → ⊥
+pub not_end_sort : (sort : Sort) → is_end_sort sort ≡ false → sort ≡ by_end → ⊥
 not_end_sort sort d e = both_ways (is_end_sort sort) d (subst (λ (s : Sort). IsTrue (is_end_sort s)) (sym e) refl)
 
 -- an end, or what is the first of something, or what comes after a blank
@@ -610,3 +656,20 @@ brace_bare name.Date e = absurd (cc)
 brace_bare name.TimeOfDay e = absurd (cc)
 brace_bare name.ObjectIdentifier e = absurd (cc)
 brace_bare name.ContextPrimitive e = absurd (cc)
+
+pub ending_bare : (parenthesis : Bool) (n : Name) → form_of n ≡ ending parenthesis → has_contents (number_of n) ≡ false
+ending_bare true n e = parenthesis_bare n e
+ending_bare false n e = brace_bare n e
+
+-- an end, as it is written
+pub end_shown : (first parenthesis : Bool) (form : Form) (v : FieldValue) → form ≡ ending parenthesis → lead first form ++ shown form v ≡ (if parenthesis then 41 else 125) ∷ []
+end_shown first true form v k = ap (λ (f : Form). lead first f ++ shown f v) k
+end_shown first false form v k = ap (λ (f : Form). lead first f ++ shown f v) k
+
+pub end_token : (parenthesis : Bool) (form : Form) (v : FieldValue) (ends after : List Closing) → form ≡ ending parenthesis → ends ≡ after ++ open_end v.name v.number ∷ [] → TokenIn form ends v after
+end_token true form v ends after k e = subst (λ (f : Form). TokenIn f ends v after) (sym k) e
+end_token false form v ends after k e = subst (λ (f : Form). TokenIn f ends v after) (sym k) e
+
+pub end_begins : (parenthesis : Bool) (form : Form) → form ≡ ending parenthesis → begins form ≡ false
+end_begins true form k = ap begins k
+end_begins false form k = ap begins k

@@ -1,5 +1,5 @@
 -- What is found in a line, field by field.
-use Rattle.std.specs.Prelude.{◌≡◌, ℕ, ◌≤◌, take, drop, IsTrue, List, [], ◌∷◌, ◌++◌, Bool, nat_eq, if◌then◌else◌, length, codes, Option, Some, Result, IfOk, ◌⊎◌}
+use Rattle.std.specs.Prelude.{◌≡◌, ℕ, ◌<◌, ◌≤◌, take, drop, IsTrue, List, [], ◌∷◌, ◌++◌, Bool, true, false, nat_eq, if◌then◌else◌, length, codes, Option, Some, Result, IfOk, ◌⊎◌}
 use Rattle.std.specs.Fmt.{signed_decimal}
 use Rattle.std.specs.Int.{w64, cast_signed}
 use Rattle.std.specs.Prelude.{map}
@@ -12,12 +12,12 @@ use Rattle.bac_fields.specs.declared.field.Field.{Field}
 use Rattle.bac_fields.specs.declared.names.Name.{Name}
 use Rattle.bac_fields.specs.Names.{number_of, word_of}
 use Rattle.bac_fields.specs.Fields.{FieldValue}
-use Rattle.bac_fields.specs.Symbols.{Symbol, field_said, has_contents, contents_in}
-use Rattle.bac_fields.specs.Line.{Form, as_number, as_object, as_octets, as_address, as_type, as_network, as_list, as_item, as_value, as_group, as_parenthesis, as_brace, as_truth, as_element, as_signed, as_contents, as_bits, as_identifier, as_text, as_context, form_of, object_of, begins}
+use Rattle.bac_fields.specs.Symbols.{Symbol, finished, symbols_in, field_said, has_contents, contents_in}
+use Rattle.bac_fields.specs.Line.{Form, as_number, as_object, as_octets, as_address, as_type, as_network, as_list, as_item, as_value, as_group, as_parenthesis, as_brace, as_truth, as_element, as_signed, as_contents, as_bits, as_identifier, as_text, as_context, form_of, object_of, shown, lead, begins, printed}
 use Rattle.bac_lines.specs.declared.closing.Closing.{Closing}
 use Rattle.bac_lines.specs.declared.fault.LineFault.{LineFault}
 use Rattle.bac_lines.specs.declared.said.Said.{Said}
-use Rattle.bac_lines.specs.Scanning.{text_tail, each, clear}
+use Rattle.bac_lines.specs.Scanning.{TokenIn, AreTokens, text_tail, each, clear}
 
 -- With what a field begins: an end, a parenthesis, a bracket, a digit, or a word.
 pub data Sort : Type 0 where
@@ -113,10 +113,89 @@ pub record IsRun (test : ℕ → Bool) (line : List ℕ) (n : ℕ) : Type 0 wher
   pub run : IsTrue (each test (take n line))
   pub ends : IsTrue (clear test (drop n line))
 
+-- the form of an end that is a parenthesis, or a brace
+abbrev pub ending : Bool → Form
+ending true = as_parenthesis
+ending false = as_brace
+
+-- what comes after a tag in brackets
+abbrev pub tagged_text : Form → FieldValue → List ℕ
+tagged_text as_group v = codes "{"
+tagged_text _ v = hexadecimal v.contents
+
+-- A field is scanned: so many octets of the line are its text and the blank before it, if it has one, and it is added.
+pub record Scanned (first : Bool) (line : List ℕ) (found : ℕ × Bool) (ends after : List Closing) (old new : Said) : Type 0 where
+  pub field : FieldValue
+  pub token : TokenIn (form_of field.name) ends field after
+  pub is_text : take found.0 line ≡ lead first (form_of field.name) ++ shown (form_of field.name) field
+  pub begun : found.1 ≡ begins (form_of field.name)
+  pub added : Adds field old new
+
+-- the same of a field that is no end, without the blank
+pub record Shows (line : List ℕ) (found : ℕ × Bool) (ends after : List Closing) (old new : Said) : Type 0 where
+  pub field : FieldValue
+  pub no_end : sort_of (form_of field.name) ≡ by_end → ⊥
+  pub token : TokenIn (form_of field.name) ends field after
+  pub is_text : take found.0 line ≡ shown (form_of field.name) field
+  pub begun : found.1 ≡ begins (form_of field.name)
+  pub added : Adds field old new
+
+-- the same of a field that opens and ends nothing, of which only a part is read
+pub record Valued (Is : FieldValue → Type 0) (text : FieldValue → List ℕ) (line : List ℕ) (n : ℕ) (old new : Said) : Type 0 where
+  pub field : FieldValue
+  pub has : Is field
+  pub is_text : take n line ≡ text field
+  pub added : Adds field old new
+
+-- After a tag with this number a group begins, or octets under it come.
+pub record TaggedSo (number : ℕ) (line : List ℕ) (found : ℕ × Bool) (ends after : List Closing) (old new : Said) : Type 0 where
+  pub field : FieldValue
+  pub is_tag : (form_of field.name ≡ as_group) ⊎ (form_of field.name ≡ as_context)
+  pub token : TokenIn (form_of field.name) ends field after
+  pub is_number : field.number ≡ number
+  pub is_text : take found.0 line ≡ tagged_text (form_of field.name) field
+  pub begun : found.1 ≡ begins (form_of field.name)
+  pub added : Adds field old new
+
+-- A field with this word is scanned, of which so many octets come after the word, the first of them this sign, which is not
+-- in the line; or they are all in the line.
+pub record WordedSo (sign : ℕ) (word line : List ℕ) (found : ℕ × Bool) (ends after : List Closing) (old new : Said) : Type 0 where
+  pub field : FieldValue
+  pub worded : sort_of (form_of field.name) ≡ by_word
+  pub token : TokenIn (form_of field.name) ends field after
+  pub is_word : word ≡ word_before (form_of field.name) field
+  pub some : 0 < found.0
+  pub is_text : take found.0 (sign ∷ line) ≡ after_word (form_of field.name) field
+  pub begun : found.1 ≡ begins (form_of field.name)
+  pub added : Adds field old new
+
+pub record WordedAs (word line : List ℕ) (found : ℕ × Bool) (ends after : List Closing) (old new : Said) : Type 0 where
+  pub field : FieldValue
+  pub worded : sort_of (form_of field.name) ≡ by_word
+  pub token : TokenIn (form_of field.name) ends field after
+  pub is_word : word ≡ word_before (form_of field.name) field
+  pub is_text : take found.0 line ≡ after_word (form_of field.name) field
+  pub begun : found.1 ≡ begins (form_of field.name)
+  pub added : Adds field old new
+
+-- the value of a field with this word and this link, whatever is open
+abbrev pub ValueOf : Link → List ℕ → List Closing → FieldValue → Type 0
+ValueOf link word ends v = (link_of (form_of v.name) ≡ link) × (TokenIn (form_of v.name) ends v ends × (word ≡ word_of v.name))
+
+abbrev pub shown_value : FieldValue → List ℕ
+shown_value v = value_shown (form_of v.name) v
+
 -- the symbols of fields, one after another
 abbrev pub fields_said : List FieldValue → List Symbol
 fields_said [] = []
 fields_said (v ∷ vs) = field_said v ++ fields_said vs
+
+-- The line is that of fields as frames have them, and these are said.
+pub record AreScanned (line : List ℕ) (said : Said) : Type 0 where
+  pub fields : List FieldValue
+  pub tokens : AreTokens [] fields
+  pub is_line : line ≡ printed fields
+  pub are_said : symbols_in said.contents.items said.fields.items ≡ fields_said fields ++ finished ∷ []
 
 -- ---- names
 

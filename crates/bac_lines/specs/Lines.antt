@@ -13,10 +13,6 @@ pub record IsRead (line old new : List ℕ) : Type 0 where
   pub is_line : line ≡ text frame
   pub appended : AppendsLeast (SpellsFrame frame) old new
 
--- The octets spell a frame, and the line is its text.
-abbrev pub IsLineOf : List ℕ → List ℕ → Type 0
-IsLineOf octets line = (frame : FrameValue) × SpellsFrame frame octets × (line ≡ text frame)
-
 -- Some octets spell the frame.
 abbrev pub IsFrame : FrameValue → Type 0
 IsFrame frame = (octets : List ℕ) × SpellsFrame frame octets

@@ -1,5 +1,5 @@
 -- Fields, as a line is scanned for them.
-use Rattle.std.specs.Prelude.{◌≡◌, ℕ, ◌+◌, ◌*◌, ◌<◌, ◌^◌, Bool, true, ◌||◌, ◌&&◌, ◌==◌, not, nat_le, if◌then◌else◌, IsTrue, List, [], ◌∷◌, ◌++◌, length, codes, Option, Some}
+use Rattle.std.specs.Prelude.{◌≡◌, ℕ, ◌+◌, ◌*◌, ◌<◌, ◌^◌, Bool, true, ◌||◌, ◌&&◌, ◌==◌, not, nat_le, if◌then◌else◌, IsTrue, List, [], ◌∷◌, ◌++◌, length, take, codes, Option, Some, IfSome}
 use Rattle.bac_tag.specs.Octets.{IsOctets}
 use Rattle.bac_value.specs.TextContents.{TextValue}
 use Rattle.bac_value.specs.BitsContents.{packed_bits, bits_in}
@@ -43,6 +43,10 @@ ends_field (x ∷ more) = (x == 32) || ((x == 41) || (x == 125))
 -- A value is found where the line has its text, if what comes after the text is clear: the value, and the octets of its text.
 abbrev pub Finds : {V : Type 0} → (V → Type 0) → (V → List ℕ) → (ℕ → Bool) → List ℕ → Option (V × ℕ) → Type 0
 Finds {V} fits text fringe line result = (v : V) (more : List ℕ) → fits v → IsTrue (clear fringe more) → line ≡ text v ++ more → result ≡ Some (v, length (text v))
+
+-- What is found is at the front of the line: so many octets are the text of the value.
+abbrev pub IsFound : {V : Type 0} → (V → Type 0) → (V → List ℕ) → List ℕ → Option (V × ℕ) → Type 0
+IsFound {V} fits text line result = IfSome result (λ found. fits found.0 × (take found.1 line ≡ text found.0))
 
 -- the number that octets are, the most significant first
 abbrev pub number_after : ℕ → List ℕ → ℕ

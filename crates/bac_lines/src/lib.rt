@@ -9,13 +9,16 @@
 //!
 //! The line of a frame is its fields, printed. So a line is scanned field by field, without a grammar (`scanning.rt`): what
 //! a field begins with, and the sign after its word, say what it is. An end is that of what was opened last (`closing.rt`).
-//! The fields (`said.rt`) are made into octets by bac_fields, which accepts exactly those that a frame has. At last the line
-//! of the frame that was made is compared with the one that was read (`reading.rt`).
+//! The fields (`said.rt`) are made into octets by bac_fields, which accepts exactly those that a frame has (`reading.rt`).
 //!
 //! That each line of a frame is read is proved in three steps: the fields of a frame are as the scanner expects them
 //! (`AreTokens` in `specs/Scanning.antt`; `FrameTokens.antt` and the files that it uses), fields of that kind are found in
 //! the line that is printed of them (`Found.antt`; `NameLemmas.antt`, `WordLemmas.antt`, `StartLemmas.antt` and
 //! `PartwayLemmas.antt`), and these fields are those of one frame (`ReadingLemmas.antt`).
+//!
+//! Nothing else is read, although the line of the frame that was made is not compared with the one that was read: what is
+//! scanned is the line that is printed of fields of that kind (`AreScanned` in `specs/Found.antt`), and fields that say the
+//! same have the same line (`PrintedLemmas.antt`).
 //!
 //! # Where a line is refused
 //!

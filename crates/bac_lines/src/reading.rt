@@ -1,10 +1,10 @@
 //! Reading a whole line.
 
-ghost use Rattle.std.specs.Prelude.{◌≡◌, ◌≢◌, ◌≤◌, false, length, IsTrue, IfOk, IfErr};
+ghost use Rattle.std.specs.Prelude.{◌≡◌, ◌≤◌, false, length, IsTrue, IfOk, IfErr};
 ghost use Rattle.bac_tag.specs.Octets.{Extends};
-ghost use Rattle.bac_npdu.specs.Frames.{FrameValue, SpellsFrame, value_of};
+ghost use Rattle.bac_npdu.specs.Frames.{value_of};
 ghost use Rattle.bac_text.specs.FrameText.{text};
-ghost use Rattle.bac_lines.specs.Lines.{IfStop, IsRead, IsNear, IsLineOf, IsNoLine, IsFrame};
+ghost use Rattle.bac_lines.specs.Lines.{IfStop, IsRead, IsNear, IsNoLine, IsFrame};
 
 use crate::closing::Closing;
 use crate::fault::LineFault;
@@ -13,7 +13,7 @@ use crate::from_line::FromLine;
 use crate::said::Said;
 use crate::scanning::scan;
 use crate::words::shared_octets;
-use bac_fields::laws::{fields_are_of_one_frame, the_line_is_the_fields};
+use bac_fields::laws::the_line_is_the_fields;
 use bac_fields::{FieldWhy, append_octets};
 use bac_npdu::laws::frames_have_one_value;
 use bac_npdu::{Frame, decode_frame};
@@ -28,7 +28,7 @@ pub struct LineReader {
     said: Said,
     /// The ends of what is open in it.
     ends: Vec<Closing>,
-    /// The line of the frame that was made of it.
+    /// The line of the frame that its parts say, if it is that of no frame.
     shown: Vec<u8>,
 }
 
@@ -54,57 +54,34 @@ impl LineReader {
         ensures near { IfErr result (IsNear line.now) }
         ensures unchanged { IfErr result (λ _. out.new.items ≡ out.old.items) }
     {
-        let start = out.len();
-        match self.append_scanned(line, out) {
-            Ok(true) => return Ok(()),
-            Ok(false) => {}
-            Err(_) => {
-                out.truncate(start);
-                return Err(LineFault::OutOfMemory);
-            }
+        if self.append_scanned(line, out)? {
+            return Ok(());
         }
+        let start = out.len();
         let fault = self.fault_in(line, out);
         out.truncate(start);
         Err(fault)
     }
 
-    /// Appends the octets of the frame that the fields of the line say, and compares the line of that frame with the one
-    /// that was read. Returns false if the line is that of no frame. `out` may then hold some octets more, and if memory is
-    /// refused.
+    /// Appends the octets of the frame that the fields of the line say. Its line need not be compared with the one that was
+    /// read: fields that say the same have the same line. Returns false if the line is that of no frame. `out` then stays as
+    /// it was, and if memory is refused.
     fn append_scanned(&mut self, line: &[u8], out: &mut Vec<u8>) -> Result<bool, LineFault>
         ensures read { IfOk result (λ is_line. IsTrue is_line → IsRead line.now out.old.items out.new.items) }
         ensures none { IfOk result (λ is_line. is_line ≡ false → IsNoLine line.now) }
-        ensures kept { Extends out.old.items out.new.items }
+        ensures memory { IfErr result (λ fault. fault ≡ LineFault.OutOfMemory) }
+        ensures kept { IfOk result (λ is_line. is_line ≡ false → out.new.items ≡ out.old.items) }
+        ensures unchanged { IfErr result (λ _. out.new.items ≡ out.old.items) }
     {
         the_line_is_the_fields();
-        fields_are_of_one_frame();
         if !scan(line, &mut self.said, &mut self.ends)? {
             return Ok(false);
         }
-        let start = out.len();
         match append_octets(&self.said.fields, &self.said.contents, out) {
-            Ok(()) => {
-                frames_have_one_value();
-                self.is_shown(line, &out[start..])
-            }
+            Ok(()) => Ok(true),
             Err(refusal) if refusal.why == FieldWhy::OutOfMemory => Err(LineFault::OutOfMemory),
             Err(_) => Ok(false),
         }
-    }
-
-    /// Returns true if the line is that of the frame which the octets spell.
-    fn is_shown(&mut self, line: &[u8], octets: &[u8]) -> Result<bool, LineFault>
-        ensures same { IfOk result (λ is_line. IsTrue is_line → IsLineOf octets.now line.now) }
-        ensures other { IfOk result (λ is_line. is_line ≡ false → (frame : FrameValue) × SpellsFrame frame octets.now × (line.now ≢ text frame)) }
-    {
-        let Ok(frame) = decode_frame(self.alloc, octets) else {
-            return Err(LineFault::OutOfMemory);
-        };
-        self.shown.clear();
-        if append_text(&frame, &mut self.shown).is_err() {
-            return Err(LineFault::OutOfMemory);
-        }
-        Ok(self.shown.as_slice() == line)
     }
 
     /// Returns why the line, which is that of no frame, is not read. The parts find the place. `out` may then hold some
@@ -129,10 +106,14 @@ impl LineReader {
     fn first_difference(&mut self, line: &[u8], octets: &[u8]) -> LineFault
         ensures near { IsNear line.now result }
     {
-        match self.is_shown(line, octets) {
-            Ok(_) => LineFault::Stop(shared_octets(&self.shown, line)),
-            Err(_) => LineFault::OutOfMemory,
+        let Ok(frame) = decode_frame(self.alloc, octets) else {
+            return LineFault::OutOfMemory;
+        };
+        self.shown.clear();
+        if append_text(&frame, &mut self.shown).is_err() {
+            return LineFault::OutOfMemory;
         }
+        LineFault::Stop(shared_octets(&self.shown, line))
     }
 }
 

@@ -6,7 +6,7 @@ ghost use Rattle.bac_fields.specs.Line.{form_of, begins, lead, shown, printed};
 ghost use Rattle.bac_fields.specs.Symbols.{symbols_in, finished};
 ghost use Rattle.bac_lines.specs.declared.closing.Closing.{Closing};
 ghost use Rattle.bac_lines.specs.Scanning.{TokenIn, AreTokens, ends_field};
-ghost use Rattle.bac_lines.specs.Found.{by_end, sort_of, IsAdded, fields_said};
+ghost use Rattle.bac_lines.specs.Found.{by_end, sort_of, IsAdded, Scanned, Shows, AreScanned, fields_said};
 
 mod brackets;
 mod names;
@@ -33,6 +33,7 @@ fn add_shown(
     ends: &mut Vec<Closing>,
 ) -> Result<Option<Found>, LineFault>
     ensures found { (v : FieldValue) (after : List Closing) (more : List ℕ) → (sort_of (form_of v.name) ≡ by_end → ⊥) → TokenIn (form_of v.name) ends.old.items v after → (begins (form_of v.name) ≡ false → IsTrue (ends_field more)) → line.now ≡ shown (form_of v.name) v ++ more → IsAdded v after (length (shown (form_of v.name) v)) said.old said.new ends.new.items result }
+    ensures sound { IfOk result (λ found. IfSome found (λ f. Shows line.now f ends.old.items ends.new.items said.old said.new)) }
     ensures some { IfOk result (λ found. IfSome found (λ f. 0 < f.0)) }
     ensures within { IfOk result (λ found. IfSome found (λ f. f.0 ≤ length line.now)) }
     ensures memory { IfErr result (λ fault. fault ≡ LineFault.OutOfMemory) }
@@ -60,6 +61,7 @@ fn add_field(
     ends: &mut Vec<Closing>,
 ) -> Result<Option<Found>, LineFault>
     ensures found { (v : FieldValue) (after : List Closing) (more : List ℕ) → TokenIn (form_of v.name) ends.old.items v after → (begins (form_of v.name) ≡ false → IsTrue (ends_field more)) → line.now ≡ (lead first (form_of v.name) ++ shown (form_of v.name) v) ++ more → IsAdded v after (length (lead first (form_of v.name) ++ shown (form_of v.name) v)) said.old said.new ends.new.items result }
+    ensures sound { IfOk result (λ found. IfSome found (λ f. Scanned first line.now f ends.old.items ends.new.items said.old said.new)) }
     ensures some { IfOk result (λ found. IfSome found (λ f. 0 < f.0)) }
     ensures within { IfOk result (λ found. IfSome found (λ f. f.0 ≤ length line.now)) }
     ensures memory { IfErr result (λ fault. fault ≡ LineFault.OutOfMemory) }
@@ -68,7 +70,7 @@ fn add_field(
         return Ok(None);
     };
     if *octet == b')' || *octet == b'}' {
-        return add_end(said, ends);
+        return add_end(*octet == b')', said, ends);
     }
     if first {
         return add_shown(line, said, ends);
@@ -86,6 +88,7 @@ fn add_field(
 /// some of them.
 pub(crate) fn scan(line: &[u8], said: &mut Said, ends: &mut Vec<Closing>) -> Result<bool, LineFault>
     ensures found { (vs : List FieldValue) → AreTokens [] vs → line.now ≡ printed vs → IfOk result (λ whole. (whole ≡ true) × (symbols_in said.new.contents.items said.new.fields.items ≡ fields_said vs ++ finished ∷ [])) }
+    ensures sound { IfOk result (λ whole. IsTrue whole → AreScanned line.now said.new) }
     ensures memory { IfErr result (λ fault. fault ≡ LineFault.OutOfMemory) }
 {
     said.clear();

@@ -1,12 +1,12 @@
 //! The names that words of a line are.
 
-ghost use Rattle.std.specs.Prelude.{◌≡◌, ◌≢◌, [], IsTrue, IfSome, IfNone, Some, List};
+ghost use Rattle.std.specs.Prelude.{◌≡◌, ◌↔◌, IsTrue, IfSome, IfNone, Some, List};
 ghost use Rattle.bac_fields.specs.declared.names.Name.{Name};
 ghost use Rattle.bac_fields.specs.Names.{word_of};
 ghost use Rattle.bac_fields.specs.Line.{form_of, as_number};
 ghost use Rattle.bac_lines.specs.declared.closing.Closing.{Closing};
 ghost use Rattle.bac_lines.specs.Scanning.{IsNamed, word_number, end_of};
-ghost use Rattle.bac_lines.specs.Found.{Among};
+ghost use Rattle.bac_lines.specs.Found.{Among, ending};
 
 use crate::closing::Closing;
 use bac_fields::Name;
@@ -95,9 +95,6 @@ pub(crate) const WORDS: [Name; 21] = [
 /// Names of elements with a number after a colon.
 pub(crate) const COUNTS: [Name; 2] = [Name::Unsigned, Name::Enumerated];
 
-/// Names of elements with the bits of a number after a colon.
-pub(crate) const REALS: [Name; 2] = [Name::Real, Name::Double];
-
 /// Names of elements with octets after a colon.
 pub(crate) const STRINGS: [Name; 3] = [Name::OctetString, Name::Date, Name::TimeOfDay];
 
@@ -119,6 +116,7 @@ pub(crate) fn find_name(names: &[Name], word: &[u8]) -> Option<Name>
 /// Returns the name with a number after an equals sign that has this word. Inside of something `id` is that of a port.
 pub(crate) fn find_number_name(word: &[u8], ends: &[Closing]) -> Option<Name>
     ensures some { IfSome result (λ name. (form_of name ≡ as_number) × (word.now ≡ word_of name)) }
+    ensures named { IfSome result (IsNamed ends.now) }
     ensures found { (name : Name) → form_of name ≡ as_number → IsNamed ends.now name → word.now ≡ word_of name → result ≡ Some name }
 {
     if ends.is_empty() {
@@ -154,5 +152,17 @@ pub(crate) fn end_of(name: Name) -> Name
     match name {
         Name::PropertyError => Name::PropertyErrorEnd,
         _ => Name::ListEnd,
+    }
+}
+
+/// Returns true if a field with this name is an end, written with a parenthesis or else with a brace.
+#[inline(always)]
+pub(crate) fn is_end(parenthesis: bool, name: Name) -> bool
+    ensures { IsTrue result ↔ (form_of name ≡ ending parenthesis) }
+{
+    match name {
+        Name::ListEnd | Name::ItemEnd | Name::PropertyErrorEnd => parenthesis,
+        Name::ValueEnd | Name::GroupEnd => !parenthesis,
+        _ => false,
     }
 }

@@ -1,12 +1,12 @@
 //! Fields that begin with a word.
 
-ghost use Rattle.std.specs.Prelude.{◌≡◌, ◌≤◌, ◌<◌, ◌+◌, ◌++◌, ◌∷◌, [], ℕ, List, Bool, true, false, Some, length, IsTrue, IfOk, IfErr, IfSome};
+ghost use Rattle.std.specs.Prelude.{◌≡◌, ◌⊎◌, ◌≤◌, ◌<◌, ◌+◌, ◌++◌, ◌∷◌, [], ℕ, List, Bool, true, false, Some, length, take, IsTrue, IfOk, IfErr, IfSome};
 ghost use Rattle.bac_fields.specs.Names.{number_of, word_of};
 ghost use Rattle.bac_fields.specs.Fields.{FieldValue};
 ghost use Rattle.bac_fields.specs.Line.{form_of, begins, shown, as_word, as_truth, as_type, as_list, as_value, as_text};
 ghost use Rattle.bac_lines.specs.declared.closing.Closing.{Closing};
 ghost use Rattle.bac_lines.specs.Scanning.{TokenIn, ends_field, is_letter};
-ghost use Rattle.bac_lines.specs.Found.{by_word, by_equals, by_colon, sort_of, link_of, word_before, after_word, value_shown, IsAdded, IsRun};
+ghost use Rattle.bac_lines.specs.Found.{by_word, by_equals, by_colon, sort_of, link_of, word_before, after_word, value_shown, IsAdded, IsRun, Adds, Shows, WordedSo, WordedAs};
 
 use super::Found;
 use super::brackets::open;
@@ -44,6 +44,7 @@ fn add_list(
     ends: &mut Vec<Closing>,
 ) -> Result<Option<Found>, LineFault>
     ensures found { (v : FieldValue) (after : List Closing) → form_of v.name ≡ as_list → TokenIn as_list ends.old.items v after → word.now ≡ word_of v.name → IsAdded v after 2 said.old said.new ends.new.items result }
+    ensures sound { IfOk result (λ found. IfSome found (λ f. (v : FieldValue) × ((form_of v.name ≡ as_list) × (TokenIn as_list ends.old.items v ends.new.items × ((word.now ≡ word_of v.name) × ((f.1 ≡ true) × Adds v said.old said.new)))))) }
     ensures two { IfOk result (λ found. IfSome found (λ f. f.0 ≡ 2)) }
     ensures memory { IfErr result (λ fault. fault ≡ LineFault.OutOfMemory) }
 {
@@ -56,19 +57,28 @@ fn add_list(
 }
 
 /// Adds the beginning of an open value: its word, an equals sign, and a brace.
-fn add_value(said: &mut Said, ends: &mut Vec<Closing>) -> Result<Option<Found>, LineFault>
-    ensures found { (v : FieldValue) (after : List Closing) → form_of v.name ≡ as_value → TokenIn as_value ends.old.items v after → IsAdded v after 2 said.old said.new ends.new.items result }
+fn add_value(
+    word: &[u8],
+    said: &mut Said,
+    ends: &mut Vec<Closing>,
+) -> Result<Option<Found>, LineFault>
+    ensures found { (v : FieldValue) (after : List Closing) → form_of v.name ≡ as_value → TokenIn as_value ends.old.items v after → word.now ≡ word_of v.name → IsAdded v after 2 said.old said.new ends.new.items result }
+    ensures sound { IfOk result (λ found. IfSome found (λ f. (v : FieldValue) × ((form_of v.name ≡ as_value) × (TokenIn as_value ends.old.items v ends.new.items × ((word.now ≡ word_of v.name) × ((f.1 ≡ true) × Adds v said.old said.new)))))) }
     ensures two { IfOk result (λ found. IfSome found (λ f. f.0 ≡ 2)) }
     ensures memory { IfErr result (λ fault. fault ≡ LineFault.OutOfMemory) }
 {
-    said.add(Name::Value, 0)?;
-    open(ends, Name::ValueEnd, 0)?;
-    Ok(Some((2, true)))
+    if word == b"value".as_slice() {
+        said.add(Name::Value, 0)?;
+        open(ends, Name::ValueEnd, 0)?;
+        return Ok(Some((2, true)));
+    }
+    Ok(None)
 }
 
 /// Adds the type of a network message, which comes after its word.
 fn add_type(line: &[u8], said: &mut Said) -> Result<Option<Found>, LineFault>
     ensures found { (ends : List Closing) (v : FieldValue) (after : List Closing) (more : List ℕ) → form_of v.name ≡ as_type → TokenIn as_type ends v after → IsTrue (ends_field more) → line.now ≡ after_word as_type v ++ more → IsAdded v after (length (after_word as_type v)) said.old said.new ends result }
+    ensures sound { (ends : List Closing) → IfOk result (λ found. IfSome found (λ f. (v : FieldValue) × ((form_of v.name ≡ as_type) × (TokenIn as_type ends v ends × ((take f.0 line.now ≡ after_word as_type v) × ((f.1 ≡ false) × Adds v said.old said.new)))))) }
     ensures within { IfOk result (λ found. IfSome found (λ f. f.0 ≤ length line.now)) }
     ensures memory { IfErr result (λ fault. fault ≡ LineFault.OutOfMemory) }
 {
@@ -78,14 +88,18 @@ fn add_type(line: &[u8], said: &mut Said) -> Result<Option<Found>, LineFault>
     let Some((kind, taken)) = find_bits(digits) else {
         return Ok(None);
     };
+    if taken != 2 {
+        return Ok(None);
+    }
     said.add(Name::NetworkMessage, kind)?;
-    Ok(Some((6 + taken, false)))
+    Ok(Some((8, false)))
 }
 
 /// Adds a field that is a word.
 fn add_word(word: &[u8], said: &mut Said) -> Result<Option<Found>, LineFault>
     ensures word { (ends : List Closing) (v : FieldValue) (after : List Closing) → form_of v.name ≡ as_word → TokenIn as_word ends v after → word.now ≡ word_of v.name → IsAdded v after 0 said.old said.new ends result }
     ensures truth { (ends : List Closing) (v : FieldValue) (after : List Closing) → form_of v.name ≡ as_truth → TokenIn as_truth ends v after → word.now ≡ word_before as_truth v → IsAdded v after 0 said.old said.new ends result }
+    ensures sound { (ends : List Closing) → IfOk result (λ found. IfSome found (λ f. (v : FieldValue) × (((form_of v.name ≡ as_word) ⊎ (form_of v.name ≡ as_truth)) × (TokenIn (form_of v.name) ends v ends × ((word.now ≡ word_before (form_of v.name) v) × ((f.1 ≡ false) × Adds v said.old said.new)))))) }
     ensures none { IfOk result (λ found. IfSome found (λ f. f.0 ≡ 0)) }
     ensures memory { IfErr result (λ fault. fault ≡ LineFault.OutOfMemory) }
 {
@@ -112,8 +126,9 @@ fn add_equals(
     ends: &mut Vec<Closing>,
 ) -> Result<Option<Found>, LineFault>
     ensures list { (v : FieldValue) (after : List Closing) (more : List ℕ) → form_of v.name ≡ as_list → TokenIn as_list ends.old.items v after → word.now ≡ word_of v.name → line.now ≡ 40 ∷ more → IsAdded v after 2 said.old said.new ends.new.items result }
-    ensures value { (v : FieldValue) (after : List Closing) (more : List ℕ) → form_of v.name ≡ as_value → TokenIn as_value ends.old.items v after → line.now ≡ 123 ∷ more → IsAdded v after 2 said.old said.new ends.new.items result }
+    ensures value { (v : FieldValue) (after : List Closing) (more : List ℕ) → form_of v.name ≡ as_value → TokenIn as_value ends.old.items v after → word.now ≡ word_of v.name → line.now ≡ 123 ∷ more → IsAdded v after 2 said.old said.new ends.new.items result }
     ensures held { (v : FieldValue) (after : List Closing) (more : List ℕ) → link_of (form_of v.name) ≡ by_equals → TokenIn (form_of v.name) ends.old.items v after → IsTrue (ends_field more) → word.now ≡ word_of v.name → line.now ≡ value_shown (form_of v.name) v ++ more → IsAdded v after (length (value_shown (form_of v.name) v) + 1) said.old said.new ends.new.items result }
+    ensures sound { IfOk result (λ found. IfSome found (λ f. WordedSo 61 word.now line.now f ends.old.items ends.new.items said.old said.new)) }
     ensures within { IfOk result (λ found. IfSome found (λ f. f.0 ≤ length line.now + 1)) }
     ensures memory { IfErr result (λ fault. fault ≡ LineFault.OutOfMemory) }
 {
@@ -122,7 +137,7 @@ fn add_equals(
             return add_list(word, said, ends);
         }
         if *octet == b'{' {
-            return add_value(said, ends);
+            return add_value(word, said, ends);
         }
     }
     match add_named(word, line, said, ends)? {
@@ -134,6 +149,7 @@ fn add_equals(
 /// Adds an element of an open value, after its word and the colon, and counts the colon.
 fn add_colon(word: &[u8], line: &[u8], said: &mut Said) -> Result<Option<Found>, LineFault>
     ensures found { (ends : List Closing) (v : FieldValue) (after : List Closing) (more : List ℕ) → link_of (form_of v.name) ≡ by_colon → TokenIn (form_of v.name) ends v after → IsTrue (ends_field more) → word.now ≡ word_of v.name → line.now ≡ value_shown (form_of v.name) v ++ more → IsAdded v after (length (value_shown (form_of v.name) v) + 1) said.old said.new ends result }
+    ensures sound { (ends : List Closing) → IfOk result (λ found. IfSome found (λ f. WordedSo 58 word.now line.now f ends ends said.old said.new)) }
     ensures within { IfOk result (λ found. IfSome found (λ f. f.0 ≤ length line.now + 1)) }
     ensures memory { IfErr result (λ fault. fault ≡ LineFault.OutOfMemory) }
 {
@@ -146,6 +162,7 @@ fn add_colon(word: &[u8], line: &[u8], said: &mut Said) -> Result<Option<Found>,
 /// Adds a text, after the letter s.
 fn add_after_s(line: &[u8], said: &mut Said) -> Result<Option<Found>, LineFault>
     ensures found { (ends : List Closing) (v : FieldValue) (after : List Closing) (more : List ℕ) → form_of v.name ≡ as_text → TokenIn as_text ends v after → IsTrue (ends_field more) → line.now ≡ after_word as_text v ++ more → IsAdded v after (length (after_word as_text v)) said.old said.new ends result }
+    ensures sound { (ends : List Closing) → IfOk result (λ found. IfSome found (λ f. (v : FieldValue) × ((form_of v.name ≡ as_text) × (TokenIn as_text ends v ends × ((take f.0 line.now ≡ after_word as_text v) × ((f.1 ≡ false) × Adds v said.old said.new)))))) }
     ensures within { IfOk result (λ found. IfSome found (λ f. f.0 ≤ length line.now)) }
     ensures memory { IfErr result (λ fault. fault ≡ LineFault.OutOfMemory) }
 {
@@ -163,6 +180,7 @@ fn add_after(
     ends: &mut Vec<Closing>,
 ) -> Result<Option<Found>, LineFault>
     ensures found { (v : FieldValue) (after : List Closing) (more : List ℕ) → sort_of (form_of v.name) ≡ by_word → TokenIn (form_of v.name) ends.old.items v after → (begins (form_of v.name) ≡ false → IsTrue (ends_field more)) → word.now ≡ word_before (form_of v.name) v → line.now ≡ after_word (form_of v.name) v ++ more → IsAdded v after (length (after_word (form_of v.name) v)) said.old said.new ends.new.items result }
+    ensures sound { IfOk result (λ found. IfSome found (λ f. WordedAs word.now line.now f ends.old.items ends.new.items said.old said.new)) }
     ensures within { IfOk result (λ found. IfSome found (λ f. f.0 ≤ length line.now)) }
     ensures memory { IfErr result (λ fault. fault ≡ LineFault.OutOfMemory) }
 {
@@ -191,6 +209,7 @@ pub(crate) fn add_worded(
     ends: &mut Vec<Closing>,
 ) -> Result<Option<Found>, LineFault>
     ensures found { (v : FieldValue) (after : List Closing) (more : List ℕ) → sort_of (form_of v.name) ≡ by_word → TokenIn (form_of v.name) ends.old.items v after → (begins (form_of v.name) ≡ false → IsTrue (ends_field more)) → line.now ≡ shown (form_of v.name) v ++ more → IsAdded v after (length (shown (form_of v.name) v)) said.old said.new ends.new.items result }
+    ensures sound { IfOk result (λ found. IfSome found (λ f. Shows line.now f ends.old.items ends.new.items said.old said.new)) }
     ensures some { IfOk result (λ found. IfSome found (λ f. 0 < f.0)) }
     ensures within { IfOk result (λ found. IfSome found (λ f. f.0 ≤ length line.now)) }
     ensures memory { IfErr result (λ fault. fault ≡ LineFault.OutOfMemory) }

@@ -44,3 +44,6 @@ returns-clause-found c v after more n t b l =
     let same = head_is (sym first.1 ∙ l ∙ begun.is) in
     let s = sort_word (sort_of form) begun.first (λ e. c.if-octet-eq40.false (same ∙ e)) (λ e. c.if-octet-eq91.false (same ∙ e)) (ap is_decimal (sym same) ∙ sym c.if-is_decimal.ensures) n begun.looks in
     c.add_worded.ensures.found v after more s t b l
+
+pub returns-then-is_decimal-clause-sound : goal.returns-then-is_decimal-clause-sound
+returns-then-is_decimal-clause-sound c = c.add_network.ensures.sound c.args.ends.now.items

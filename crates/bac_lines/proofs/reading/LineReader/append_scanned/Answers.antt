@@ -1,6 +1,6 @@
 use Rattle.std.proofs.Common.{sym, ◌∙◌, refl}
 use Rattle.std.proofs.lemmas.Bool.{false≢true}
-use Rattle.bac_lines.proofs.ReadingLemmas.{read_of, other_line, not_whole, no_refusal, only_frame}
+use Rattle.bac_lines.proofs.ReadingLemmas.{read_of, not_whole, no_refusal}
 use Rattle.bac_lines.proofs.reading.LineReader.append_scanned.Goals as goal
 
 pub returns-then-not-branch-clause-none : goal.returns-then-not-branch-clause-none
@@ -9,16 +9,8 @@ returns-then-not-branch-clause-none c =
 
 pub returns-in-Ok-clause-read : goal.returns-in-Ok-clause-read
 returns-in-Ok-clause-read c =
-    read_of c.deref-2.result.now c.deref.result.now c.args.line.now c.args.out.now.items c.append_octets.new.out.items c.deref-in-Ok.result.now c.len-start.result c.frames_have_one_value.ensures c.in-Ok.ensures.made c.deref-in-Ok.ensures.value (c.len-start.ensures ∙ c.args.out.now.ok.0)
-    c.is_shown.result c.is_shown.ensures.same
-
-pub returns-in-Ok-clause-none : goal.returns-in-Ok-clause-none
-returns-in-Ok-clause-none c =
-    other_line c.deref-2.result.now c.deref.result.now c.args.line.now c.args.out.now.items c.append_octets.new.out.items c.deref-in-Ok.result.now c.len-start.result c.frames_have_one_value.ensures c.in-Ok.ensures.made c.deref-in-Ok.ensures.value (c.len-start.ensures ∙ c.args.out.now.ok.0)
-    c.is_shown.result
-    (only_frame c.args.line.now c.scan.new.said.contents.items c.scan.new.said.fields.items c.in_ok-scan.field-0 c.in_ok-scan.ensures.found c.the_line_is_the_fields.ensures c.deref-2.result.now c.deref.result.now c.deref-2.ensures.value c.deref.ensures.value
-    c.args.out.now.items c.append_octets.new.out.items c.in-Ok.ensures.made c.fields_are_of_one_frame.ensures)
-    c.is_shown.ensures.other
+    λ whole. read_of c.args.line.now c.deref-2.result.now c.args.out.now.items c.append_octets.new.out.items c.deref.result.now c.scan.new.said (c.in_ok-scan.ensures.sound c.if-not-branch.false) c.deref-2.ensures.value c.deref.ensures.value
+    c.the_line_is_the_fields.ensures c.type_inv.out c.in-Ok.ensures.made
 
 pub returns-in-Err-2-clause-none : goal.returns-in-Err-2-clause-none
 returns-in-Err-2-clause-none c =

@@ -1,8 +1,12 @@
-use Rattle.std.proofs.Common.{◌∙◌, ◌∷◌, ◌++◌, [], List, ℕ, sym, ap, arith, append_assoc}
+use Rattle.std.proofs.Common.{inl, inr, ◌∙◌, ◌∷◌, ◌++◌, [], List, ℕ, sym, ap, arith, append_assoc}
 use Rattle.std.proofs.lemmas.List.{length-append}
+use Rattle.std.specs.Prelude.{refl, ◌-◌, length, take, drop}
+use Rattle.bac_fields.specs.Line.{form_of, as_group, as_context}
 use Rattle.bac_record.specs.Digits.{hexadecimal}
 use Rattle.bac_text.specs.Words.{number}
-use Rattle.bac_lines.proofs.ScanLemmas.{not_both, found_is, tag_rest, pair_is}
+use Rattle.bac_lines.specs.Found.{sort_of}
+use Rattle.bac_lines.proofs.StartLemmas.{not_end_sort}
+use Rattle.bac_lines.proofs.ScanLemmas.{not_both, found_is, tag_rest, pair_is, take_next, tagged_shown}
 use Rattle.bac_lines.proofs.scanning.brackets.add_tagged.Goals as goal
 
 pub returns-in-Some-2-clause-group : goal.returns-in-Some-2-clause-group
@@ -32,3 +36,19 @@ returns-in-None-clause-context c v after more f t e l =
     let line = l ∙ ap (λ (l : List ℕ). 91 ∷ l) (append_assoc (number v.number) (93 ∷ hexadecimal v.contents) more) in
     let tag = pair_is (c.in-Some.ensures.found v.number (hexadecimal v.contents ++ more) t.0 line) in
     absurd (not_both c.in-None.is (c.in_ok-taken.ensures.context v after more f t e tag.0 (tag_rest c.args.line.now (number v.number) (hexadecimal v.contents ++ more) c.in-Some.start line tag.1)).0)
+
+pub returns-in-Some-2-clause-sound : goal.returns-in-Some-2-clause-sound
+returns-in-Some-2-clause-sound c =
+    let line = c.args.line.now in
+    let tag = c.in-Some.ensures.sound in
+    let s = (rw c.in-Some-2.is at c.in_ok-taken.ensures.sound) tag.0 in
+    let front = take_next line c.in-Some.start c.in-Some-2.taken c.in-Some.ensures.within in
+    record {
+      field = s.field;
+      no_end = elim s.is_tag [ inl k ↦ λ e. not_end_sort (sort_of as_group) refl (sym (ap sort_of k) ∙ e) | inr k ↦ λ e. not_end_sort (sort_of as_context) refl (sym (ap sort_of k) ∙ e) ];
+      token = s.token;
+      is_text = front ∙ ap (λ (l : List ℕ). l ++ take c.in-Some-2.taken (take (length line - c.in-Some.start) (drop c.in-Some.start line))) tag.1 ∙ ap (λ (l : List ℕ). (91 ∷ (number c.in-Some.number ++ 93 ∷ [])) ++ l) s.is_text
+          ∙ tagged_shown (form_of s.field.name) s.field c.in-Some.number s.is_tag s.is_number;
+      begun = s.begun;
+      added = s.added;
+    }
