@@ -16,7 +16,7 @@ use Rattle.bac_fields.specs.Line.{printed}
 use Rattle.bac_fields.specs.Making.{AreFieldsOf, MadeOf, IsFieldRefusal}
 use Rattle.bac_fields.specs.Symbols.{Symbol, field_said, steps_said, symbols_in, finished}
 use Rattle.bac_lines.specs.declared.said.Said.{Said}
-use Rattle.bac_lines.specs.Lines.{IsRead, IsNoLine, IsFrame}
+use Rattle.bac_lines.specs.Lines.{IsRead, IsNoLine, IsFrame, SaysFrame}
 use Rattle.bac_lines.specs.Scanning.{AreTokens}
 use Rattle.bac_lines.specs.Found.{fields_said, AreScanned}
 use Rattle.bac_lines.proofs.FrameTokens.{frame_tokens}
@@ -56,6 +56,19 @@ read_of line held old new listed said scanned contents_are fields_are prints sma
     let same = ap (λ (l : List Field). symbols_in held l) fields_are ∙ ap (λ (l : List ℕ). symbols_in l said.fields.items) contents_are in
     let octets = behind_octets old made.appended.more new small made.appended.new_is in
     record { frame = made.frame; is_line = made_line line held listed said scanned same made.frame made.appended.more prints made.appended.is_least octets made.are_fields; appended = made.appended }
+
+-- so the fields are those of that frame
+pub says_of : (line held old new : List ℕ) (listed : List Field) (said : Said) → AreScanned line said → held ≡ said.contents.items → listed ≡ said.fields.items
+    → ((f : FrameValue) (b : List ℕ) → SpellsFrame f b → printed (fields f) ≡ text f) → ((k : ℕ) (d : ℕ) → k < length new → get_or new k d < 256) → MadeOf held listed old new → SaysFrame line said.contents.items said.fields.items
+says_of line held old new listed said scanned contents_are fields_are prints small made =
+    let same = ap (λ (l : List Field). symbols_in held l) fields_are ∙ ap (λ (l : List ℕ). symbols_in l said.fields.items) contents_are in
+    let octets = behind_octets old made.appended.more new small made.appended.new_is in
+    record {
+      frame = made.frame;
+      is_frame = (made.appended.more, made.appended.is_least.member);
+      is_line = made_line line held listed said scanned same made.frame made.appended.more prints made.appended.is_least octets made.are_fields;
+      are_fields = sym same ∙ made.are_fields;
+    }
 
 -- ---- what is found
 

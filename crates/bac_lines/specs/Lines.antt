@@ -4,6 +4,8 @@ use Rattle.bac_tag.specs.Spelling.{AppendsLeast, IsLeast}
 use Rattle.bac_tag.specs.Octets.{IsOctets}
 use Rattle.bac_npdu.specs.Frames.{FrameValue, SpellsFrame}
 use Rattle.bac_text.specs.FrameText.{text}
+use Rattle.bac_fields.specs.declared.field.Field.{Field}
+use Rattle.bac_fields.specs.Making.{AreFieldsOf}
 use Rattle.bac_lines.specs.declared.fault.LineFault.{LineFault}
 use Rattle.bac_lines.specs.declared.fault.LineFault.TheVariants.{OutOfMemory, Stop}
 
@@ -16,6 +18,13 @@ pub record IsRead (line old new : List ℕ) : Type 0 where
 -- Some octets spell the frame.
 abbrev pub IsFrame : FrameValue → Type 0
 IsFrame frame = (octets : List ℕ) × SpellsFrame frame octets
+
+-- The line is that of a frame, and the fields are those of that frame.
+pub record SaysFrame (line contents : List ℕ) (fields : List Field) : Type 0 where
+  pub frame : FrameValue
+  pub is_frame : IsFrame frame
+  pub is_line : line ≡ text frame
+  pub are_fields : AreFieldsOf contents fields frame
 
 -- The line is that of no frame, whatever canonical octets it has.
 abbrev pub IsNoLine : List ℕ → Type 0

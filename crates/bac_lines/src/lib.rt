@@ -48,6 +48,7 @@ mod fault;
 mod frames;
 mod from_line;
 mod hexadecimals;
+mod line_fields;
 mod lists;
 mod messages;
 mod numbers;
@@ -63,5 +64,6 @@ mod strings;
 mod words;
 
 pub use fault::LineFault;
+pub use line_fields::{LineFields, fields_of_line};
 pub use reading::{LineReader, append_octets_of_line, frame_of_line};
 pub use runs::run_read;

@@ -4,7 +4,7 @@ ghost use Rattle.std.specs.Prelude.{◌≡◌, ◌≤◌, false, length, IsTrue,
 ghost use Rattle.bac_tag.specs.Octets.{Extends};
 ghost use Rattle.bac_npdu.specs.Frames.{value_of};
 ghost use Rattle.bac_text.specs.FrameText.{text};
-ghost use Rattle.bac_lines.specs.Lines.{IfStop, IsRead, IsNear, IsNoLine, IsFrame};
+ghost use Rattle.bac_lines.specs.Lines.{IfStop, IsRead, IsNear, IsNoLine, IsFrame, SaysFrame};
 
 use crate::closing::Closing;
 use crate::fault::LineFault;
@@ -25,7 +25,7 @@ use std::alloc::Global;
 pub struct LineReader {
     alloc: Global,
     /// What the last line said.
-    said: Said,
+    pub(crate) said: Said,
     /// The ends of what is open in it.
     ends: Vec<Closing>,
     /// The line of the frame that its parts say, if it is that of no frame.
@@ -66,8 +66,13 @@ impl LineReader {
     /// Appends the octets of the frame that the fields of the line say. Its line need not be compared with the one that was
     /// read: fields that say the same have the same line. Returns false if the line is that of no frame. `out` then stays as
     /// it was, and if memory is refused.
-    fn append_scanned(&mut self, line: &[u8], out: &mut Vec<u8>) -> Result<bool, LineFault>
+    pub(crate) fn append_scanned(
+        &mut self,
+        line: &[u8],
+        out: &mut Vec<u8>,
+    ) -> Result<bool, LineFault>
         ensures read { IfOk result (λ is_line. IsTrue is_line → IsRead line.now out.old.items out.new.items) }
+        ensures says { IfOk result (λ is_line. IsTrue is_line → SaysFrame line.now self.new.said.contents.items self.new.said.fields.items) }
         ensures none { IfOk result (λ is_line. is_line ≡ false → IsNoLine line.now) }
         ensures memory { IfErr result (λ fault. fault ≡ LineFault.OutOfMemory) }
         ensures kept { IfOk result (λ is_line. is_line ≡ false → out.new.items ≡ out.old.items) }
@@ -86,7 +91,7 @@ impl LineReader {
 
     /// Returns why the line, which is that of no frame, is not read. The parts find the place. `out` may then hold some
     /// octets more.
-    fn fault_in(&mut self, line: &[u8], out: &mut Vec<u8>) -> LineFault
+    pub(crate) fn fault_in(&mut self, line: &[u8], out: &mut Vec<u8>) -> LineFault
         ensures near { IsNear line.now result }
         ensures kept { Extends out.old.items out.new.items }
     {

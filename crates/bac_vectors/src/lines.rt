@@ -3,7 +3,8 @@
 use crate::faults::RowFault;
 use crate::octets::{FIRST, is_appended};
 use crate::told::digits;
-use bac_lines::{LineFault, append_octets_of_line, frame_of_line};
+use bac_fields::{FieldWhy, frame_of};
+use bac_lines::{LineFault, append_octets_of_line, fields_of_line, frame_of_line};
 use bac_npdu::{Frame, encode_frame};
 use bac_tables::octet_of;
 use bac_tag::OutOfMemory;
@@ -85,6 +86,9 @@ fn accepted(alloc: Global, line: &[u8], out: &[u8]) -> Result<Answer, OutOfMemor
     if !is_said(alloc, line, &frame, written)? {
         return Ok(Answer::Differs("frame_of_line makes another frame"));
     }
+    if !has_fields(alloc, line, &frame)? {
+        return Ok(Answer::Differs("fields_of_line"));
+    }
     if !is_each_front_whole(alloc, line)? {
         return Ok(Answer::Differs("append_octets_of_line of a front"));
     }
@@ -98,12 +102,31 @@ fn is_said(alloc: Global, line: &[u8], frame: &Frame, written: &[u8]) -> Result<
     Ok(text.as_slice() == line && encode_frame(alloc, frame)?.as_slice() == written)
 }
 
+/// Returns true if the fields of this line are those of the frame.
+fn has_fields(alloc: Global, line: &[u8], frame: &Frame) -> Result<bool, OutOfMemory> {
+    let said = match fields_of_line(alloc, line) {
+        Ok(said) => said,
+        Err(LineFault::OutOfMemory) => return Err(OutOfMemory),
+        Err(LineFault::Stop(_)) => return Ok(false),
+    };
+    match frame_of(alloc, &said.fields, &said.contents) {
+        Ok(made) => Ok(made == *frame),
+        Err(refusal) if refusal.why == FieldWhy::OutOfMemory => Err(OutOfMemory),
+        Err(_) => Ok(false),
+    }
+}
+
 /// Returns what a line comes to that is reported to stop at this place.
 fn stopped(alloc: Global, line: &[u8], place: usize) -> Result<Answer, OutOfMemory> {
     match frame_of_line(alloc, line) {
         Err(LineFault::Stop(other)) if other == place => {}
         Err(LineFault::OutOfMemory) => return Err(OutOfMemory),
         _ => return Ok(Answer::Differs("frame_of_line")),
+    }
+    match fields_of_line(alloc, line) {
+        Err(LineFault::Stop(other)) if other == place => {}
+        Err(LineFault::OutOfMemory) => return Err(OutOfMemory),
+        _ => return Ok(Answer::Differs("fields_of_line")),
     }
     if !is_whole(alloc, line, place)? {
         return Ok(Answer::Differs("append_octets_of_line of the octets before"));
