@@ -1,7 +1,7 @@
 //! The line of a frame, read back into the frame's canonical octets.
 //!
 //! [`append_octets_of_line`] reads a line as `bac_text` writes it, and appends the canonical octets of the frame that it
-//! shows. [`frame_of_line`] returns the frame. docs/FORMATS.md has the texts.
+//! shows. [`frame_of_line`] returns the frame, and [`fields_of_line`] its fields. docs/FORMATS.md has the texts.
 //!
 //! In the example `rt` is the program's `HostRuntime`.
 //!

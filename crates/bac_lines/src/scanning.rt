@@ -27,6 +27,7 @@ use words::add_worded;
 pub(crate) type Found = (usize, bool);
 
 /// Adds the field with which the line begins, without the blank before it, if it is not an end. None if there is none.
+#[inline(always)]
 fn add_shown(
     line: &[u8],
     said: &mut Said,

@@ -1,45 +1,37 @@
 -- The first LF of some octets.
-use Rattle.std.proofs.Common.{◌≡◌, ◌≢◌, ◌==◌, ℕ, ◌+◌, ◌<◌, ◌≤◌, List, [], ◌∷◌, ◌++◌, length, take, drop, refl, sym, ap, subst, ◌∙◌, append_assoc, arith, length-append, length-take-le, take-append-drop, Option, Some, None, MatchOption, Bool, true, false, not, cond, nat_lt}
-use Rattle.std.proofs.lemmas.Bool.Decides.{nat_tests}
-use Rattle.std.specs.List.{position, position_or_len}
+use Rattle.std.proofs.Common.{zero, suc, ◌≡◌, ◌≢◌, ◌==◌, ℕ, ◌+◌, ◌<◌, ◌≤◌, List, [], ◌∷◌, ◌++◌, length, take, drop, refl, sym, ap, subst, ◌∙◌, append_assoc, arith, length-append, length-take-le, take-append-drop, Option, Some, None, MatchOption, true, false}
+use Rattle.std.specs.Prelude.{slice_index}
+use Rattle.std.proofs.lemmas.Bool.{eqb-true, eqb-false}
+use Rattle.memchr.specs.Find.{IsFirstByte, Passes, is_byte}
 use Rattle.bac_pack.specs.Lines.{LF, IsUnbroken}
 use Rattle.bac_pack.specs.Packing.{EndsAt}
 
 pub is_end : (octet : ℕ) → (octet == LF) ≡ true → octet ≡ LF
-is_end octet e = grind (arith, nat_tests)
+is_end octet e = eqb-true octet LF e
 
 pub is_other : (octet : ℕ) → (octet == LF) ≡ false → octet ≢ LF
-is_other octet e = grind (arith, nat_tests)
+is_other octet e = eqb-false octet LF e
 
-unbroken_when : (octets : List ℕ) → length octets ≤ position_or_len (λ octet. octet == LF) octets → IsUnbroken octets
-unbroken_when [] long = tt
-unbroken_when (octet ∷ octets) long = step (octet == LF) refl long (unbroken_when octets)
-  where
-    step : (b : Bool) → (octet == LF) ≡ b → length (octet ∷ octets) ≤ cond (not b) (1 + position_or_len (λ o. o == LF) octets) 0
-        → (length octets ≤ position_or_len (λ o. o == LF) octets → IsUnbroken octets) → IsUnbroken (octet ∷ octets)
-    step true e h behind = absurd (omega arith)
-    step false e h behind = (is_other octet e, behind (omega arith))
+-- octets of which none is an LF
+unbroken_when : (octets : List ℕ) → ((k : ℕ) → k < length octets → slice_index octets k ≢ LF) → IsUnbroken octets
+unbroken_when [] other = tt
+unbroken_when (octet ∷ octets) other = (other zero (omega arith), unbroken_when octets (λ k lt. other (suc k) (omega (arith, lt))))
 
-ends_when : (octets : List ℕ) → position_or_len (λ octet. octet == LF) octets < length octets → EndsAt octets (position_or_len (λ octet. octet == LF) octets)
-ends_when [] short = absurd (omega arith)
-ends_when (octet ∷ octets) short = step (octet == LF) refl short (ends_when octets)
-  where
-    step : (b : Bool) → (octet == LF) ≡ b → cond (not b) (1 + position_or_len (λ o. o == LF) octets) 0 < length (octet ∷ octets)
-        → (position_or_len (λ o. o == LF) octets < length octets → EndsAt octets (position_or_len (λ o. o == LF) octets))
-        → EndsAt (octet ∷ octets) (cond (not b) (1 + position_or_len (λ o. o == LF) octets) 0)
-    step true e h behind = ([], octets, ap (λ o. o ∷ octets) (is_end octet e), refl, tt)
-    step false e h behind =
-        let found = behind (omega arith) in
-        (octet ∷ found.0, found.1, ap (λ (l : List ℕ). octet ∷ l) found.2, omega (arith, found.3), (is_other octet e, found.4))
+-- octets of which the one at this place is an LF, and none before it
+ends_when : (octets : List ℕ) (end : ℕ) → end < length octets → slice_index octets end ≡ LF → ((k : ℕ) → k < end → slice_index octets k ≢ LF) → EndsAt octets end
+ends_when [] end lt is other = absurd (omega (arith, lt))
+ends_when (octet ∷ octets) zero lt is other = ([], octets, ap (λ o. o ∷ octets) is, refl, tt)
+ends_when (octet ∷ octets) (suc end) lt is other =
+    let found = ends_when octets end (omega (arith, lt)) is (λ k below. other (suc k) (omega (arith, below))) in
+    (octet ∷ found.0, found.1, ap (λ (l : List ℕ). octet ∷ l) found.2, omega (arith, found.3), (other zero (omega arith), found.4))
+
+passes : (octets : List ℕ) (k : ℕ) → slice_index octets k ≡ LF → Passes (is_byte LF) octets k
+passes octets k is = ap (λ octet. octet == LF) is
 
 -- what the place of the first LF tells
-pub first_tells : (octets : List ℕ) (found : Option ℕ) → found ≡ position (λ octet. octet == LF) octets → MatchOption found (IsUnbroken octets) (EndsAt octets)
-first_tells octets found is = step (nat_lt (position_or_len (λ octet. octet == LF) octets) (length octets)) refl is
-  where
-    step : (b : Bool) → nat_lt (position_or_len (λ octet. octet == LF) octets) (length octets) ≡ b
-        → found ≡ cond b (Some (position_or_len (λ octet. octet == LF) octets)) None → MatchOption found (IsUnbroken octets) (EndsAt octets)
-    step true e f = rw f (ends_when octets (grind (arith, nat_tests)))
-    step false e f = rw f (unbroken_when octets (grind (arith, nat_tests)))
+pub first_tells : (octets : List ℕ) (found : Option ℕ) → IsFirstByte (is_byte LF) octets found → MatchOption found (IsUnbroken octets) (EndsAt octets)
+first_tells octets None none = unbroken_when octets (λ k lt is. none k (omega arith) lt (passes octets k is))
+first_tells octets (Some end) first = ends_when octets end first.0.high (eqb-true (slice_index octets end) LF first.1) (λ k below is. first.0.before k (omega arith) below (passes octets k is))
 
 pub IsUnbroken-append : (front octets : List ℕ) → IsUnbroken front → IsUnbroken octets → IsUnbroken (front ++ octets)
 IsUnbroken-append [] octets one two = two

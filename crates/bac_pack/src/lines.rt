@@ -1,17 +1,11 @@
 //! Lines, and the digits in them.
 
-ghost use Rattle.std.specs.Prelude.{◌==◌, ◌≡◌, ◌≤◌, MatchOption, OnOk, length, position, take};
+ghost use Rattle.std.specs.Prelude.{◌≡◌, ◌≤◌, MatchOption, OnOk, length, take};
 ghost use Rattle.bac_pack.specs.Lines.{IsUnbroken, LF, without_blanks, without_return};
 ghost use Rattle.bac_pack.specs.Packing.{EndsAt};
 
+use memchr::memchr;
 use std::alloc::AllocError;
-
-/// Returns the place of the first LF, or None if there is none.
-fn first_end(octets: &[u8]) -> Option<usize>
-    ensures { result ≡ position (λ octet. octet == LF) octets.now }
-{
-    octets.iter().position(|octet| *octet == b'\n')
-}
 
 /// Returns the place of the first LF, or None if there is none. None of the first `passed` octets may be an LF.
 pub(crate) fn line_end(octets: &[u8], passed: usize) -> Option<usize>
@@ -19,7 +13,7 @@ pub(crate) fn line_end(octets: &[u8], passed: usize) -> Option<usize>
     requires passed { IsUnbroken (take passed octets.now) }
     ensures { MatchOption result (IsUnbroken octets.now) (EndsAt octets.now) }
 {
-    match first_end(&octets[passed..]) {
+    match memchr(b'\n', &octets[passed..]) {
         Some(behind) => Some(passed + behind),
         None => None,
     }

@@ -1,6 +1,7 @@
 //! The examples of the doc comments of bac_record, bac_stream, bac_pack and bac_lines, with the same lines.
 
-use bac_lines::{LineFault, append_octets_of_line, run_read};
+use bac_fields::append_octets;
+use bac_lines::{LineFault, append_octets_of_line, fields_of_line, run_read};
 use bac_npdu::decode_frame;
 use bac_pack::run_pack;
 use bac_record::{Counted, read_record, write_record};
@@ -133,6 +134,18 @@ fn a_line_is_read(rt: HostRuntime) -> Result<(), Fail> {
     // A priority is 0 to 3.
     let refused = append_octets_of_line(rt.alloc(), b"prio=4 reply=0 unconf Who-Is", &mut octets);
     assert_eq!(rt; refused, Err(LineFault::Stop(5)));
+    Ok(())
+}
+
+// Of `bac_lines::fields_of_line`.
+#[test]
+fn the_fields_of_a_line_are_changed(rt: HostRuntime) -> Result<(), Fail> {
+    // A message is written with another priority.
+    let mut said = fields_of_line(rt.alloc(), b"prio=0 reply=0 unconf Who-Is")?;
+    said.fields[0].number = 3;
+    let mut octets = Vec::new(rt.alloc());
+    append_octets(&said.fields, &said.contents, &mut octets)?;
+    assert_eq!(rt; octets.as_slice(), [0x01, 0x03, 0x10, 0x08].as_slice());
     Ok(())
 }
 
