@@ -7,6 +7,7 @@ use Rattle.bac_tag.specs.declared.heads.TagHead.TheVariants.{App}
 use Rattle.bac_tag.specs.Heads.{Heads}
 use Rattle.bac_tag.specs.Spelling.{IsLeast}
 use Rattle.bac_value.specs.PrimContents.{IsWrittenOf}
+use Rattle.bac_service.specs.Laws.Least.{extends_more}
 use Rattle.bac_fields.specs.Laws.Strings.{none_first, none_long, none_longer, none_written, written_made}
 use Rattle.bac_fields.proofs.elements.append_string.Goals as goal
 
@@ -50,3 +51,21 @@ returns-clause-none g c none =
     let slice = tail c.deref.result.now c.append_head.new.out.items rest c.len-start.result (c.deref.ensures.value ∙ joined) (c.len-start.ensures ∙ c.append_head.new.out.ok.0) in
     none_written _ _ _ _ _ _ g.met.S.StringType.is_string c.args.given c.args.contents.now c.in-Some.first (sym c.first.ensures ∙ c.in-Some.is)
     (λ w. both_ways _ none ((told c.APP-2.result g.S.StringType.APP _ rest c.are_written.result slice c.APP-2.ensures c.are_written.ensures).1 w))
+
+pub first-requires : goal.first-requires
+first-requires g c = c.if-contents-gt-LONGEST.false
+
+pub joined_len-len-requires : goal.joined_len-len-requires
+joined_len-len-requires g c = c.if-contents-gt-LONGEST.false
+
+pub append_head-requires : goal.append_head-requires
+append_head-requires g c = rw c.APP.ensures g.met.S.StringType.is_string.app_fits
+
+pub are_written-requires : goal.are_written-requires
+are_written-requires g c = record { number = rw c.APP-2.ensures g.met.S.StringType.is_string.app_fits.0 }
+
+pub returns-in_err-append_joined-clause-kept : goal.returns-in_err-append_joined-clause-kept
+returns-in_err-append_joined-clause-kept g c = let head = c.in_ok-append_head.ensures.ok in extends_more _ _ _ (head.more, head.new_is) c.in_err-append_joined.ensures.kept
+
+pub returns-clause-kept : goal.returns-clause-kept
+returns-clause-kept g c = let head = c.in_ok-append_head.ensures.ok in extends_more _ _ _ (head.more, head.new_is) c.in_ok-append_joined.ensures.kept

@@ -1,5 +1,6 @@
 use Rattle.std.proofs.Common.{sym, ◌∙◌}
 use Rattle.std.proofs.lemmas.Result.{IfOk-weaker, IfErr-weaker}
+use Rattle.bac_service.specs.Laws.Least.{extends_more}
 use Rattle.bac_fields.specs.Laws.Frames.{message_stops_body, apdu_stops_body}
 use Rattle.bac_fields.specs.Laws.Making.{stop_then}
 use Rattle.bac_fields.proofs.FrameMaking.{on_ok, is_forty, not_forty, message_after, apdu_after}
@@ -24,3 +25,9 @@ pub returns-else-message-clause-stopped : goal.returns-else-message-clause-stopp
 returns-else-message-clause-stopped c =
     let other = not_forty c.lead.result (rw c.number.ensures at c.if-message.ensures) in
     IfErr-weaker c.make-else-message.result _ _ (λ fault. stop_then fault _ _ (λ p. apdu_stops_body c.args.octets.now c.args.fields.now p (λ led. other (c.lead.ensures ∙ led)))) c.make-else-message.ensures.stopped
+
+pub returns-then-message-clause-kept : goal.returns-then-message-clause-kept
+returns-then-message-clause-kept c = extends_more _ _ _ c.append_front.ensures.kept c.make.ensures.kept
+
+pub returns-else-message-clause-kept : goal.returns-else-message-clause-kept
+returns-else-message-clause-kept c = extends_more _ _ _ c.append_front.ensures.kept c.make-else-message.ensures.kept

@@ -47,3 +47,6 @@ returns-in-Ok-false-clause-stopped g c =
   where
     same_contents : {a b : List ℕ} → Some a ≡ Some b → a ≡ b
     same_contents e = cc
+
+pub append-requires : goal.append-requires
+append-requires g c = c.has.ensures.some c.if-not-has.false

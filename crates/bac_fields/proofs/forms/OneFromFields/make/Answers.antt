@@ -27,3 +27,6 @@ returns-in-Ok-false-clause-stopped g c =
     let i = g.met.F.Form.inhabited c.args.self.now.0 (and_parts _ _ c.requires).0 in
     let name_is = c.if-field-number.false ∙ c.number.ensures ∙ ap number_of c.name.ensures in
     rw c.at-in-Ok-false.ensures (one_other_number _ _ _ _ i c.args._octets.now c.args.fields.now c.in-Some.field.now c.in-Some.ensures.value name_is (c.in-Ok-false.ensures.none c.in-Ok-false.field-0-test))
+
+pub make-requires : goal.make-requires
+make-requires g c = (and_parts _ _ c.requires).0

@@ -1,8 +1,10 @@
+use Rattle.std.specs.Prelude.{Bool, true, false, ◌&&◌, IsTrue}
 use Rattle.std.proofs.Common.{◌*◌, ℕ, subst, arith}
 use Rattle.std.proofs.lemmas.List.{take_rest}
 use Rattle.std.proofs.lemmas.Result.{err_from_is_err_and}
 use Rattle.bac_data.specs.OpenValue.{Elements}
 use Rattle.bac_data.specs.Spells.{SpellsOpen}
+use Rattle.bac_service.specs.Laws.Least.{extends_more}
 use Rattle.bac_fields.specs.OpenValueFields.{open_steps}
 use Rattle.bac_fields.specs.Symbols.{Made, steps_said, symbols_in}
 use Rattle.bac_fields.specs.Laws.Making.{stop_then}
@@ -33,3 +35,20 @@ returns-in-Err-make-clause-stopped g c =
     let sliced = rw take_rest at c.in-Err-make.ensures.stopped in
     let stop = rw take_rest at sliced in
     rw (c.behind-in-Err-make-2.ensures, c.behind-in-Err-make.ensures) (end_stopped g.row.N c.requires c.args.octets.now c.args.fields.now c.in_ok-first.first c.in-Ok.taken _ _ _ c.in-Err-make.fault c.in_ok-first.ensures.within c.in_ok-first.ensures.made steps lead stop)
+
+pub returns-in-Err-clause-kept : goal.returns-in-Err-clause-kept
+returns-in-Err-clause-kept g c = extends_more _ _ _ c.in_ok-first.ensures.kept c.in-Err.ensures.kept
+
+pub returns-in-Ok-make-clause-kept : goal.returns-in-Ok-make-clause-kept
+returns-in-Ok-make-clause-kept g c = extends_more _ _ _ c.in_ok-first.ensures.kept (extends_more _ _ _ c.in-Ok.ensures.kept c.in-Ok-make.ensures.kept)
+
+pub returns-in-Err-make-clause-kept : goal.returns-in-Err-make-clause-kept
+returns-in-Err-make-clause-kept g c = extends_more _ _ _ c.in_ok-first.ensures.kept (extends_more _ _ _ c.in-Ok.ensures.kept c.in-Err-make.ensures.kept)
+
+-- a test with nothing else beside it
+alone : (test : Bool) → IsTrue test → IsTrue (test && true)
+alone true h = h
+alone false h = h
+
+pub make-requires : goal.make-requires
+make-requires g c = alone _ c.requires

@@ -60,3 +60,15 @@ returns-in-Err-make-clause-stopped g c =
     let last = and_parts _ _ rest.1 in
     rw c.behind-in-Err-make.ensures
     (end_stop _ _ _ _ c.args.octets.now c.args.fields.now _ _ first second last.1 c.lead.result c.loop-out.taken _ _ c.in-Err-make.fault c.loop-out.invariant (rw take_rest at c.lead.ensures) (sym c.begins.ensures ∙ c.loop-out-test.false) (rw take_rest at c.in-Err-make.ensures.stopped))
+
+pub make-requires : goal.make-requires
+make-requires g c = (and_parts _ _ c.requires).0
+
+pub make-requires-2 : goal.make-requires-2
+make-requires-2 g c = (and_parts _ _ (and_parts _ _ c.requires).1).0
+
+pub returns-in-Err-clause-kept : goal.returns-in-Err-clause-kept
+returns-in-Err-clause-kept g c = let made = c.loop-out.invariant.appended in extends_more _ _ _ (made.more, made.new_is) c.in-Err.ensures.kept
+
+pub returns-in-Err-make-clause-kept : goal.returns-in-Err-make-clause-kept
+returns-in-Err-make-clause-kept g c = let made = c.loop-out.invariant.appended in extends_more _ _ _ (made.more, made.new_is) c.in-Err-make.ensures.kept

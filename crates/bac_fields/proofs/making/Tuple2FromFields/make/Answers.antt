@@ -25,3 +25,6 @@ returns-in-Err-clause-stopped g c =
     let first = g.met.A.FromFields.lawful c.args.self.now.0 sound.0 in
     let second = g.met.B.FromFields.lawful c.args.self.now.1 rest.0 in
     rw c.behind.ensures (stopped_behind _ _ _ _ c.args.octets.now c.args.fields.now _ _ first second _ c.in_ok-first.first _ _ c.in-Err.fault rest.1 c.in_ok-first.ensures.within c.in_ok-first.ensures.made c.in-Err.ensures.stopped)
+
+pub make-requires : goal.make-requires
+make-requires g c = (and_parts _ _ c.requires).0

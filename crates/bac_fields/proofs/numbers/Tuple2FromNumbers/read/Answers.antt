@@ -21,3 +21,9 @@ returns-in-Err-clause-stopped g c octets =
     let first = g.met.A.FromNumbers.lawful c.args.self.now.0 sound.0 in
     let second = g.met.B.FromNumbers.lawful c.args.self.now.1 sound.1 in
     rw c.behind.ensures (numbers_stop_second _ _ _ _ _ _ first second octets c.args.fields.now _ _ c.in-Err.fault c.in_ok-first.ensures.within (c.in_ok-first.ensures.read octets) (c.in-Err.ensures.stopped octets))
+
+pub read-requires : goal.read-requires
+read-requires g c = (and_parts _ _ c.requires).0
+
+pub read-requires-2 : goal.read-requires-2
+read-requires-2 g c = (and_parts _ _ c.requires).1

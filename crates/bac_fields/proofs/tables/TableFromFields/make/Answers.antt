@@ -1,6 +1,7 @@
-use Rattle.std.proofs.Common.{◌≡◌, ◌++◌, ◌∷◌, [], ◌<◌, length, sym, ◌∙◌, arith}
+use Rattle.std.proofs.Common.{◌≡◌, ◌++◌, ◌∷◌, [], ◌<◌, length, refl, sym, ◌∙◌, arith}
 use Rattle.std.proofs.lemmas.Bool.{and_parts}
 use Rattle.std.proofs.lemmas.List.{take_rest, length-drop}
+use Rattle.bac_service.specs.Laws.Least.{extends_more}
 use Rattle.bac_fields.specs.Laws.Making.{some_taken}
 use Rattle.bac_fields.specs.Laws.Tables.{none_counted, more_counted, full_stop, item_counted_stop, end_counted_stop, set_extends, all_counted}
 use Rattle.bac_fields.proofs.tables.TableFromFields.make.Goals as goal
@@ -77,3 +78,17 @@ pub returns-in-Err-make-clause-kept : goal.returns-in-Err-make-clause-kept
 returns-in-Err-make-clause-kept g c =
     let place : c.len-place.result ≡ length c.args.out.now.items = c.len-place.ensures ∙ c.args.out.now.ok.0 in
     set_extends _ _ _ _ _ _ c.loop-place.count c.loop-place.taken c.len-place.result c.args.out.now.items _ _ place c.loop-place.invariant c.in-Err-make.ensures.kept
+
+pub make-requires : goal.make-requires
+make-requires g c = (and_parts _ _ c.requires).0
+
+pub make-requires-2 : goal.make-requires-2
+make-requires-2 g c = (and_parts _ _ (and_parts _ _ c.requires).1).0
+
+pub returns-then-count-clause-kept : goal.returns-then-count-clause-kept
+returns-then-count-clause-kept g c = let made = c.loop-place.invariant.appended in extends_more _ _ _ (0 ∷ [], refl) (made.more, made.new_is)
+
+pub returns-in-Err-clause-kept : goal.returns-in-Err-clause-kept
+returns-in-Err-clause-kept g c =
+    let made = c.loop-place.invariant.appended in
+    extends_more _ _ _ (0 ∷ [], refl) (extends_more _ _ _ (made.more, made.new_is) c.in-Err.ensures.kept)
