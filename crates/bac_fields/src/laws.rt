@@ -1,15 +1,26 @@
 //! Laws of the definitions.
 
-ghost use Rattle.std.specs.Prelude.{◌≡◌, ℕ, ◌+◌, ◌*◌, ◌^◌, ◌<◌, ◌≤◌, List, length};
-ghost use Rattle.bac_tag.specs.Spelling.{IsLeast};
+ghost use Rattle.std.specs.Prelude.{◌≡◌, ◌↔◌, ◌⊎◌, ℕ, ◌+◌, ◌*◌, ◌^◌, ◌<◌, ◌≤◌, List, length};
+ghost use Rattle.bac_tag.specs.Spelling.{IsLeast, IsViable, IsPartway, JoinedBy, OneOf};
 ghost use Rattle.bac_npdu.specs.Frames.{FrameValue, SpellsFrame};
 ghost use Rattle.bac_text.specs.FrameText.{text};
 ghost use Rattle.bac_fields.specs.declared.field.Field.{Field};
 ghost use Rattle.bac_fields.specs.FrameFields.{fields, frame_steps, placed_fields, FrameFits};
 ghost use Rattle.bac_fields.specs.FrameSymbols.{frame_said};
+ghost use Rattle.bac_fields.specs.Symbols.{Symbol};
 ghost use Rattle.bac_fields.specs.Line.{printed};
 ghost use Rattle.bac_fields.specs.Places.{AreAt};
 ghost use Rattle.bac_fields.specs.Making.{AreFieldsOf};
+
+/// Any values, and the fields that say them: of each field the name, the number and the contents are a symbol each. Laws
+/// that hold for whatever fields say are stated over this trait.
+pub trait Said {
+    /// The values.
+    ghost Value: { Type 0 };
+
+    /// The symbols that say a value.
+    ghost says: { Value → List Symbol → Type 0 };
+}
 
 /// The line of each frame that some octets spell is its fields, printed.
 pub fn the_line_is_the_fields()
@@ -59,3 +70,15 @@ pub fn fields_are_of_one_frame()
 {
     what_fields_say_tells_the_frame();
 }
+
+/// Symbols begin those of a choice between two cases exactly where they begin those of one of the two.
+pub fn choices_are_viable_in_a_case<A: Said, B: Said>()
+    ensures { (es : List Symbol) → IsViable (OneOf A.says B.says) es ↔ (IsViable A.says es ⊎ IsViable B.says es) }
+{}
+
+/// If some symbols say the second of two parts, symbols begin those of both joined exactly where they begin those of the
+/// first part, or are those of the first part with the beginning of those of the second after them.
+pub fn joined_parts_are_viable_in_turn<A: Said, B: Said>()
+    ensures { (y : B.Value) (d : List Symbol) → B.says y d
+        → (es : List Symbol) → IsViable (JoinedBy A.says (λ _. B.says)) es ↔ (IsViable A.says es ⊎ IsPartway A.says (λ _. B.says) es) }
+{}

@@ -2,7 +2,7 @@
 //! allocation refused in turn (`rt try --test --fail-alloc N`).
 
 use crate::expectations::{assert_joined, assert_same, copied};
-use bac_fields::{Field, FieldRefusal, FieldWhy, Name, append_octets, frame_of};
+use bac_fields::{Field, FieldRefusal, FieldWhy, Name, append_octets, frame_of, laws};
 use bac_npdu::{Body, Frame};
 use std::alloc::Global;
 use std::process::Abort;
@@ -77,4 +77,23 @@ fn frames_are_made_again_where_memory_was_refused(rt: HostRuntime) {
     assert_same(&rt, made(rt.alloc(), &fields[..3]).err(), Some(short));
     let frame = made(rt.alloc(), &fields[..4]).expect(&rt, "a frame");
     assert_same(&rt, matches!(frame.body, Body::Apdu(_)), true);
+}
+
+/// Values that are numbers, each said by that of a field.
+struct Numbered;
+
+impl laws::Said for Numbered {
+    ghost use Rattle.std.specs.Prelude.{◌≡◌, ◌∷◌, [], ℕ};
+    ghost use Rattle.bac_fields.specs.Symbols.{numbered};
+
+    ghost Value = { ℕ };
+
+    ghost says = { λ number es. es ≡ numbered number ∷ [] };
+}
+
+// The laws are functions that do nothing: their contracts are what they say.
+#[test]
+fn laws_of_whatever_fields_say_can_be_called() {
+    laws::choices_are_viable_in_a_case::<Numbered, Numbered>();
+    laws::joined_parts_are_viable_in_turn::<Numbered, Numbered>();
 }
