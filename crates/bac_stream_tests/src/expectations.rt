@@ -1,12 +1,13 @@
-//! What a test expects. Each is a function, which is proved once for all tests.
+//! What a test expects. Each is a function, which is proved once for all tests; what they compare by is proved in bac_tables.
 
+use bac_tables::{holds, same, same_of};
 use std::alloc::Global;
 use std::fmt::{Debug, Display};
 use std::process::Abort;
 
 /// Stops the test unless what it found is what it wanted.
 pub fn assert_same<T: PartialEq + Debug + Drop>(rt: &impl Abort, found: T, wanted: T) {
-    assert_eq!(rt; found, wanted);
+    same(found, wanted).expect(rt, "another value is wanted");
 }
 
 /// Stops the test unless what it found is what it wanted. A failure shows the case.
@@ -16,16 +17,16 @@ pub fn assert_same_of<T: PartialEq + Debug + Drop, C: Debug + Drop>(
     wanted: T,
     case: C,
 ) {
-    assert_eq!(rt; found, wanted, "of {case:?}");
+    same_of(found, wanted, case).expect(rt, "another value is wanted");
 }
 
 /// Stops the test unless this holds of the case.
-pub fn assert_holds<C: Debug + Drop>(rt: &impl Abort, holds: bool, case: C) {
-    assert!(rt; holds, "of {case:?}");
+pub fn assert_holds<C: Debug + Drop>(rt: &impl Abort, is_so: bool, case: C) {
+    holds(is_so, case).expect(rt, "it does not hold");
 }
 
 /// Stops the test unless this is how the value is shown.
 pub fn assert_shown<D: Display + Drop>(rt: &impl Abort, alloc: Global, value: D, text: &str) {
-    let shown = format!(in alloc; "{value}").expect(rt, "memory");
+    let shown = value.to_string(alloc).expect(rt, "memory");
     assert_same(rt, shown.as_str(), text);
 }

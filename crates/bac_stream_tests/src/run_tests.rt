@@ -29,18 +29,23 @@ fn copied<R: Input>(alloc: Global, reader: &mut R) -> (Result<Summary, RunFault>
     (got, writer.device)
 }
 
-#[test]
-fn pieces_of_any_size_give_the_same(rt: HostRuntime) {
+/// In pieces of this size a file of three records gives these octets.
+fn gives_the_same(rt: &impl Abort, alloc: Global, size: usize) {
     let file = [0, 1, 7, 0, 0, 0, 3, 1, 2, 3];
     let want = Summary {
         records: 3,
         canonical: 1,
         refused: 1,
     };
+    let (got, written) = copied(alloc, &mut Feed::new(&file, size));
+    assert_same_of(rt, got, Ok(want), size);
+    assert_same(rt, written.as_slice(), [7, 1, 2, 3].as_slice());
+}
+
+#[test]
+fn pieces_of_any_size_give_the_same(rt: HostRuntime) {
     for size in [1, 2, 3, 4, 100] {
-        let (got, written) = copied(rt.alloc(), &mut Feed::new(&file, size));
-        assert_same_of(&rt, got, Ok(want), size);
-        assert_same(&rt, written.as_slice(), [7, 1, 2, 3].as_slice());
+        gives_the_same(&rt, rt.alloc(), size);
     }
 }
 
@@ -74,17 +79,22 @@ fn each_end_is_told(rt: HostRuntime) {
     ends(&rt, alloc, &[0, 1, 9, 0, 1, 255, 0, 1, 9], stopped, 1);
 }
 
+/// Stops the test unless the run reports the record at which the reader fails, after so many calls of an octet each.
+fn fails_after(rt: &impl Abort, alloc: Global, calls: u8) {
+    let file = [0, 5, 1, 2, 3, 4, 5, 0, 5, 1, 2, 3, 4, 5];
+    let mut reader = Feed::new(&file, 1);
+    reader.calls = usize::from(calls);
+    let (got, written) = copied(alloc, &mut reader);
+    let dealt = calls / 7;
+    let want = stream(u32::from(dealt) + 1, StreamFault::ReadFault);
+    assert_same_of(rt, got, want, calls);
+    assert_same_of(rt, written.len(), 5 * usize::from(dealt), calls);
+}
+
 #[test]
 fn a_failed_read_tells_the_next_record(rt: HostRuntime) {
-    let file = [0, 5, 1, 2, 3, 4, 5, 0, 5, 1, 2, 3, 4, 5];
-    for calls in 0..15 {
-        let mut reader = Feed::new(&file, 1);
-        reader.calls = calls;
-        let (got, written) = copied(rt.alloc(), &mut reader);
-        let dealt = calls / 7;
-        let want = stream(dealt as u32 + 1, StreamFault::ReadFault);
-        assert_same_of(&rt, got, want, calls);
-        assert_same_of(&rt, written.len(), 5 * dealt, calls);
+    for calls in 0..15u8 {
+        fails_after(&rt, rt.alloc(), calls);
     }
 }
 
@@ -157,17 +167,27 @@ fn octets_of_size(rt: &impl Abort, alloc: Global, size: u16) -> Vec<u8> {
     vec![in alloc; 0xAA; usize::from(size)].expect(rt, "memory")
 }
 
-/// The octets are written as the record and read of it.
-fn comes_back(rt: &impl Abort, alloc: Global, size: u16, octets: &[u8], record: &[u8]) {
+/// The octets are written as the record.
+fn is_written(rt: &impl Abort, alloc: Global, octets: &[u8], record: &[u8]) {
     // What write_record requires: assert! states it for the prover.
     assert!(rt; octets.len() <= 65_535);
     let mut writer = Counted::new(Vec::new(alloc));
     write_record(&mut writer, octets).expect(rt, "memory");
-    assert_holds(rt, writer.device.as_slice() == record, size);
+    assert_holds(rt, writer.device.as_slice() == record, octets.len());
+}
+
+/// The octets are read of the record.
+fn is_read(rt: &impl Abort, alloc: Global, octets: &[u8], record: &[u8]) {
     let mut reader = Counted::new(record);
     let got = read_record(alloc, &mut reader).expect(rt, "a record");
-    assert_holds(rt, got.as_deref() == Some(octets), size);
-    assert_same_of(rt, reader.device.len(), 0, size);
+    assert_holds(rt, got.as_deref() == Some(octets), octets.len());
+    assert_same_of(rt, reader.device.len(), 0, octets.len());
+}
+
+/// The record is cut.
+fn is_cut(rt: &impl Abort, alloc: Global, record: &[u8]) {
+    let fault = read_record(alloc, &mut Counted::new(record)).err();
+    assert_same_of(rt, fault, Some(StreamFault::Truncated), record.len());
 }
 
 /// A record of so many octets comes back, and without the last one it is cut.
@@ -175,11 +195,9 @@ fn is_kept_whole(rt: &impl Abort, alloc: Global, size: u16) {
     let octets = mixed(alloc, usize::from(size)).expect(rt, "memory");
     let length = size.to_be_bytes();
     let record = enclosed(alloc, &length, &octets, &[], &[]).expect(rt, "memory");
-    comes_back(rt, alloc, size, &octets, &record);
-    let cut = record.len().saturating_sub(1);
-    let mut reader = Counted::new(&record[..cut]);
-    let fault = read_record(alloc, &mut reader).err();
-    assert_same_of(rt, fault, Some(StreamFault::Truncated), size);
+    is_written(rt, alloc, &octets, &record);
+    is_read(rt, alloc, &octets, &record);
+    is_cut(rt, alloc, &record[..record.len().saturating_sub(1)]);
 }
 
 // Example 78 for records: the longest has 65,535 octets. Others are spread out below it, 1,285 octets apart.
@@ -194,30 +212,37 @@ fn records_of_each_size_come_back(rt: HostRuntime) {
 }
 
 /// The run over the file in pieces of this size takes three records, and writes these octets.
-fn takes_three(rt: &impl Abort, alloc: Global, file: &[u8], piece: usize, want: &[u8], size: u16) {
+fn takes_three(rt: &impl Abort, alloc: Global, file: &[u8], piece: usize, want: &[u8]) {
     let (got, written) = copied(alloc, &mut Feed::new(file, piece));
-    let records = got.map(|summary| summary.records);
-    assert_same_of(rt, records, Ok(3), (size, piece));
-    assert_holds(rt, written.as_slice() == want, (size, piece));
+    let summary = got.expect(rt, "three records");
+    assert_same_of(rt, summary.records, 3, (file.len(), piece));
+    assert_holds(rt, written.as_slice() == want, (file.len(), piece));
 }
 
-// The record is between two others, so that it begins and ends within what a run holds.
+/// A record of so many octets is taken between two others, so that it begins and ends within what a run holds.
+fn is_taken(rt: &impl Abort, alloc: Global, size: u16) {
+    let octets = octets_of_size(rt, alloc, size);
+    let [high, low] = size.to_be_bytes();
+    let front = [0, 3, 1, 2, 3, high, low];
+    let file = enclosed(alloc, &front, &octets, &[0, 2, 8, 9], &[]).expect(rt, "memory");
+    let want = enclosed(alloc, &[1, 2, 3], &octets, &[8, 9], &[]).expect(rt, "memory");
+    takes_three(rt, alloc, &file, 997, &want);
+    takes_three(rt, alloc, &file, 65_536, &want);
+    takes_three(rt, alloc, &file, usize::MAX, &want);
+    is_cut_after_one(rt, alloc, &file[..file.len().saturating_sub(5)]);
+}
+
+/// The run over the file takes its first record, which has three octets, and the second is cut.
+fn is_cut_after_one(rt: &impl Abort, alloc: Global, file: &[u8]) {
+    let (got, written) = copied(alloc, &mut Feed::new(file, 65_536));
+    assert_same_of(rt, got, stream(2, StreamFault::Truncated), file.len());
+    assert_same_of(rt, written.len(), 3, file.len());
+}
+
 #[test]
 fn a_run_takes_records_of_each_size(rt: HostRuntime) {
-    let alloc = rt.alloc();
     for size in SIZES {
-        let octets = octets_of_size(&rt, alloc, size);
-        let [high, low] = size.to_be_bytes();
-        let front = [0, 3, 1, 2, 3, high, low];
-        let file = enclosed(alloc, &front, &octets, &[0, 2, 8, 9], &[]).expect(&rt, "memory");
-        let want = enclosed(alloc, &[1, 2, 3], &octets, &[8, 9], &[]).expect(&rt, "memory");
-        takes_three(&rt, alloc, &file, 997, &want, size);
-        takes_three(&rt, alloc, &file, 65_536, &want, size);
-        takes_three(&rt, alloc, &file, usize::MAX, &want, size);
-        let cut = file.len().saturating_sub(5);
-        let (got, written) = copied(alloc, &mut Feed::new(&file[..cut], 65_536));
-        assert_same_of(&rt, got, stream(2, StreamFault::Truncated), size);
-        assert_same_of(&rt, written.len(), 3, size);
+        is_taken(&rt, rt.alloc(), size);
     }
 }
 

@@ -6,9 +6,11 @@
 //! memory, so a test whose allocations are refused in turn meets each refusal in what it tests.
 #![tactic(auto)]
 
+mod comparing;
 mod sizes;
 mod tables;
 
+pub use comparing::{Difference, holds, is_joined, same, same_of};
 pub use sizes::{enclosed, mixed, numbered};
 pub use tables::{
     Octets, Row, TableFault, octet_of, octets_of, place_of, places_of, row_of, rows_of,

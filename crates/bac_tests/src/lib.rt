@@ -13,10 +13,12 @@
 //!
 //! Each test crate compares by the functions of its `expectations.rt`: `assert_same`, `assert_same_of` with the case
 //! beside it, and `assert_holds`. A function is proved once, but an `assert_eq!` wherever it is written, which takes
-//! long if it has a message. The functions are not shared, since a library may have no function that ends the process.
-//! `assert_eq!` and `assert!` stay in the examples of doc comments, and where a later call requires what they show. As
-//! a rule, what may fail is taken by `expect` in a function without a result, since a `?` in a function with many of
-//! them takes the prover a second. A row of a table is a call of one function, not a turn of a loop over tuples.
+//! long if it has a message. What these functions compare by is in bac_tables; they themselves are not shared, since a
+//! library may have no function that ends the process. `assert_eq!` and `assert!` stay in the examples of doc comments,
+//! and where a later call requires what they show. As a rule, what may fail is taken by `expect` in a function without
+//! a result, since a `?` in a function with many of them takes the prover a second. A row of a table is a call of one
+//! function, not a turn of a loop over tuples, and a turn of a loop is one call: a function with many steps in a loop,
+//! or with many ways through it, takes longer than the same steps in functions of their own.
 //!
 //! A file `sizes.rt` makes values of many octets by their constructors. A file `examples.rt` in each test crate has the
 //! examples of the doc comments of the crates that it tests, with the same lines; that of bac_service_tests has the one

@@ -24,22 +24,12 @@ fn has_no_places(rt: &impl Abort, text: &str) {
 fn only_pairs_of_hexadecimal_digits_are_octets(rt: HostRuntime) {
     is_told(&rt, "00 7f FF", &[0, 0x7F, 0xFF]);
     is_told(&rt, "none", &[]);
-    has_no_octets(&rt, "");
-    has_no_octets(&rt, "0");
-    has_no_octets(&rt, "000");
-    has_no_octets(&rt, "G0");
-    has_no_octets(&rt, "+1");
-    has_no_octets(&rt, "-1");
-    has_no_octets(&rt, "00  00");
-    has_no_octets(&rt, " 00");
-    has_no_octets(&rt, "00,00");
-    has_no_octets(&rt, "00 none");
-    has_no_places(&rt, "");
-    has_no_places(&rt, "x");
-    has_no_places(&rt, "+1");
-    has_no_places(&rt, "-1");
-    has_no_places(&rt, "1  2");
-    has_no_places(&rt, "1,2");
+    for text in "|0|000|G0|+1|-1|00  00| 00|00,00|00 none".split('|') {
+        has_no_octets(&rt, text);
+    }
+    for text in "|x|+1|-1|1  2|1,2".split('|') {
+        has_no_places(&rt, text);
+    }
 }
 
 /// Stops the test unless the line is reported as a fault.
@@ -50,14 +40,12 @@ fn is_no_row(rt: &impl Abort, line: &str) {
 #[test]
 fn a_line_that_is_no_row_is_told(rt: HostRuntime) {
     assert_same(&rt, rows_of("\n  \n").err(), Some(TableFault::NoRow));
-    is_no_row(&rt, "00");
-    is_no_row(&rt, "00 - itself");
-    is_no_row(&rt, "00 ->");
-    is_no_row(&rt, "00-> itself");
-    for row in rows_of("\n    00 01 -> itself\n")
-        .expect(&rt, "rows")
-        .iter()
-    {
-        assert_same(&rt, (row.octets, row.told), ("00 01", "itself"));
+    for line in "00|00 - itself|00 ->|00-> itself".split('|') {
+        is_no_row(&rt, line);
     }
+    let rows = rows_of("\n    00 01 -> itself\n").expect(&rt, "rows");
+    let row = rows.first().expect(&rt, "a row");
+    assert_same(&rt, rows.len(), 1);
+    assert_same(&rt, row.octets, "00 01");
+    assert_same(&rt, row.told, "itself");
 }

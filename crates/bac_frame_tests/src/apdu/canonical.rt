@@ -2,7 +2,16 @@
 
 use crate::expectations::assert_same_of;
 use bac_apdu::layers::is_canonical_apdu;
-use bac_tables::{octets_of, rows_of};
+use bac_tables::{Row, octets_of, rows_of};
+use std::alloc::Global;
+use std::process::Abort;
+
+/// The octets of the row are found to be canonical, or are not.
+fn is_told(rt: &impl Abort, alloc: Global, row: &Row) {
+    let octets = octets_of(row.octets).expect(rt, "octets");
+    let found = is_canonical_apdu(alloc, &octets);
+    assert_same_of(rt, found, row.told == "found", row.octets);
+}
 
 #[test]
 fn canonical_apdus_are_found(rt: HostRuntime) {
@@ -30,8 +39,6 @@ fn canonical_apdus_are_found(rt: HostRuntime) {
         80                                              -> not
     ";
     for row in rows_of(table).expect(&rt, "rows").iter() {
-        let octets = octets_of(row.octets).expect(&rt, "octets");
-        let found = is_canonical_apdu(rt.alloc(), &octets);
-        assert_same_of(&rt, found, row.told == "found", row.octets);
+        is_told(&rt, rt.alloc(), row);
     }
 }

@@ -73,13 +73,13 @@ fn tables_have_at_most_255_ports(rt: HostRuntime) {
     assert_same(&rt, mark, None);
 }
 
-#[test]
-fn opaque_messages_are_made(rt: HostRuntime) {
-    for kind in 0..=255 {
-        let plain = OpaqueNet::new(rt.alloc(), kind, None, &[0xAA]).err();
-        let vendored = OpaqueNet::new(rt.alloc(), kind, Some(260), &[0xAA]).err();
-        assert_same_of(&rt, (plain, vendored), faults_of(kind), kind);
-    }
+/// Without a vendor and with one, a message of this type is opaque, or is refused so.
+fn tries_message(rt: &impl Abort, alloc: Global, kind: u8) {
+    let (plain, vendored) = faults_of(kind);
+    let found = OpaqueNet::new(alloc, kind, None, &[0xAA]).err();
+    assert_same_of(rt, found, plain, kind);
+    let found = OpaqueNet::new(alloc, kind, Some(260), &[0xAA]).err();
+    assert_same_of(rt, found, vendored, kind);
 }
 
 /// Why a message of this type is not opaque, without a vendor and with one.
@@ -88,6 +88,13 @@ fn faults_of(kind: u8) -> (Option<NetFault>, Option<NetFault>) {
         0..=9 | 18 | 19 => (Some(NetFault::Typed), Some(NetFault::Typed)),
         10..=127 => (None, Some(NetFault::Vendor)),
         _ => (Some(NetFault::Vendor), None),
+    }
+}
+
+#[test]
+fn opaque_messages_are_made(rt: HostRuntime) {
+    for kind in 0..=255 {
+        tries_message(&rt, rt.alloc(), kind);
     }
 }
 

@@ -1,13 +1,12 @@
 //! What is made of a frame where it was decoded.
 
-use crate::expectations::assert_same;
+use crate::expectations::assert_joined;
 use bac_npdu::layers::{FrameVisitor, visit_frame};
 use bac_npdu::{Body, FrameHead, append_frame};
 use bac_tables::octets_of;
 use bac_tag::OutOfMemory;
 use std::alloc::Global;
 use std::process::Abort;
-use std::test::Fail;
 
 /// Appends what the head says, and the octets of the frame that is kept.
 #[derive(Drop)]
@@ -82,28 +81,21 @@ fn told(rt: &impl Abort, alloc: Global, octets: &[u8]) -> Vec<u8> {
     out
 }
 
+/// Stops the test unless the head of the frame says this, and the frame that is kept has the same octets.
+fn says(rt: &impl Abort, alloc: Global, octets: &str, wanted: &str) {
+    let octets = octets_of(octets).expect(rt, "octets");
+    let wanted = octets_of(wanted).expect(rt, "octets");
+    assert_joined(rt, &told(rt, alloc, &octets), &wanted, &octets);
+}
+
 // Of example 54 of docs/EXAMPLES.md and others; the last address wants memory.
 #[test]
-fn heads_say_what_stands_in_front(rt: HostRuntime) -> Result<(), Fail> {
-    let rows = [
-        (
-            "01 28 00 05 01 0A 00 07 02 01 02 FF 10 08",
-            "00 00 00 05 0A FF 00 07 01 02",
-        ),
-        ("01 20 FF FF 00 FF 10 08", "00 00 FF FF FF"),
-        ("01 06 10 08", "01 02"),
-        (
-            "01 08 00 09 08 01 02 03 04 05 06 07 08 10 08",
-            "00 00 00 09 01 02 03 04 05 06 07 08",
-        ),
-    ];
-    for (octets, wanted) in rows {
-        let octets = octets_of(octets)?;
-        let wanted = octets_of(wanted)?;
-        let out = told(&rt, rt.alloc(), &octets);
-        let (head, frame) = out.split_at_checked(wanted.len()).ok_or("what is told")?;
-        assert_same(&rt, head, wanted.as_slice());
-        assert_same(&rt, frame, octets.as_slice());
-    }
-    Ok(())
+fn heads_say_what_stands_in_front(rt: HostRuntime) {
+    let alloc = rt.alloc();
+    let frame = "01 28 00 05 01 0A 00 07 02 01 02 FF 10 08";
+    says(&rt, alloc, frame, "00 00 00 05 0A FF 00 07 01 02");
+    says(&rt, alloc, "01 20 FF FF 00 FF 10 08", "00 00 FF FF FF");
+    says(&rt, alloc, "01 06 10 08", "01 02");
+    let frame = "01 08 00 09 08 01 02 03 04 05 06 07 08 10 08";
+    says(&rt, alloc, frame, "00 00 00 09 01 02 03 04 05 06 07 08");
 }

@@ -3,7 +3,7 @@
 use super::{KEY, SERVICE, desk, is_joined_to, segment_of, take_at};
 use crate::expectations::{assert_holds, assert_same_of};
 use bac_segment::{Desk, Key};
-use bac_tables::{place_of, rows_of};
+use bac_tables::{Row, place_of, rows_of};
 use std::alloc::Global;
 use std::process::Abort;
 
@@ -16,23 +16,35 @@ fn key_of(rt: &impl Abort, peer: &str) -> Key {
 
 /// The name of the answer to a call: `PEER: OCTETS` of a segment, or `close PEER`.
 fn answer(rt: &impl Abort, alloc: Global, desk: &mut Desk, call: &str) -> &'static str {
-    if let Some(peer) = call.strip_prefix("close ") {
-        return if desk.close(key_of(rt, peer)) {
-            "true"
-        } else {
-            "false"
-        };
+    match call.split_once(": ") {
+        Some((peer, octets)) => {
+            let segment = segment_of(rt, alloc, octets);
+            take_at(desk, key_of(rt, peer).peer, &segment)
+        }
+        None => close(rt, desk, call),
     }
-    let (peer, octets) = call.split_once(": ").expect(rt, "a sender");
-    let segment = segment_of(rt, alloc, octets);
-    take_at(desk, key_of(rt, peer).peer, &segment)
+}
+
+/// The answer to `close PEER`.
+fn close(rt: &impl Abort, desk: &mut Desk, call: &str) -> &'static str {
+    let peer = call.strip_prefix("close ").expect(rt, "a sender");
+    if desk.close(key_of(rt, peer)) {
+        "true"
+    } else {
+        "false"
+    }
+}
+
+/// The call of the row is answered so.
+fn answers_row(rt: &impl Abort, alloc: Global, desk: &mut Desk, row: &Row) {
+    let found = answer(rt, alloc, desk, row.octets);
+    assert_same_of(rt, found, row.told, row.octets);
 }
 
 /// The calls of the table are answered so, in this order.
 fn answers(rt: &impl Abort, alloc: Global, desk: &mut Desk, table: &str) {
     for row in rows_of(table).expect(rt, "rows").iter() {
-        let found = answer(rt, alloc, desk, row.octets);
-        assert_same_of(rt, found, row.told, row.octets);
+        answers_row(rt, alloc, desk, row);
     }
 }
 

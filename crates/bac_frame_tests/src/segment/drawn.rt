@@ -54,6 +54,17 @@ fn comes_back(rt: &impl Abort, alloc: Global, octets: &[u8], size: usize, order:
     is_joined(rt, desk.octets(KEY), octets);
 }
 
+/// The message that is drawn comes back: so many of the octets, in so many pieces at most, and in this order.
+fn draw_comes_back(rt: &impl Abort, alloc: Global, octets: &[u8], draw: &[u8]) {
+    let [high, low, pieces, first, step] = *draw else {
+        panic!(rt; "{draw:?}")
+    };
+    let length = usize::from(u16::from_be_bytes([high, low]));
+    let message = octets.get(..length).expect(rt, "so many octets");
+    let size = length.div_ceil(usize::from(pieces) + 1).max(1);
+    comes_back(rt, alloc, message, size, Order { first, step });
+}
+
 // Of each message its length, the most pieces that it is cut into, of 1 to 256, and their order are drawn.
 #[test]
 fn drawn_messages_come_back(rt: HostRuntime) {
@@ -61,12 +72,6 @@ fn drawn_messages_come_back(rt: HostRuntime) {
     let octets = mixed(alloc, 65_535).expect(&rt, "memory");
     let drawn = mixed(alloc, 5 * MESSAGES).expect(&rt, "memory");
     for draw in drawn.chunks_exact(5) {
-        let [high, low, pieces, first, step] = *draw else {
-            panic!(rt; "{draw:?}")
-        };
-        let length = usize::from(u16::from_be_bytes([high, low]));
-        let message = octets.get(..length).expect(&rt, "so many octets");
-        let size = length.div_ceil(usize::from(pieces) + 1).max(1);
-        comes_back(&rt, alloc, message, size, Order { first, step });
+        draw_comes_back(&rt, alloc, &octets, draw);
     }
 }

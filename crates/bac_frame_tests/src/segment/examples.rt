@@ -8,7 +8,7 @@ use crate::apdu::encoded;
 use crate::expectations::{assert_holds, assert_same, assert_same_of};
 use bac_apdu::{Apdu, Segment};
 use bac_segment::{CutFault, Reassembly};
-use bac_tables::{mixed, octets_of, rows_of};
+use bac_tables::{Row, mixed, octets_of, rows_of};
 use std::alloc::Global;
 use std::process::Abort;
 
@@ -20,11 +20,16 @@ fn is_written(rt: &impl Abort, alloc: Global, segment: Option<Segment>, octets: 
     assert_same(rt, found.as_slice(), wanted.as_slice());
 }
 
+/// The segment of the row is answered so.
+fn judge_row(rt: &impl Abort, alloc: Global, reassembly: &mut Reassembly, row: &Row) {
+    let segment = segment_of(rt, alloc, row.octets);
+    answers(rt, reassembly, &segment, row.told);
+}
+
 /// The segments of the table are answered so, in this order.
 fn judge(rt: &impl Abort, alloc: Global, reassembly: &mut Reassembly, table: &str) {
     for row in rows_of(table).expect(rt, "rows").iter() {
-        let segment = segment_of(rt, alloc, row.octets);
-        answers(rt, reassembly, &segment, row.told);
+        judge_row(rt, alloc, reassembly, row);
     }
 }
 

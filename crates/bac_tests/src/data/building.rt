@@ -4,7 +4,7 @@
 use super::{finished, gives};
 use crate::expectations::{assert_same, assert_same_of};
 use bac_data::{AnyBuilder, BuildFault, Event};
-use bac_tables::{octets_of, rows_of};
+use bac_tables::{Row, octets_of, rows_of};
 use bac_tag::OutOfMemory;
 use bac_value::{
     Boolean, Date, DoubleBits, Enumerated, Null, ObjectId, Prim, PrimRef, RealBits, Signed, Time,
@@ -24,18 +24,35 @@ fn attempt(
     if call == "close" {
         return builder.close();
     }
-    if let Some(("", number)) = call.split_once("open ") {
-        return builder.open(number_of(rt, number));
+    match call.split_once(": ") {
+        None => open(rt, builder, call),
+        Some((call, contents)) => add(rt, alloc, builder, call, contents),
     }
-    let (name, octets) = call.split_once(": ").expect(rt, "a call with octets");
-    let octets = octets_of(octets).expect(rt, "octets");
-    let (name, number) = name.split_once(' ').expect(rt, "a number");
+}
+
+/// Opens the group of `open NUMBER`.
+fn open(rt: &impl Abort, builder: &mut AnyBuilder, call: &str) -> Result<(), BuildFault> {
+    let number = call.strip_prefix("open ").expect(rt, "a call");
+    builder.open(number_of(rt, number))
+}
+
+/// Adds the primitive of `context NUMBER` or of `push NUMBER`, with these contents.
+fn add(
+    rt: &impl Abort,
+    alloc: Global,
+    builder: &mut AnyBuilder,
+    call: &str,
+    contents: &str,
+) -> Result<(), BuildFault> {
+    let contents = octets_of(contents).expect(rt, "octets");
+    let (name, number) = call.split_once(' ').expect(rt, "a number");
     let number = number_of(rt, number);
     if name == "context" {
-        return builder.push_ctx(number, &octets);
+        builder.push_ctx(number, &contents)
+    } else {
+        assert_same(rt, name, "push");
+        push(rt, alloc, builder, number, &contents)
     }
-    assert!(rt; name == "push");
-    push(rt, alloc, builder, number, &octets)
 }
 
 /// The number of decimal digits.
@@ -77,14 +94,19 @@ fn told_of(found: Result<(), BuildFault>) -> &'static str {
     }
 }
 
-/// Each call ends as its row says. If memory is refused, the builder is as it was, and the call is made again.
+/// The call ends as its row says. If memory is refused, the builder is as it was, and the call is made again.
+fn takes_row(rt: &impl Abort, alloc: Global, builder: &mut AnyBuilder, row: &Row) {
+    let mut found = attempt(rt, alloc, builder, row.octets);
+    if found == Err(BuildFault::OutOfMemory) {
+        found = attempt(rt, alloc, builder, row.octets);
+    }
+    assert_same_of(rt, told_of(found), row.told, row.octets);
+}
+
+/// Each call ends as its row says.
 fn takes(rt: &impl Abort, alloc: Global, builder: &mut AnyBuilder, table: &str) {
     for row in rows_of(table).expect(rt, "rows").iter() {
-        let mut found = attempt(rt, alloc, builder, row.octets);
-        if found == Err(BuildFault::OutOfMemory) {
-            found = attempt(rt, alloc, builder, row.octets);
-        }
-        assert_same_of(rt, told_of(found), row.told, row.octets);
+        takes_row(rt, alloc, builder, row);
     }
 }
 
@@ -129,10 +151,8 @@ fn a_value_is_finished_when_each_group_is_closed(rt: HostRuntime) {
         context 1: 55 -> taken
     ";
     takes(&rt, rt.alloc(), &mut builder, group);
-    let mut builder = match builder.finish() {
-        Err((builder, BuildFault::StillOpen)) => builder,
-        outcome => panic!(rt; "{outcome:?}"),
-    };
+    let (mut builder, fault) = builder.finish().err().expect(&rt, "an open group");
+    assert_same(&rt, fault, BuildFault::StillOpen);
     let end = "
         close           -> taken
         close           -> NothingOpen
@@ -148,13 +168,11 @@ fn a_value_is_finished_when_each_group_is_closed(rt: HostRuntime) {
 #[test]
 fn a_value_may_be_one_primitive(rt: HostRuntime) {
     let mut builder = begun(&rt, rt.alloc());
-    let real = RealBits(0x4290_999A);
-    if let Err((prim, fault)) = builder.push(Prim::RealBits(real)) {
-        assert_same(&rt, fault, BuildFault::OutOfMemory);
-        builder.push(prim).expect(&rt, "memory");
-    }
+    let row = "push 4: 42 90 99 9A -> taken";
+    takes(&rt, rt.alloc(), &mut builder, row);
     let value = finished(&rt, builder);
-    gives(&rt, &value, &[Event::App(PrimRef::RealBits(real))]);
+    let real = PrimRef::RealBits(RealBits(0x4290_999A));
+    gives(&rt, &value, &[Event::App(real)]);
 }
 
 // Of example 44 of docs/EXAMPLES.md.

@@ -1,7 +1,7 @@
 //! What is read as an open value, and where other octets are refused. If memory is refused, a value is read again, so
 //! that the tests can be run with each allocation refused in turn (`rt try --test --fail-alloc N`).
 
-use crate::expectations::{assert_holds, assert_same, assert_same_of};
+use crate::expectations::{assert_same, assert_same_of};
 use bac_data::{Any, read_any};
 use bac_tables::enclosed;
 use bac_tag::{Refusal, Why};
@@ -39,19 +39,25 @@ fn inside(rt: &impl Abort, alloc: Global, groups: usize, octets: &[u8]) -> Vec<u
     enclosed(alloc, &[0x3E], &begins, octets, &[]).expect(rt, "memory")
 }
 
+/// Where an octet inside so many groups is refused for its depth, if it is.
+fn depth_of(rt: &impl Abort, alloc: Global, groups: usize, octet: u8) -> Option<usize> {
+    let octets = inside(rt, alloc, groups, &[octet]);
+    let refusal = refusal_of(rt, alloc, &octets);
+    (refusal.why == Why::Depth).then_some(refusal.place)
+}
+
+/// The octet is refused for its depth in the deepest group alone, and there if it is an opening tag.
+fn tells_depth(rt: &impl Abort, alloc: Global, octet: u8, is_opening: bool) {
+    let wanted = is_opening.then_some(1 + DEEPEST);
+    assert_same_of(rt, depth_of(rt, alloc, DEEPEST, octet), wanted, octet);
+    assert_same_of(rt, depth_of(rt, alloc, DEEPEST - 1, octet), None, octet);
+}
+
 // Clause 20.2.1.3.2: an opening tag has context class and LVT 6.
 #[test]
 fn depth_is_told_of_opening_tags_alone(rt: HostRuntime) {
-    let alloc = rt.alloc();
-    for first in 0..=255u8 {
-        let refusal = refusal_of(&rt, alloc, &inside(&rt, alloc, DEEPEST, &[first]));
-        if first & 0x0F == 0x0E {
-            assert_same_of(&rt, refusal, Why::Depth.at(1 + DEEPEST), first);
-        } else {
-            assert_holds(&rt, refusal.why != Why::Depth, first);
-        }
-        let refusal = refusal_of(&rt, alloc, &inside(&rt, alloc, DEEPEST - 1, &[first]));
-        assert_holds(&rt, refusal.why != Why::Depth, first);
+    for octet in 0..=255u8 {
+        tells_depth(&rt, rt.alloc(), octet, octet & 0x0F == 0x0E);
     }
 }
 

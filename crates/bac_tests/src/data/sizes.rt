@@ -1,8 +1,7 @@
 //! Open values of many octets and of many elements are built and written whole: no clause says that memory is there.
 
-use super::{alone, finished};
-use crate::expectations::assert_joined;
-use bac_data::{Any, AnyBuilder, write_any};
+use super::{alone, finished, is_written};
+use bac_data::AnyBuilder;
 use bac_tables::{enclosed, mixed, numbered};
 use bac_value::{Octets, Prim, Unsigned};
 use std::alloc::Global;
@@ -17,15 +16,6 @@ const SIZES: [(usize, &[u8]); 3] = [
 
 /// The numbers of the elements of a long value.
 const NUMBERS: std::ops::Range<u16> = 1_000..11_000;
-
-/// Stops the test unless with number 3 the value is written as these octets between its tags, after others.
-fn is_written(rt: &impl Abort, alloc: Global, value: &Any, inner: &[u8]) {
-    let octets = enclosed(alloc, &[0x3E], inner, &[0x3F], &[]).expect(rt, "memory");
-    let front = vec![in alloc; 0xAA; 65_535].expect(rt, "memory");
-    let mut out = Vec::from_slice(alloc, &front).expect(rt, "memory");
-    write_any(value, 3, &mut out).expect(rt, "memory");
-    assert_joined(rt, &out, &front, &octets);
-}
 
 /// An octet string, and the same octets of a context primitive in a group, are built and written.
 fn are_built(rt: &impl Abort, alloc: Global, length: &[u8], contents: &[u8]) {

@@ -1,33 +1,12 @@
 //! Open values by Rust's own traits.
 
-use super::finished;
+use super::gives;
 use crate::expectations::{assert_same, assert_same_of, assert_shown};
-use bac_data::{Any, AnyBuilder, BuildFault, Event, read_any};
+use bac_data::{Any, BuildFault, Event, read_any};
 use bac_tables::octets_of;
-use bac_value::{Prim, PrimRef, Unsigned};
+use bac_value::{PrimRef, Unsigned};
 use std::alloc::Global;
 use std::process::Abort;
-
-#[test]
-fn a_value_is_walked_by_a_loop(rt: HostRuntime) {
-    let mut builder = AnyBuilder::new(rt.alloc()).expect(&rt, "memory");
-    builder.open(7).expect(&rt, "memory");
-    let prim = Prim::Unsigned(Unsigned(5));
-    builder.push(prim).expect(&rt, "memory");
-    builder.close().expect(&rt, "a group");
-    let value = finished(&rt, builder);
-    assert_same(&rt, value.events().size_hint(), (3, Some(3)));
-    let events = [
-        Event::Open(7),
-        Event::App(PrimRef::Unsigned(Unsigned(5))),
-        Event::Close(7),
-    ];
-    let mut wanted = events.iter();
-    for event in &value {
-        assert_same(&rt, Some(&event), wanted.next());
-    }
-    assert_same(&rt, wanted.next(), None);
-}
 
 /// The value between tags of the number 3.
 fn value_of(rt: &impl Abort, alloc: Global, octets: &str) -> Any {
@@ -40,6 +19,15 @@ fn value_of(rt: &impl Abort, alloc: Global, octets: &str) -> Any {
 fn says(rt: &impl Abort, alloc: Global, value: &Any, octets: &str, is_same: bool) {
     let found = *value == value_of(rt, alloc, octets);
     assert_same_of(rt, found, is_same, octets);
+}
+
+#[test]
+fn a_value_is_walked_by_a_loop(rt: HostRuntime) {
+    let value = value_of(&rt, rt.alloc(), "3E 7E 21 05 7F 3F");
+    assert_same(&rt, value.events().size_hint(), (3, Some(3)));
+    let five = PrimRef::Unsigned(Unsigned(5));
+    let events = [Event::Open(7), Event::App(five), Event::Close(7)];
+    gives(&rt, &value, &events);
 }
 
 // The spelling does not count, but each number, each octet and each group does.

@@ -1,9 +1,9 @@
 //! What is written of open values.
 
-use super::{alone, finished};
+use super::{alone, finished, is_written};
 use crate::expectations::assert_same;
 use bac_data::{Any, AnyBuilder, write_any};
-use bac_tables::{enclosed, octets_of};
+use bac_tables::octets_of;
 use bac_tag::OutOfMemory;
 use bac_value::{
     Bits, Boolean, DoubleBits, Null, ObjectId, Prim, Primitive, RealBits, Signed, Text,
@@ -21,10 +21,7 @@ fn contextual(rt: &impl Abort, alloc: Global, number: u8, octets: &[u8]) -> Any 
 /// Stops the test unless with number 3 these octets are written between the tags, after what is there.
 fn writes(rt: &impl Abort, alloc: Global, value: &Any, inner: &str) {
     let inner = octets_of(inner).expect(rt, "octets");
-    let wanted = enclosed(alloc, &[0xAA, 0x3E], &inner, &[0x3F], &[]).expect(rt, "memory");
-    let mut out = Vec::from_slice(alloc, &[0xAA]).expect(rt, "memory");
-    write_any(value, 3, &mut out).expect(rt, "memory");
-    assert_same(rt, out, wanted);
+    is_written(rt, alloc, value, &inner);
 }
 
 /// The same of the value of one application primitive.

@@ -1,6 +1,6 @@
 //! Values as keys, and how they are made of numbers.
 
-use crate::expectations::{assert_holds, assert_same, assert_shown};
+use crate::expectations::{assert_holds, assert_same, assert_same_of, assert_shown};
 use bac_tag::Why;
 use bac_value::layers::{Unsigned16, Unsigned32};
 use bac_value::{
@@ -12,24 +12,31 @@ use std::collections::HashMap;
 use std::hash::Hash;
 use std::process::Abort;
 
-/// Stops the test unless the number is accepted as a priority if `is_one` is true, and refused if it is false.
+/// Stops the test unless the number makes a priority if `is_one` is true, and is refused if it is false.
 fn tries_priority(rt: &impl Abort, number: u8, is_one: bool) {
-    match Priority::try_from(number) {
-        Ok(priority) => assert_holds(rt, is_one && priority.number() == number, number),
-        Err(fault) => assert_holds(rt, !is_one && fault == RangeFault::Priority, number),
+    let made = Priority::new(number);
+    assert_same_of(rt, made.is_some(), is_one, number);
+    let wanted = made.ok_or(RangeFault::Priority);
+    assert_holds(rt, Priority::try_from(number) == wanted, number);
+    if let Some(priority) = made {
+        assert_same(rt, priority.number(), number);
     }
 }
 
-/// Stops the test unless the number is accepted as an instance if `is_one` is true, and refused if it is false.
+/// Stops the test unless the number makes an instance if `is_one` is true, and is refused if it is false.
 fn tries_instance(rt: &impl Abort, number: u32, is_one: bool) {
-    match Instance::try_from(number) {
-        Ok(instance) => assert_holds(rt, is_one && instance.number() == number, number),
-        Err(fault) => assert_holds(rt, !is_one && fault == RangeFault::Instance, number),
+    let made = Instance::new(number);
+    assert_same_of(rt, made.is_some(), is_one, number);
+    let wanted = made.ok_or(RangeFault::Instance);
+    assert_holds(rt, Instance::try_from(number) == wanted, number);
+    if let Some(instance) = made {
+        assert_same(rt, instance.number(), number);
     }
 }
 
+// Of examples 5, 17 and 42 of docs/EXAMPLES.md.
 #[test]
-fn numbers_in_a_range_are_tried(rt: HostRuntime) {
+fn numbers_in_a_range_are_made_of_no_others(rt: HostRuntime) {
     tries_priority(&rt, 0, false);
     tries_priority(&rt, 1, true);
     tries_priority(&rt, 16, true);
@@ -119,24 +126,16 @@ fn values_are_keys_of_maps(rt: HostRuntime) {
 }
 
 #[test]
-fn bits_may_be_none(rt: HostRuntime) {
-    let none = Bits::new(rt.alloc(), &[]).expect(&rt, "no bits");
-    assert_holds(&rt, none.is_empty(), "no bits");
-    let one = Bits::new(rt.alloc(), &[false]).expect(&rt, "a bit");
-    assert_holds(&rt, !one.is_empty(), "a bit");
-}
-
-#[test]
 fn bits_are_given_in_their_order(rt: HostRuntime) {
     let wanted = [true, false, false, true, true, false, true, false, true];
     let bits = Bits::new(rt.alloc(), &wanted).expect(&rt, "bits");
     assert_same(&rt, bits.iter().len(), 9);
     assert_same(&rt, bits.iter().size_hint(), (9, Some(9)));
-    let mut given = Vec::new(rt.alloc());
+    let mut wanted = wanted.iter();
     for bit in &bits {
-        given.push(bit).expect(&rt, "memory");
+        assert_same(&rt, Some(&bit), wanted.next());
     }
-    assert_same(&rt, given.as_slice(), wanted.as_slice());
+    assert_same(&rt, wanted.next(), None);
 }
 
 #[test]

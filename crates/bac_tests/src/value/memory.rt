@@ -12,17 +12,27 @@ use std::process::Abort;
 
 /// By the bound alone: each write appends what is written, one octet at least, or leaves what was there.
 fn appends<T: Primitive>(rt: &impl Abort, alloc: Global, value: &T, written: &[u8]) {
-    assert!(rt; !written.is_empty());
     let mut out = Vec::new(alloc);
     for _ in 0..40 {
-        let before = out.len();
-        match value.write(&mut out) {
-            Ok(()) => assert_same(rt, out.get(before..), Some(written)),
-            Err(OutOfMemory) => assert_same(rt, out.len(), before),
-        }
-        for piece in out.chunks(written.len()) {
-            assert_same(rt, piece, written);
-        }
+        appends_once(rt, value, written, &mut out);
+        is_repeated(rt, &out, written);
+    }
+}
+
+/// The same of one write.
+fn appends_once<T: Primitive>(rt: &impl Abort, value: &T, written: &[u8], out: &mut Vec<u8>) {
+    let before = out.len();
+    match value.write(out) {
+        Ok(()) => assert_same(rt, out.get(before..), Some(written)),
+        Err(OutOfMemory) => assert_same(rt, out.len(), before),
+    }
+}
+
+/// The octets are the written ones, of which there is one at least, any number of times.
+fn is_repeated(rt: &impl Abort, octets: &[u8], written: &[u8]) {
+    assert!(rt; !written.is_empty());
+    for piece in octets.chunks(written.len()) {
+        assert_same(rt, piece, written);
     }
 }
 

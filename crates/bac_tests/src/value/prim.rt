@@ -1,10 +1,7 @@
-//! A value of any primitive type, the same borrowed, and numbers that a constructor keeps in their range.
+//! A value of any primitive type, the same borrowed, and identifiers.
 
 use crate::expectations::{assert_holds, assert_same};
-use bac_value::{
-    Bits, Instance, Null, ObjectId, Octets, Prim, PrimRef, Primitive, Priority, RealBits, Text,
-    Unsigned,
-};
+use bac_value::{Bits, Null, ObjectId, Octets, Prim, PrimRef, Primitive, RealBits, Text, Unsigned};
 use std::process::Abort;
 
 #[test]
@@ -33,22 +30,6 @@ fn a_value_is_borrowed_as_it_is(rt: HostRuntime) {
     assert_holds(&rt, !is_same, "a null");
 }
 
-/// The number makes a priority, or none.
-fn is_priority(rt: &impl Abort, number: u8, is_one: bool) {
-    match Priority::new(number) {
-        Some(priority) => assert_holds(rt, is_one && priority.number() == number, number),
-        None => assert_holds(rt, !is_one, number),
-    }
-}
-
-/// The number makes an instance, or none.
-fn is_instance(rt: &impl Abort, number: u32, is_one: bool) {
-    match Instance::new(number) {
-        Some(instance) => assert_holds(rt, is_one && instance.number() == number, number),
-        None => assert_holds(rt, !is_one, number),
-    }
-}
-
 /// The kind and the instance make an identifier, which has them.
 fn is_identifier(rt: &impl Abort, kind: u16, instance: u32) {
     let made = ObjectId::new(kind, instance).expect(rt, "an identifier");
@@ -65,15 +46,4 @@ fn identifiers_are_made_of_a_kind_and_an_instance(rt: HostRuntime) {
     is_identifier(&rt, 1023, 4_194_303);
     assert_same(&rt, ObjectId::new(1024, 0), None);
     assert_same(&rt, ObjectId::new(0, 4_194_304), None);
-}
-
-// Of examples 5 and 17 of docs/EXAMPLES.md.
-#[test]
-fn numbers_in_a_range_are_made_of_no_others(rt: HostRuntime) {
-    is_priority(&rt, 0, false);
-    is_priority(&rt, 17, false);
-    is_priority(&rt, 1, true);
-    is_priority(&rt, 16, true);
-    is_instance(&rt, 4_194_304, false);
-    is_instance(&rt, 4_194_303, true);
 }

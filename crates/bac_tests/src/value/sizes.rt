@@ -50,16 +50,20 @@ fn are_kept(rt: &impl Abort, alloc: Global, number: u8, contents: &[u8])
     assert_joined(rt, &out, contents, contents);
 }
 
+/// So many octets make octets, and a text.
+fn octets_are_made(rt: &impl Abort, alloc: Global, size: usize) {
+    let contents = mixed(alloc, size).expect(rt, "memory");
+    is_made(rt, alloc, Octets::new(alloc, &contents), &contents);
+    are_kept(rt, alloc, 6, &contents);
+    let (set, octets) = contents.split_first().expect(rt, "a set");
+    is_made(rt, alloc, Text::new(alloc, *set, octets), &contents);
+    are_kept(rt, alloc, 7, &contents);
+}
+
 #[test]
 fn octets_and_texts_of_every_size_are_made(rt: HostRuntime) {
-    let alloc = rt.alloc();
     for size in SIZES {
-        let contents = mixed(alloc, size).expect(&rt, "memory");
-        is_made(&rt, alloc, Octets::new(alloc, &contents), &contents);
-        are_kept(&rt, alloc, 6, &contents);
-        let (set, octets) = contents.split_first().expect(&rt, "a set");
-        is_made(&rt, alloc, Text::new(alloc, *set, octets), &contents);
-        are_kept(&rt, alloc, 7, &contents);
+        octets_are_made(&rt, rt.alloc(), size);
     }
 }
 
@@ -74,19 +78,23 @@ fn bits_of(rt: &impl Abort, alloc: Global, octets: &[u8]) -> Vec<bool> {
     bits
 }
 
+/// The bits make contents of these octets, after the number of the bits that are not used.
+fn bits_make(rt: &impl Abort, alloc: Global, bits: &[bool], unused: u8, octets: &[u8]) {
+    let contents = enclosed(alloc, &[unused], octets, &[], &[]).expect(rt, "memory");
+    is_made(rt, alloc, Bits::new(alloc, bits), &contents);
+    are_kept(rt, alloc, 8, &contents);
+}
+
 /// All bits of so many octets, or all but the last three, are those of the contents.
 fn bits_are_made(rt: &impl Abort, alloc: Global, size: usize) {
     let mut octets = mixed(alloc, size).expect(rt, "memory");
     let bits = bits_of(rt, alloc, &octets);
-    let contents = enclosed(alloc, &[0], &octets, &[], &[]).expect(rt, "memory");
-    is_made(rt, alloc, Bits::new(alloc, &bits), &contents);
-    are_kept(rt, alloc, 8, &contents);
+    bits_make(rt, alloc, &bits, 0, &octets);
     if let Some(last) = octets.last_mut() {
         *last &= 0xF8;
     }
-    let contents = enclosed(alloc, &[3], &octets, &[], &[]).expect(rt, "memory");
-    let count = bits.len().saturating_sub(3);
-    is_made(rt, alloc, Bits::new(alloc, &bits[..count]), &contents);
+    let fewer = bits.len().saturating_sub(3);
+    bits_make(rt, alloc, &bits[..fewer], 3, &octets);
 }
 
 #[test]

@@ -47,6 +47,7 @@ fn only_a_text_of_set_0_is_utf_8(rt: HostRuntime) {
 /// The bits are packed into these contents, which have as many bits.
 fn are_packed(rt: &impl Abort, alloc: Global, bits: &[bool], contents: &[u8]) {
     let value = Bits::new(alloc, bits).expect(rt, "a value");
+    assert_same_of(rt, value.is_empty(), bits.is_empty(), bits);
     writes(rt, alloc, value, contents);
     let read = Bits::read(alloc, contents).expect(rt, "bits");
     assert_same(rt, read.len(), bits.len());
@@ -61,6 +62,7 @@ fn are_packed(rt: &impl Abort, alloc: Global, bits: &[bool], contents: &[u8]) {
 fn bits_are_packed_from_the_highest_downwards(rt: HostRuntime) {
     let alloc = rt.alloc();
     are_packed(&rt, alloc, &[], &[0]);
+    are_packed(&rt, alloc, &[false], &[7, 0]);
     are_packed(&rt, alloc, &[true], &[7, 0x80]);
     are_packed(&rt, alloc, &[false; 4], &[4, 0]);
     are_packed(&rt, alloc, &[true; 4], &[4, 0xF0]);
