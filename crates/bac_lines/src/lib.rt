@@ -22,46 +22,25 @@
 //!
 //! # Where a line is refused
 //!
-//! The place of a fault is found by parts, each a type that implements the private trait `FromLine` (`from_line.rt`). What
-//! may come in a line is listed as nested pairs of parts. A part reads a front of the line, or reports the first octet that
-//! no line can have there. That the place is right is tested: by the rows of `lines.txt` in bac_vectors.
-//!
-//! | Part | What it reads |
-//! |---|---|
-//! | `(A, B)` | one part after the other |
-//! | `Maybe`, `Either` | a part that may be absent, and the part after it; either of two parts |
-//! | `Each` | parts of one kind with one blank between two, and the part after them |
-//! | `Word`, `Number`, `Object`, `Hexadecimal`, `Address` | one field, with the octets before what it says |
-//! | `OpenValue` | an open value (`open_values.rt`, `elements.rt`, `strings.rt`) |
-//! | `End` | the end of the line |
-//!
-//! The messages are in files with the names of those of bac_fields. Some words begin alike (`property`, `priority`), so
-//! where two parts may come the second is tried after the first, and if both fail, the farther place is reported. Such
-//! parts differ within their first word or so, hence nothing long is read twice.
+//! No grammar says which text may come where. bac_fields reports the first field with which no frame's fields continue
+//! (`places.rt`); so what comes before it is the front of a frame's line. bac_fields is then asked which fields can come in
+//! its place, and the line goes on as long as it does in the text of one of them (`shared.rt`, `texts.rt`). That the place
+//! is right is tested: by the rows of `lines.txt` in bac_vectors.
 #![tactic(auto)]
 
-mod apdus;
-mod choices;
 mod closing;
-mod elements;
 mod fault;
-mod frames;
-mod from_line;
-mod hexadecimals;
 mod line_fields;
-mod lists;
-mod messages;
 mod numbers;
-mod open_values;
+mod places;
 mod reading;
 mod refused_lines;
 mod runs;
 mod said;
 mod scanning;
-mod services;
+mod shared;
 mod shown_lines;
-mod strings;
-mod words;
+mod texts;
 
 pub use fault::LineFault;
 pub use line_fields::{LineFields, fields_of_line};

@@ -49,5 +49,5 @@ pub fn fields_of_line(alloc: Global, line: &[u8]) -> Result<LineFields, LineFaul
             contents: reader.said.contents,
         });
     }
-    Err(reader.fault_in(line, &mut octets))
+    Err(reader.fault_in(line))
 }

@@ -1,45 +1,39 @@
 //! Reading a whole line.
 
 ghost use Rattle.std.specs.Prelude.{◌≡◌, ◌≤◌, false, length, IsTrue, IfOk, IfErr};
-ghost use Rattle.bac_tag.specs.Octets.{Extends};
 ghost use Rattle.bac_npdu.specs.Frames.{value_of};
 ghost use Rattle.bac_text.specs.FrameText.{text};
 ghost use Rattle.bac_lines.specs.Lines.{IfStop, IsRead, IsNear, IsNoLine, IsFrame, SaysFrame};
 
 use crate::closing::Closing;
 use crate::fault::LineFault;
-use crate::frames;
-use crate::from_line::FromLine;
+use crate::places::hopeless_place;
 use crate::said::Said;
 use crate::scanning::scan;
-use crate::words::shared_octets;
 use bac_fields::laws::the_line_is_the_fields;
 use bac_fields::{FieldWhy, append_octets};
 use bac_npdu::laws::frames_have_one_value;
 use bac_npdu::{Frame, decode_frame};
-use bac_text::append_text;
 use std::alloc::Global;
 
 /// Reads lines, and keeps its room from one to the next.
 #[derive(Drop)]
 pub struct LineReader {
-    alloc: Global,
     /// What the last line said.
     pub(crate) said: Said,
     /// The ends of what is open in it.
     ends: Vec<Closing>,
-    /// The line of the frame that its parts say, if it is that of no frame.
-    shown: Vec<u8>,
+    /// The octets of fields that are tried, if it is that of no frame.
+    tried: Vec<u8>,
 }
 
 impl LineReader {
     /// Creates a reader. It takes memory once it reads.
     pub fn new(alloc: Global) -> LineReader {
         LineReader {
-            alloc,
             said: Said::new(alloc),
             ends: Vec::new(alloc),
-            shown: Vec::new(alloc),
+            tried: Vec::new(alloc),
         }
     }
 
@@ -57,10 +51,7 @@ impl LineReader {
         if self.append_scanned(line, out)? {
             return Ok(());
         }
-        let start = out.len();
-        let fault = self.fault_in(line, out);
-        out.truncate(start);
-        Err(fault)
+        Err(self.fault_in(line))
     }
 
     /// Appends the octets of the frame that the fields of the line say. Its line need not be compared with the one that was
@@ -89,36 +80,14 @@ impl LineReader {
         }
     }
 
-    /// Returns why the line, which is that of no frame, is not read. The parts find the place. `out` may then hold some
-    /// octets more.
-    pub(crate) fn fault_in(&mut self, line: &[u8], out: &mut Vec<u8>) -> LineFault
-        ensures near { IsNear line.now result }
-        ensures kept { Extends out.old.items out.new.items }
+    /// Returns why the line, which is that of no frame, is not read.
+    pub(crate) fn fault_in(&mut self, line: &[u8]) -> LineFault
+        ensures { IsNear line.now result }
     {
-        self.said.clear();
-        if let Err(fault) = frames::Frame.read(line, &mut self.said) {
-            return fault;
+        match hopeless_place(line, &mut self.said, &mut self.ends, &mut self.tried) {
+            Ok(place) => LineFault::Stop(place),
+            Err(fault) => fault,
         }
-        let start = out.len();
-        match append_octets(&self.said.fields, &self.said.contents, out) {
-            Ok(()) => self.first_difference(line, &out[start..]),
-            Err(refusal) if refusal.why == FieldWhy::OutOfMemory => LineFault::OutOfMemory,
-            Err(_) => LineFault::Stop(line.len()),
-        }
-    }
-
-    /// Returns the fault at the first octet at which the line is not that of the frame that the octets spell.
-    fn first_difference(&mut self, line: &[u8], octets: &[u8]) -> LineFault
-        ensures near { IsNear line.now result }
-    {
-        let Ok(frame) = decode_frame(self.alloc, octets) else {
-            return LineFault::OutOfMemory;
-        };
-        self.shown.clear();
-        if append_text(&frame, &mut self.shown).is_err() {
-            return LineFault::OutOfMemory;
-        }
-        LineFault::Stop(shared_octets(&self.shown, line))
     }
 }
 

@@ -5,7 +5,7 @@ ghost use Rattle.bac_lines.specs.Lines.{IsNear};
 
 use crate::fault::LineFault;
 use crate::numbers::read_number;
-use crate::words::{read_word, shared_octets};
+use crate::shared::shared_octets;
 use bac_tag::Why;
 
 /// With what such a line begins.

@@ -20,15 +20,6 @@ pub(crate) struct Said {
     pub(crate) contents: Vec<u8>,
 }
 
-/// How much was said at some time.
-#[derive(Clone, Copy)]
-pub(crate) struct Mark {
-    /// The number of fields.
-    fields: usize,
-    /// The number of octets of contents.
-    contents: usize,
-}
-
 impl From<AllocError> for LineFault {
     ghost use Rattle.std.specs.Prelude.{◌≡◌};
     ghost use Rattle.bac_lines.specs.declared.fault.LineFault.TheVariants.{OutOfMemory};
@@ -108,21 +99,5 @@ impl Said {
     {
         let length = self.contents.len().saturating_sub(start);
         self.add_held(name, number, start, length)
-    }
-
-    /// Returns how much is said.
-    #[inline(always)]
-    pub(crate) fn mark(&self) -> Mark {
-        Mark {
-            fields: self.fields.len(),
-            contents: self.contents.len(),
-        }
-    }
-
-    /// Takes away what was said after the mark.
-    #[inline(always)]
-    pub(crate) fn cut(&mut self, mark: Mark) {
-        self.fields.truncate(mark.fields);
-        self.contents.truncate(mark.contents);
     }
 }

@@ -9,9 +9,9 @@ ghost use Rattle.bac_lines.specs.Scanning.{TokenIn, AreTokens, ends_field};
 ghost use Rattle.bac_lines.specs.Found.{by_end, sort_of, IsAdded, Scanned, Shows, AreScanned, fields_said};
 
 mod brackets;
-mod names;
-mod numbers;
-mod octets;
+pub(crate) mod names;
+pub(crate) mod numbers;
+pub(crate) mod octets;
 mod strings;
 mod values;
 mod words;
@@ -106,4 +106,31 @@ pub(crate) fn scan(line: &[u8], said: &mut Said, ends: &mut Vec<Closing>) -> Res
         }
     }
     Ok(true)
+}
+
+/// Puts the first fields of the line into `said`, at most so many of them. Returns how many octets they have, and whether
+/// something begins after them.
+pub(crate) fn scan_front(
+    count: usize,
+    line: &[u8],
+    said: &mut Said,
+    ends: &mut Vec<Closing>,
+) -> Result<(usize, bool), LineFault>
+    ensures within { IfOk result (λ front. front.0 ≤ length line.now) }
+    ensures memory { IfErr result (λ fault. fault ≡ LineFault.OutOfMemory) }
+{
+    said.clear();
+    ends.clear();
+    let mut first = true;
+    let mut taken = 0;
+    for _ in 0..count {
+        match add_field(first, &line[taken..], said, ends)? {
+            Some((more, begins)) => {
+                taken += more;
+                first = begins;
+            }
+            None => return Ok((taken, first)),
+        }
+    }
+    Ok((taken, first))
 }

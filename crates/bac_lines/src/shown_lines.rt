@@ -8,9 +8,10 @@ ghost use Rattle.bac_lines.specs.Lines.{IfStop, IsNear, IsNoLine};
 ghost use Rattle.bac_lines.specs.ShownLines.{IsNumbered, HasNoLine, IsUnread, IsTooLong, StandsFor, StandsForNone, LONGEST_LINE};
 
 use crate::fault::LineFault;
-use crate::numbers::{digit_at, read_number};
+use crate::numbers::read_number;
 use crate::reading::LineReader;
 use crate::refused_lines::read_refusal;
+use crate::scanning::numbers::digit_at;
 use bac_pack::layers::strip_return;
 use bac_pack::{LineForm, PackFault};
 use bac_tag::OutOfMemory;

@@ -17,7 +17,7 @@ pub(crate) fn is_decimal(octet: u8) -> bool
 
 /// Returns the decimal digit at the place, or None if there is none.
 #[inline(always)]
-fn digit_at(line: &[u8], place: usize) -> Option<u64>
+pub(crate) fn digit_at(line: &[u8], place: usize) -> Option<u64>
     ensures some { IfSome result (λ digit. (place < length line.now) × ((digit < 10) × (slice_index line.now place ≡ 48 + digit))) }
     ensures none { IfNone result (IsTrue (clear is_decimal (drop place line.now))) }
 {

@@ -11,7 +11,7 @@ use crate::scanning::numbers::with_digit;
 
 /// Returns the value of the hexadecimal digit at the place, or None if there is none.
 #[inline(always)]
-fn value_at(line: &[u8], place: usize) -> Option<u8>
+pub(crate) fn value_at(line: &[u8], place: usize) -> Option<u8>
     ensures some { IfSome result (λ value. (place < length line.now) × ((value < 16) × (slice_index line.now place ≡ digit value))) }
     ensures none { IfNone result (IsTrue (clear is_hex (drop place line.now))) }
 {

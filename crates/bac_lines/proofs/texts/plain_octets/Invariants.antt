@@ -1,5 +1,5 @@
 use Rattle.std.proofs.Common.{◌≤◌, ◌-◌, length}
-use Rattle.bac_lines.proofs.strings.plain_octets.Given as goal
+use Rattle.bac_lines.proofs.texts.plain_octets.Given as goal
 
 abbrev pub invariant-loop-taken : goal.invariant-loop-taken
 invariant-loop-taken l = l.taken ≤ length l.octets

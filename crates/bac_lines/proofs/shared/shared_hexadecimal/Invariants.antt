@@ -1,5 +1,5 @@
 use Rattle.std.proofs.Common.{◌≤◌, ◌-◌, length}
-use Rattle.bac_lines.proofs.hexadecimals.digits_in.Given as goal
+use Rattle.bac_lines.proofs.shared.shared_hexadecimal.Given as goal
 
 abbrev pub invariant-loop-count : goal.invariant-loop-count
 invariant-loop-count l = l.count ≤ length l.line
