@@ -290,15 +290,38 @@ static inline const struct bactool_field *bactool_find(const struct bactool_fiel
  *                       before that one are already all of a frame
  *   BACTOOL_NO_MEMORY   memory was refused
  *
- *     struct bactool_field fields[] = {
- *         {BACTOOL_FIELD_NETWORK_PRIORITY, 0, 0, 0, 0}, {BACTOOL_FIELD_REPLY_EXPECTED, 0, 0, 0, 0},
- *         {BACTOOL_FIELD_UNCONFIRMED_REQUEST, 0, 0, 0, 0}, {BACTOOL_FIELD_WHO_IS, 8, 0, 0, 0},
+ *     #define SAY(name, number) {BACTOOL_FIELD_##name, number, 0, 0, 0}
+ *
+ *     const struct bactool_field request[] = {
+ *         SAY(NETWORK_PRIORITY, 0), SAY(REPLY_EXPECTED, 1), SAY(CONFIRMED_REQUEST, 0), SAY(INVOKE_ID, 1),
+ *         SAY(SEGMENTED_ACCEPTED, 0), SAY(MAX_SEGMENTS, 0), SAY(MAX_RESPONSE, 5), SAY(READ_PROPERTY, 12),
+ *         SAY(OBJECT, 5), SAY(PROPERTY, 85),
  *     };
  *     uint8_t out[1497];
- *     if (bactool_encode(fields, 4, NULL, 0, out, sizeof out, &outcome) == BACTOOL_OK)
+ *     if (bactool_encode(request, 10, NULL, 0, out, sizeof out, &outcome) == BACTOOL_OK)
  *         send(socket, out, outcome.count, 0);
  *
- * sends 01 00 10 08, a Who-Is. `examples/c/fields.c` is a whole program.
+ * sends 01 04 00 05 01 0C 0C 00 00 00 05 19 55, which asks for the present value of analog input 5. With these fields it
+ * is answered, by the Real 72.3:
+ *
+ *     const struct bactool_field answer[] = {
+ *         SAY(NETWORK_PRIORITY, 0), SAY(REPLY_EXPECTED, 0), SAY(COMPLEX_ACK, 0), SAY(INVOKE_ID, 1),
+ *         SAY(READ_PROPERTY, 12), SAY(OBJECT, 5), SAY(PROPERTY, 85), SAY(VALUE, 0), SAY(REAL, 0x4290999A),
+ *         SAY(VALUE_END, 0),
+ *     };
+ *
+ * And a WriteProperty that was read is written with another priority:
+ *
+ *     uint8_t canonical[1497];
+ *     struct bactool_field fields[256];
+ *     if (bactool_decode(octets, length, canonical, sizeof canonical, fields, 256, &outcome) == BACTOOL_OK) {
+ *         for (size_t i = 0; i < outcome.fields; i++)
+ *             if (fields[i].name == BACTOOL_FIELD_PRIORITY)
+ *                 fields[i].number = 9;
+ *         bactool_encode(fields, outcome.fields, canonical, outcome.count, out, sizeof out, &outcome);
+ *     }
+ *
+ * `examples/c/fields.c` is a whole program.
  */
 uint32_t bactool_encode(const struct bactool_field *fields, size_t count, const uint8_t *octets, size_t length,
                         uint8_t *out, size_t room, struct bactool_outcome *outcome);

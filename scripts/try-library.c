@@ -843,6 +843,9 @@ static void try_drawn_fields(struct bench bench, uint64_t *state, const uint8_t 
     try_fields(bench, bench.known, most, canonical, count, (size_t)drawn(state));
 }
 
+/* How many lists of fields are made of octets that are accepted. */
+enum { LISTS = 8 };
+
 struct share {
     uint64_t state;
     unsigned long count, accepted;
@@ -853,12 +856,13 @@ static void *try_share(void *given)
     struct share *share = given;
     struct bench bench = new_bench();
     uint8_t *input = __real_malloc(LONGEST + 16), *canonical = __real_malloc(LONGEST);
-    for (unsigned long k = 0; k < share->count; k++) {
+    for (unsigned long tried = 0; tried < share->count; tried++) {
         size_t length = draw(&share->state, input);
         if (!try_input(bench, input, length, false))
             continue;
         share->accepted++;
-        try_drawn_fields(bench, &share->state, input, length, canonical);
+        for (unsigned k = 0; k < LISTS; k++)
+            try_drawn_fields(bench, &share->state, input, length, canonical);
     }
     free(canonical);
     free(input);
@@ -896,7 +900,8 @@ int main(int count_of_words, char **words)
         pthread_join(threads[k], NULL);
         accepted += shares[k].accepted;
     }
-    printf("try-library: %zu records, %lu refused allocations and %lu random inputs, of which %lu were accepted: %lu faults\n",
-           record_count, refusals, count / THREADS * THREADS, accepted, faults);
+    printf("try-library: %zu records, %lu refused allocations, %lu random inputs, of which %lu were accepted, and %lu lists of "
+           "fields: %lu faults\n",
+           record_count, refusals, count / THREADS * THREADS, accepted, LISTS * accepted, faults);
     return faults != 0;
 }
