@@ -1,7 +1,8 @@
 /*
- * Hostile use of libbactool, for scripts/try-library: `try-library COUNT < FRAMES` tries each record of a file of frames and
- * then COUNT random inputs, in four threads, and of each that is accepted its fields with random changes. All octets that are passed end where a page begins that must not be
- * touched, so a fault of memory ends the program. It prints a line for each thing that is wrong, and one at the end.
+ * Hostile use of libbactool, for scripts/try-library: `try-library COUNT [LISTS] < FRAMES` tries each record of a file of
+ * frames and then COUNT random inputs, in four threads, and for each that is accepted LISTS times its fields with random
+ * changes, 8 times if it is not given. All octets that are passed end where a page begins that must not be touched, so a
+ * fault of memory ends the program. It prints a line for each thing that is wrong, and one at the end.
  *
  * It is linked with --wrap for malloc and realloc, so that memory can be refused.
  */
@@ -843,12 +844,9 @@ static void try_drawn_fields(struct bench bench, uint64_t *state, const uint8_t 
     try_fields(bench, bench.known, most, canonical, count, (size_t)drawn(state));
 }
 
-/* How many lists of fields are made of octets that are accepted. */
-enum { LISTS = 8 };
-
 struct share {
     uint64_t state;
-    unsigned long count, accepted;
+    unsigned long count, lists, accepted;
 };
 
 static void *try_share(void *given)
@@ -861,7 +859,7 @@ static void *try_share(void *given)
         if (!try_input(bench, input, length, false))
             continue;
         share->accepted++;
-        for (unsigned k = 0; k < LISTS; k++)
+        for (unsigned long k = 0; k < share->lists; k++)
             try_drawn_fields(bench, &share->state, input, length, canonical);
     }
     free(canonical);
@@ -872,6 +870,7 @@ static void *try_share(void *given)
 int main(int count_of_words, char **words)
 {
     unsigned long count = count_of_words > 1 ? strtoul(words[1], NULL, 10) : 0;
+    unsigned long lists = count_of_words > 2 ? strtoul(words[2], NULL, 10) : 8;
     struct bench bench = new_bench();
     file_length = fread(file, 1, sizeof file, stdin);
     for (size_t at = 0; at + 2 <= file_length && record_count < 4096; at += 2 + ((size_t)file[at] << 8 | file[at + 1]))
@@ -892,7 +891,7 @@ int main(int count_of_words, char **words)
     struct share shares[THREADS];
     unsigned long accepted = 0;
     for (unsigned k = 0; k < THREADS; k++) {
-        shares[k] = (struct share){0x9E3779B97F4A7C15u * (k + 1), count / THREADS, 0};
+        shares[k] = (struct share){0x9E3779B97F4A7C15u * (k + 1), count / THREADS, lists, 0};
         if (pthread_create(&threads[k], NULL, try_share, &shares[k]) != 0)
             return 2;
     }
@@ -902,6 +901,6 @@ int main(int count_of_words, char **words)
     }
     printf("try-library: %zu records, %lu refused allocations, %lu random inputs, of which %lu were accepted, and %lu lists of "
            "fields: %lu faults\n",
-           record_count, refusals, count / THREADS * THREADS, accepted, LISTS * accepted, faults);
+           record_count, refusals, count / THREADS * THREADS, accepted, lists * accepted, faults);
     return faults != 0;
 }
