@@ -1,8 +1,9 @@
 /*
- * Hostile use of libbactool, for scripts/try-library: `try-library COUNT [LISTS] < FRAMES` tries each record of a file of
- * frames and then COUNT random inputs, in four threads, and for each that is accepted LISTS times its fields with random
- * changes, 8 times if it is not given. All octets that are passed end where a page begins that must not be touched, so a
- * fault of memory ends the program. It prints a line for each thing that is wrong, and one at the end.
+ * Hostile use of libbactool, for scripts/try-library: `try-library COUNT [few] < FRAMES` tries each record of a file of
+ * frames and then COUNT random inputs, in four threads, and for each that is accepted 8 times its fields with random
+ * changes. With `few` it is once, and only each eighth octet of a line is changed. All octets that are passed end where
+ * a page begins that must not be touched, so a fault of memory ends the program. It prints a line for each thing that is
+ * wrong, and one at the end.
  *
  * It is linked with --wrap for malloc and realloc, so that memory can be refused.
  */
@@ -300,6 +301,9 @@ static void try_changed_line(struct bench bench, const char *line, size_t length
     }
 }
 
+/* Whether less is tried, since it takes long under a memory checker. */
+static bool few;
+
 /* Reads the line of a frame, which gives its canonical octets; and, if it is short, its fronts, and the line with each of its
    octets changed, doubled and left out. */
 static void try_line(struct bench bench, const char *line, size_t length, const uint8_t *canonical, size_t count)
@@ -314,7 +318,7 @@ static void try_line(struct bench bench, const char *line, size_t length, const 
     if (length > 400)
         return;
     char changed[402];
-    for (size_t k = 0; k < length; k++) {
+    for (size_t k = 0; k < length; k += few ? 8u : 1u) {
         uint32_t code = bactool_read(line, k, NULL, 0, &told);
         EXPECT(code == BACTOOL_NO_ROOM || (code == BACTOOL_REFUSED && says(told, BACTOOL_SHORT, k, 0)));
         memcpy(changed, line, length);
@@ -870,7 +874,8 @@ static void *try_share(void *given)
 int main(int count_of_words, char **words)
 {
     unsigned long count = count_of_words > 1 ? strtoul(words[1], NULL, 10) : 0;
-    unsigned long lists = count_of_words > 2 ? strtoul(words[2], NULL, 10) : 8;
+    few = count_of_words > 2 && strcmp(words[2], "few") == 0;
+    unsigned long lists = few ? 1 : 8;
     struct bench bench = new_bench();
     file_length = fread(file, 1, sizeof file, stdin);
     for (size_t at = 0; at + 2 <= file_length && record_count < 4096; at += 2 + ((size_t)file[at] << 8 | file[at + 1]))
