@@ -46,7 +46,7 @@ fn depth_of(rt: &impl Abort, alloc: Global, groups: usize, octet: u8) -> Option<
     (refusal.why == Why::Depth).then_some(refusal.place)
 }
 
-/// The octet is refused for its depth in the deepest group alone, and there if it is an opening tag.
+/// The octet is refused for its depth only in the deepest group, and only if it is an opening tag.
 fn tells_depth(rt: &impl Abort, alloc: Global, octet: u8, is_opening: bool) {
     let wanted = is_opening.then_some(1 + DEEPEST);
     assert_same_of(rt, depth_of(rt, alloc, DEEPEST, octet), wanted, octet);
