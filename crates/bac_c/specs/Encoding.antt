@@ -2,10 +2,10 @@
 use Rattle.std.specs.Prelude.{◌≡◌, ℕ, List, codes}
 use Rattle.bac_tag.specs.Spelling.{IsLeast}
 use Rattle.bac_npdu.specs.Frames.{FrameValue, SpellsFrame}
-use Rattle.bac_fields.specs.declared.field.Field.{Field}
-use Rattle.bac_fields.specs.declared.field_refusal.FieldRefusal.{FieldRefusal}
-use Rattle.bac_fields.specs.declared.field_refusal.FieldWhy.{FieldWhy}
-use Rattle.bac_fields.specs.declared.field_refusal.FieldWhy.TheVariants.{Short, Trailing, Name, Number, Contents, OutOfMemory}
+use Rattle.bac_field_parts.specs.declared.field.Field.{Field}
+use Rattle.bac_field_parts.specs.declared.field_refusal.FieldRefusal.{FieldRefusal}
+use Rattle.bac_field_parts.specs.declared.field_refusal.FieldWhy.{FieldWhy}
+use Rattle.bac_field_parts.specs.declared.field_refusal.FieldWhy.TheVariants.{Short, Trailing, Name, Number, Contents, OutOfMemory}
 use Rattle.bac_fields.specs.Making.{AreFieldsOf, IsFieldStop}
 use Rattle.bac_c.specs.declared.outcomes.Outcome.{Outcome}
 

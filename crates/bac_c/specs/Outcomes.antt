@@ -8,7 +8,7 @@ use Rattle.bac_npdu.specs.Frames.{FrameValue, SpellsFrame}
 use Rattle.bac_npdu.specs.Decoded.{IsReasoned}
 use Rattle.bac_npdu.specs.Meanings.{IsFirstFlaw}
 use Rattle.bac_text.specs.FrameText.{text}
-use Rattle.bac_fields.specs.declared.field.Field.{Field}
+use Rattle.bac_field_parts.specs.declared.field.Field.{Field}
 use Rattle.bac_fields.specs.FrameFields.{placed_fields}
 use Rattle.bac_c.specs.declared.outcomes.Outcome.{Outcome}
 

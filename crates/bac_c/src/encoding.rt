@@ -2,7 +2,7 @@
 
 ghost use Rattle.std.specs.Prelude.{◌≡◌, ◌≢◌, ◌⊎◌, IfErr, IfOk};
 ghost use Rattle.bac_fields.specs.Making.{IsFieldRefusal};
-ghost use Rattle.bac_fields.specs.declared.field_refusal.FieldWhy.TheVariants.{OutOfMemory as NoMemory};
+ghost use Rattle.bac_field_parts.specs.declared.field_refusal.FieldWhy.TheVariants.{OutOfMemory as NoMemory};
 ghost use Rattle.bac_c.specs.Encoding.{IsSaidBy, TellsOfField, field_refused_as};
 ghost use Rattle.bac_c.specs.Outcomes.{IsWritten, LacksRoom, without_memory};
 

@@ -1,8 +1,8 @@
 //! The words of names of fields.
 
 ghost use Rattle.std.specs.Prelude.{◌≡◌, ◌++◌, ◌<◌, ◌≤◌, length, drop};
-ghost use Rattle.bac_fields.specs.declared.names.Name.{Name as FieldName};
-ghost use Rattle.bac_fields.specs.Names.{number_of, word_of};
+ghost use Rattle.bac_field_parts.specs.declared.names.Name.{Name as FieldName};
+ghost use Rattle.bac_field_parts.specs.Names.{number_of, word_of};
 
 use crate::writing::write_front;
 use bac_fields::Name;

@@ -3,7 +3,7 @@
 ghost use Rattle.std.specs.Prelude.{◌≡◌, ◌⊎◌, ◌++◌, ◌<◌, ◌≤◌, None, Some, IsSomeAnd, length, drop, codes};
 ghost use Rattle.bac_tag.specs.declared.refusals.Why.{Why as Reason};
 ghost use Rattle.bac_tag.specs.Refusals.{name_of};
-ghost use Rattle.bac_fields.specs.declared.field_refusal.FieldWhy.{FieldWhy as FieldReason};
+ghost use Rattle.bac_field_parts.specs.declared.field_refusal.FieldWhy.{FieldWhy as FieldReason};
 ghost use Rattle.bac_c.specs.Encoding.{field_name_of, field_number_of};
 ghost use Rattle.bac_c.specs.Outcomes.{number_of};
 

@@ -23,15 +23,15 @@ use Rattle.bac_text.specs.SegmentText.{segment_text}
 use Rattle.bac_text.specs.ApduText.{apdu_text}
 use Rattle.bac_text.specs.MessageText.{networks_text, port_text, message_text}
 use Rattle.bac_text.specs.FrameText.{address_text, destination_text, source_text, body_text, text}
-use Rattle.bac_fields.specs.declared.names.Name.{Name}
-use Rattle.bac_fields.specs.declared.names.Name.TheVariants as name
-use Rattle.bac_fields.specs.Fields.{next, aside, pass, word, octet_field, two_octets_field, octets_field, counted_field, counter_field, held_field, address_field, item_steps}
-use Rattle.bac_fields.specs.PrimitiveFields.{truth}
+use Rattle.bac_field_parts.specs.declared.names.Name.{Name}
+use Rattle.bac_field_parts.specs.declared.names.Name.TheVariants as name
+use Rattle.bac_field_parts.specs.Fields.{next, aside, pass, word, octet_field, two_octets_field, octets_field, counted_field, counter_field, held_field, address_field, item_steps}
+use Rattle.bac_field_parts.specs.PrimitiveFields.{truth}
 use Rattle.bac_fields.specs.ServiceFields.{service_steps}
 use Rattle.bac_fields.specs.ApduFields.{request_head_steps, segment_steps, part_steps, apdu_steps}
 use Rattle.bac_fields.specs.MessageFields.{networks_steps, listed_network_steps, port_steps, ports_steps, message_steps}
 use Rattle.bac_fields.specs.FrameFields.{source_size, destination_steps, source_steps, hops_steps, body_steps, control_steps, frame_steps, fields}
-use Rattle.bac_fields.specs.Names.{word_of}
+use Rattle.bac_field_parts.specs.Names.{word_of}
 use Rattle.bac_fields.specs.Line.{as_word, as_number, form_of, shown, begins, lead, printed}
 use Rattle.bac_fields.proofs.EventRanges.{Each}
 use Rattle.bac_fields.proofs.LineLemmas.{Prints, same_line, both, opened, one, held, passed, nothing, closed, truth_in, optional_part, item, list_rest}

@@ -18,17 +18,17 @@ use Rattle.bac_npdu.specs.Frames.{BodyValue, apdu, message, SpellsBody, SpellsFr
 use Rattle.bac_npdu.proofs.FrameLemmas.{appends_frame}
 use Rattle.bac_apdu.specs.Apdus.{SpellsApdu}
 use Rattle.bac_npdu.specs.Messages.{SpellsMessage}
-use Rattle.bac_fields.specs.declared.field.Field.{Field}
+use Rattle.bac_field_parts.specs.declared.field.Field.{Field}
 use Rattle.bac_fields.specs.declared.frame_heads.Front.{Front}
-use Rattle.bac_fields.specs.declared.making.Fault.{Fault}
+use Rattle.bac_field_parts.specs.declared.making.Fault.{Fault}
 use Rattle.bac_fields.specs.ApduSymbols.{apdu_said}
 use Rattle.bac_fields.specs.MessageSymbols.{message_said}
 use Rattle.bac_fields.specs.FrameFronts.{front_said}
 use Rattle.bac_fields.specs.FrameSymbols.{frame_said, body_said, HeadSaid, HeadFits, head_said, IfThere, destination_parts, frame_of_parts, address_said, address_fits, hops_fit, destination_said, destination_fits, destination_leads, source_said, source_fits, source_leads, control_said, control_fits, IsOptionalRead, IsLedStop, IsHeadOf, MadeAfter}
-use Rattle.bac_fields.specs.Symbols.{Symbol, symbols_in, taken_symbols, lead_in, has, number_said, Read, Unwritten, Made, Language, Lawful, IsStop, IfStop, behind}
+use Rattle.bac_field_parts.specs.Symbols.{Symbol, symbols_in, taken_symbols, lead_in, has, number_said, Read, Unwritten, Made, Language, Lawful, IsStop, IfStop, behind}
 use Rattle.bac_fields.specs.Laws.Frames.{head_parts, address_lawful, destination_lawful, source_lawful, body_lawful, body_leads, from_source_said, FromSource, from_source_lawful, control_stops, optional_stops, optional_stopped}
-use Rattle.bac_fields.specs.Laws.Making.{symbols_after, symbols_length, stop_then, stop_behind}
-use Rattle.bac_fields.specs.Laws.Numbers.{number_lawful, numbers_stop_first, numbers_stop_second, read_behind}
+use Rattle.bac_field_parts.specs.Laws.Making.{symbols_after, symbols_length, stop_then, stop_behind}
+use Rattle.bac_field_parts.specs.Laws.Numbers.{number_lawful, numbers_stop_first, numbers_stop_second, read_behind}
 
 -- ---- what the octets before the body are
 

@@ -26,17 +26,17 @@ use Rattle.bac_npdu.specs.Control.{ControlValue, IsControl, Controlled, least_of
 use Rattle.bac_npdu.specs.Frames.{FrameValue, BodyValue, apdu, message, control_of, addresses_of, SpellsBody, SpellsFrame}
 use Rattle.bac_npdu.proofs.WrittenLemmas.{least_append, least_octets, least_octets_then}
 use Rattle.bac_npdu.proofs.FrameLemmas.{control_spelled, frame_least}
-use Rattle.bac_fields.specs.declared.names.Name.{Name}
-use Rattle.bac_fields.specs.declared.names.Name.TheVariants as name
-use Rattle.bac_fields.specs.Fields.{FieldValue, Step, next, aside, pass, word, octet_field, two_octets_field, octets_field, counted_field, counter_field, address_field, item_steps, optional}
-use Rattle.bac_fields.specs.PrimitiveFields.{truth}
+use Rattle.bac_field_parts.specs.declared.names.Name.{Name}
+use Rattle.bac_field_parts.specs.declared.names.Name.TheVariants as name
+use Rattle.bac_field_parts.specs.Fields.{FieldValue, Step, next, aside, pass, word, octet_field, two_octets_field, octets_field, counted_field, counter_field, address_field, item_steps, optional}
+use Rattle.bac_field_parts.specs.PrimitiveFields.{truth}
 use Rattle.bac_fields.specs.ServiceFields.{service_steps}
 use Rattle.bac_fields.specs.ApduFields.{part_steps, apdu_steps}
 use Rattle.bac_fields.specs.MessageFields.{listed_network_steps, port_steps, ports_steps, message_steps}
 use Rattle.bac_fields.specs.FrameFields.{source_size, source_steps, addresses_steps, body_steps, control_steps, frame_steps, placed_fields, FrameFits}
-use Rattle.bac_fields.specs.Names.{number_of}
+use Rattle.bac_field_parts.specs.Names.{number_of}
 use Rattle.bac_fields.specs.Places.{HoldsNumber, AreAt}
-use Rattle.bac_fields.specs.Symbols.{has_contents}
+use Rattle.bac_field_parts.specs.Symbols.{has_contents}
 use Rattle.bac_fields.proofs.PlaceLemmas.{Lays, lays_nothing, lays_next, lays_pass, lays_both, lays_same, lays_aside, count, count-append, count-placed, fits_all, Tells, tells_nothing, tells_next, tells_both, tells_same, Placed, are_at}
 use Rattle.bac_fields.proofs.ServicePlaces.{Behind, service_led}
 

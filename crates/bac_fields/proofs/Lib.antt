@@ -1,6 +1,4 @@
-pub mod FieldLemmas
 pub mod ToldLemmas
-pub mod WalkLemmas
 pub mod EventRanges
 pub mod LineLemmas
 pub mod ValueLines

@@ -7,11 +7,11 @@ use Rattle.std.proofs.lemmas.Fmt.{decimal_digit}
 use Rattle.bac_value.specs.Identifier.{Identifier, IsIdentifier}
 use Rattle.bac_text.specs.Words.{number, truth as truth_text, object_text, optional as optional_text}
 use Rattle.bac_text.specs.WalkText.{blank}
-use Rattle.bac_fields.specs.declared.names.Name.{Name}
-use Rattle.bac_fields.specs.declared.names.Name.TheVariants as name
-use Rattle.bac_fields.specs.Fields.{FieldValue, Step, next, aside, pass, fields_of, word, held_field, item_steps, optional}
-use Rattle.bac_fields.specs.Names.{word_of}
-use Rattle.bac_fields.specs.PrimitiveFields.{truth, object_number}
+use Rattle.bac_field_parts.specs.declared.names.Name.{Name}
+use Rattle.bac_field_parts.specs.declared.names.Name.TheVariants as name
+use Rattle.bac_field_parts.specs.Fields.{FieldValue, Step, next, aside, pass, fields_of, word, held_field, item_steps, optional}
+use Rattle.bac_field_parts.specs.Names.{word_of}
+use Rattle.bac_field_parts.specs.PrimitiveFields.{truth, object_number}
 use Rattle.bac_fields.proofs.EventRanges.{Each}
 use Rattle.bac_fields.specs.Line.{as_object, as_number, as_parenthesis, form_of, object_of, shown, begins, lead, printed_from}
 

@@ -8,9 +8,9 @@ use Rattle.std.proofs.lemmas.List.{append_cancel_left}
 use Rattle.bac_tag.specs.Spelling.{Joined, OneOf}
 use Rattle.bac_tag.specs.declared.heads.TagHead.{TagHead}
 use Rattle.bac_service.specs.Productions.{Head, Optional, Items}
-use Rattle.bac_fields.specs.Symbols.{Symbol, named, numbered, containing, finished, has, disjoint, Opens, IsMessage, number_said, contents_said, end_said, nothing_said}
-use Rattle.bac_fields.specs.Laws.Languages.{opens_apart, opens_left, opens_right, opens_more}
-use Rattle.bac_fields.specs.Laws.Parts.{pair_said, maybe_said, list_said, either_said}
+use Rattle.bac_field_parts.specs.Symbols.{Symbol, named, numbered, containing, finished, has, disjoint, Opens, IsMessage, number_said, contents_said, end_said, nothing_said}
+use Rattle.bac_field_parts.specs.Laws.Languages.{opens_apart, opens_left, opens_right, opens_more}
+use Rattle.bac_field_parts.specs.Laws.Parts.{pair_said, maybe_said, list_said, either_said}
 
 -- The symbols of a value that some octets spell begin with one of the leads, and they tell the value, whatever follows.
 pub record Telling {V : Type 0} (said : V → List Symbol) (spells : V → List ℕ → Type 0) (leads : List (Option ℕ)) : Type 0 where

@@ -9,10 +9,10 @@ use Rattle.bac_npdu.specs.Addresses.{SourceValue, DestinationValue}
 use Rattle.bac_npdu.specs.Frames.{FrameValue, BodyValue, apdu, message, SpellsBody, SpellsFrame}
 use Rattle.bac_npdu.specs.Messages.{MessageValue, SpellsMessage}
 use Rattle.bac_fields.specs.ApduFields.{apdu_steps}
-use Rattle.bac_fields.specs.Fields.{Step}
+use Rattle.bac_field_parts.specs.Fields.{Step}
 use Rattle.bac_fields.specs.FrameSymbols.{frame_said, body_said, address_said, destination_of_parts}
 use Rattle.bac_fields.specs.MessageFields.{message_steps}
-use Rattle.bac_fields.specs.Symbols.{Symbol, finished, steps_said, Language, Lawful, IsMessage}
+use Rattle.bac_field_parts.specs.Symbols.{Symbol, finished, steps_said, Language, Lawful, IsMessage}
 use Rattle.bac_fields.specs.Laws.Apdus.{apdu_lawful}
 use Rattle.bac_fields.specs.Laws.Frames.{either_body_said, EitherBody, body_leads, FrameParts, from_control_said, parts_frame, said_is}
 use Rattle.bac_fields.specs.Laws.Layouts.{messages_lawful}

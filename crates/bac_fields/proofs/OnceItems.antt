@@ -17,8 +17,8 @@ use Rattle.bac_service.specs.ReadAccessResult.{SpellsAccessResult}
 use Rattle.bac_service.specs.ReadAccessSpecification.{SpellsSpecification}
 use Rattle.bac_service.specs.WriteAccessSpecification.{SpellsWriteSpecification}
 use Rattle.bac_fields.specs.Line.{object_of}
-use Rattle.bac_fields.specs.PrimitiveFields.{truth, object_number}
-use Rattle.bac_fields.specs.Symbols.{number_said}
+use Rattle.bac_field_parts.specs.PrimitiveFields.{truth, object_number}
+use Rattle.bac_field_parts.specs.Symbols.{number_said}
 use Rattle.bac_fields.specs.Laws.ServiceMessages.{reference_said, reference_message, value_said, value_message, cause_said, cause_message, result_said, result_message, specification_said, specification_message, access_said, access_message, write_specification_said, write_specification_message}
 use Rattle.bac_fields.proofs.LineLemmas.{object_is}
 use Rattle.bac_fields.proofs.Once.{Telling, number_tells, and_then, perhaps, each, or_else, by_parts}

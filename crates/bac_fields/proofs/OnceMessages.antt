@@ -3,13 +3,13 @@ use Rattle.std.specs.Prelude.{◌≡◌, ℕ, Option, Some, List, [], ◌∷◌,
 use Rattle.std.proofs.Common.{sym, ◌∙◌, ap, subst}
 use Rattle.bac_npdu.specs.Messages.{MessageValue, SpellsMessage}
 use Rattle.bac_fields.specs.MessageSymbols.{message_said, Layout, who_is, i_am, could_be, reject, busy, available, table, table_ack, establishing, disconnecting, number_wanted, number_told, plain, vendored, SaidIn, message_in, layout_said, layout_told}
-use Rattle.bac_fields.specs.Symbols.{no_number, no_octet_number, no_octets, number_said, contents_said}
-use Rattle.bac_fields.specs.Tables.{SpellsTable}
-use Rattle.bac_fields.specs.declared.names.Name.TheVariants as name
+use Rattle.bac_field_parts.specs.Symbols.{no_number, no_octet_number, no_octets, number_said, contents_said}
+use Rattle.bac_field_parts.specs.Tables.{SpellsTable}
+use Rattle.bac_field_parts.specs.declared.names.Name.TheVariants as name
 use Rattle.bac_fields.specs.Laws.Layouts.{type_of, message_begins, layout_of, said_in, layout_is, who_is_alike, i_am_alike, could_be_alike, reject_alike, busy_alike, available_alike, table_alike, table_ack_alike, establishing_alike, disconnecting_alike, number_wanted_alike, number_told_alike, plain_alike, vendored_alike}
-use Rattle.bac_fields.specs.Laws.Messages.{Alike}
+use Rattle.bac_field_parts.specs.Laws.Messages.{Alike}
 use Rattle.bac_fields.specs.Laws.NetworkMessages.{who_is_router_message, networks_message, network_number_message, reject_message, disconnect_message, number_wanted_message, port_said, SpellsPort, port_message, table_parts_said, SpellsTableParts, init_table_message, init_table_ack_message, plain_message, vendored_message}
-use Rattle.bac_fields.specs.Laws.Parts.{list_said}
+use Rattle.bac_field_parts.specs.Laws.Parts.{list_said}
 use Rattle.bac_fields.proofs.Once.{Telling, held_tells, end_tells, spelled_by, and_then, perhaps, each, by_parts}
 use Rattle.bac_fields.proofs.OnceItems.{word, plain as number}
 use Rattle.bac_fields.proofs.OnceServices.{number_at}

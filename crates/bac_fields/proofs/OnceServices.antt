@@ -22,7 +22,7 @@ use Rattle.bac_service.specs.declared.services.error_cause.ErrorCause.{ErrorCaus
 use Rattle.bac_apdu.specs.Apdus.{SpellsServiceOf}
 use Rattle.bac_fields.specs.ServiceFields.{said_steps}
 use Rattle.bac_fields.specs.ServiceSymbols.{service_said}
-use Rattle.bac_fields.specs.Symbols.{Symbol, named, numbered, containing, finished, steps_said}
+use Rattle.bac_field_parts.specs.Symbols.{Symbol, named, numbered, containing, finished, steps_said}
 use Rattle.bac_fields.specs.Laws.ErrorMessages.{write_error_said, write_error_message}
 use Rattle.bac_fields.specs.Laws.NotificationMessages.{notification_said, confirmed_message, unconfirmed_message}
 use Rattle.bac_fields.specs.Laws.ServiceMessages.{SpellsChosen, read_property_said, read_property_message, read_property_ack_said, read_property_ack_message, write_property_said, write_property_message, who_is_said, who_is_message, i_am_said, i_am_message, subscribe_cov_said, subscribe_cov_message}

@@ -12,11 +12,11 @@ use Rattle.bac_data.specs.Events.{Event, application, contextual, opening, closi
 use Rattle.bac_data.specs.Laws.Events.{value_of_events-events}
 use Rattle.bac_data.specs.Spells.{SpellsOpen}
 use Rattle.bac_fields.specs.Line.{object_of}
-use Rattle.bac_fields.specs.Names.{number_of}
-use Rattle.bac_fields.specs.OpenValueFields.{event_field}
-use Rattle.bac_fields.specs.Symbols.{Symbol, named, has_contents}
-use Rattle.bac_fields.specs.Laws.Firsts.{field_then}
-use Rattle.bac_fields.specs.Laws.Rests.{event_said, event_name, value_end, open_told}
+use Rattle.bac_field_parts.specs.Names.{number_of}
+use Rattle.bac_field_parts.specs.OpenValueFields.{event_field}
+use Rattle.bac_field_parts.specs.Symbols.{Symbol, named, has_contents}
+use Rattle.bac_field_parts.specs.Laws.Firsts.{field_then}
+use Rattle.bac_field_parts.specs.Laws.Rests.{event_said, event_name, value_end, open_told}
 use Rattle.bac_fields.specs.Laws.ServiceMessages.{open_said}
 use Rattle.bac_fields.proofs.EventRanges.{Each, HoldsEvent, elements_hold}
 use Rattle.bac_fields.proofs.LineLemmas.{object_is}

@@ -19,10 +19,10 @@ use Rattle.bac_npdu.specs.Messages.{MessageValue, opaque, octets_of, SpellsMessa
 use Rattle.bac_npdu.specs.Addresses.{SourceValue, DestinationValue}
 use Rattle.bac_npdu.specs.Frames.{FrameValue, BodyValue, apdu, message, SpellsBody, SpellsFrame}
 use Rattle.bac_npdu.proofs.OnceLemmas.{message_one}
-use Rattle.bac_fields.specs.declared.names.Name.TheVariants as name
-use Rattle.bac_fields.specs.Names.{number_of}
-use Rattle.bac_fields.specs.Fields.{FieldValue, Step, pass, fields_of, word, optional, held_field, address_field}
-use Rattle.bac_fields.specs.PrimitiveFields.{truth, object_number, number_under}
+use Rattle.bac_field_parts.specs.declared.names.Name.TheVariants as name
+use Rattle.bac_field_parts.specs.Names.{number_of}
+use Rattle.bac_field_parts.specs.Fields.{FieldValue, Step, pass, fields_of, word, optional, held_field, address_field}
+use Rattle.bac_field_parts.specs.PrimitiveFields.{truth, object_number, number_under}
 use Rattle.bac_fields.specs.WritePropertyMultipleFields.{write_error_steps}
 use Rattle.bac_fields.specs.ServiceFields.{said_steps, service_steps}
 use Rattle.bac_fields.specs.ApduFields.{part_steps, apdu_steps}

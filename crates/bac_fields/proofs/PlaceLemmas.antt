@@ -8,13 +8,13 @@ use Rattle.std.proofs.Math.ListN.{get_or-append}
 use Rattle.std.proofs.Math.Seq.{take-append_seam, drop-append_seam}
 use Rattle.bac_tag.specs.Spelling.{IsLeast, Joins}
 use Rattle.bac_service.specs.Laws.Least.{least_joined}
-use Rattle.bac_fields.specs.declared.names.Name.{Name}
-use Rattle.bac_fields.specs.declared.field.Field.{Field}
-use Rattle.bac_fields.specs.Fields.{FieldValue, Step, next, aside, pass, size_of, fields_of, placed, field_at, held_at, room_with, Fits}
+use Rattle.bac_field_parts.specs.declared.names.Name.{Name}
+use Rattle.bac_field_parts.specs.declared.field.Field.{Field}
+use Rattle.bac_field_parts.specs.Fields.{FieldValue, Step, next, aside, pass, size_of, fields_of, placed, field_at, held_at, room_with, Fits}
 use Rattle.bac_fields.proofs.LineLemmas.{fields_of-append}
-use Rattle.bac_fields.specs.Names.{number_of}
+use Rattle.bac_field_parts.specs.Names.{number_of}
 use Rattle.bac_fields.specs.Places.{HoldsNumber, AreAt}
-use Rattle.bac_fields.specs.Symbols.{has_contents}
+use Rattle.bac_field_parts.specs.Symbols.{has_contents}
 
 -- From here on, the octets are those of the steps, one after another.
 abbrev pub LaidOut : List Step → List ℕ → Type 0

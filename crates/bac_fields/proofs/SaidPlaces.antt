@@ -4,11 +4,11 @@ use Rattle.std.proofs.Common.{sym, ◌∙◌, ap, arith, append_assoc}
 use Rattle.std.proofs.Math.Seq.{take-append_seam, drop-append_seam}
 use Rattle.std.proofs.lemmas.Bool.{le-leb}
 use Rattle.std.proofs.lemmas.List.{take-append-drop, drop-drop}
-use Rattle.bac_fields.specs.declared.names.Name.{Name}
-use Rattle.bac_fields.specs.Names.{number_of}
-use Rattle.bac_fields.specs.Fields.{FieldValue, Step, next, aside, pass, size_of, placed, field_at, held_at, held_field}
+use Rattle.bac_field_parts.specs.declared.names.Name.{Name}
+use Rattle.bac_field_parts.specs.Names.{number_of}
+use Rattle.bac_field_parts.specs.Fields.{FieldValue, Step, next, aside, pass, size_of, placed, field_at, held_at, held_field}
 use Rattle.bac_fields.specs.Places.{AreAt}
-use Rattle.bac_fields.specs.Symbols.{Symbol, named, numbered, containing, finished, has_contents, contents_in, symbols_in, field_said, steps_said}
+use Rattle.bac_field_parts.specs.Symbols.{Symbol, named, numbered, containing, finished, has_contents, contents_in, symbols_in, field_said, steps_said}
 
 module _ (c : List ℕ) where
   -- nothing is past the last octet

@@ -56,10 +56,10 @@ use Rattle.bac_text.specs.CovNotificationText.{notification_name, notification_t
 use Rattle.bac_text.specs.ServiceErrorText.{service_error_text}
 use Rattle.bac_text.specs.OpaqueText.{opaque_text}
 use Rattle.bac_text.specs.ServiceText.{said_text, service_text}
-use Rattle.bac_fields.specs.declared.names.Name.{Name}
-use Rattle.bac_fields.specs.declared.names.Name.TheVariants as name
-use Rattle.bac_fields.specs.Fields.{FieldValue, Step, next, word, octet_field, octets_field, optional, opening_field, closing_field, item_steps, listed_in}
-use Rattle.bac_fields.specs.PrimitiveFields.{number_under, truth_under, object_under, unsigned_field, enumerated_field, object_field}
+use Rattle.bac_field_parts.specs.declared.names.Name.{Name}
+use Rattle.bac_field_parts.specs.declared.names.Name.TheVariants as name
+use Rattle.bac_field_parts.specs.Fields.{FieldValue, Step, next, word, octet_field, octets_field, optional, opening_field, closing_field, item_steps, listed_in}
+use Rattle.bac_field_parts.specs.PrimitiveFields.{number_under, truth_under, object_under, unsigned_field, enumerated_field, object_field}
 use Rattle.bac_fields.specs.PropertyFields.{property_steps, cause_steps, reference_steps, read_result_steps, property_result_steps, property_value_steps}
 use Rattle.bac_fields.specs.ReadPropertyFields.{read_property_steps, read_property_ack_steps}
 use Rattle.bac_fields.specs.ReadPropertyMultipleFields.{specification_steps, read_multiple_steps, access_result_steps, read_multiple_ack_steps}
@@ -70,11 +70,11 @@ use Rattle.bac_fields.specs.IAmFields.{i_am_steps}
 use Rattle.bac_fields.specs.SubscribeCovFields.{subscribe_cov_steps}
 use Rattle.bac_fields.specs.CovNotificationFields.{notification_field, notification_steps}
 use Rattle.bac_fields.specs.ServiceErrorFields.{service_error_steps}
-use Rattle.bac_fields.specs.OpaqueFields.{opaque_steps}
+use Rattle.bac_field_parts.specs.OpaqueFields.{opaque_steps}
 use Rattle.bac_fields.specs.ServiceFields.{said_steps, service_steps}
-use Rattle.bac_fields.specs.Names.{word_of}
+use Rattle.bac_field_parts.specs.Names.{word_of}
 use Rattle.bac_fields.specs.Line.{form_of, as_object, as_list, as_parenthesis, lead, shown, begins}
-use Rattle.bac_fields.specs.OpenValueFields.{open_steps}
+use Rattle.bac_field_parts.specs.OpenValueFields.{open_steps}
 use Rattle.bac_fields.proofs.EventRanges.{Each}
 use Rattle.bac_fields.proofs.LineLemmas.{Prints, same_line, same_steps, both, opened, one, passed, nothing, closed, truth_in, object_in, optional_part, item, list_rest}
 use Rattle.bac_fields.proofs.ValueLines.{open_line}

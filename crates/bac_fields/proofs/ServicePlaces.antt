@@ -32,16 +32,16 @@ use Rattle.bac_service.specs.ServiceTable.{ServiceProduction, read_property, rea
 use Rattle.bac_service.specs.ServiceValues.{SaidBy, Said, ServiceValue}
 use Rattle.bac_service.specs.Services.{SpellsBy, SpellsSaid, SpellsService}
 use Rattle.bac_service.specs.Laws.Least.{least_joined, least_nothing}
-use Rattle.bac_fields.specs.declared.names.Name.{Name}
-use Rattle.bac_fields.specs.declared.names.Name.TheVariants as name
-use Rattle.bac_fields.specs.Fields.{FieldValue, Step, next, pass, word, octet_field, octets_field, optional, item_steps, opening_field, closing_field, listed_in}
-use Rattle.bac_fields.specs.PrimitiveFields.{number_under, truth_under, object_under}
+use Rattle.bac_field_parts.specs.declared.names.Name.{Name}
+use Rattle.bac_field_parts.specs.declared.names.Name.TheVariants as name
+use Rattle.bac_field_parts.specs.Fields.{FieldValue, Step, next, pass, word, octet_field, octets_field, optional, item_steps, opening_field, closing_field, listed_in}
+use Rattle.bac_field_parts.specs.PrimitiveFields.{number_under, truth_under, object_under}
 use Rattle.bac_fields.specs.PropertyFields.{property_steps, cause_steps, reference_steps, read_result_steps, property_result_steps, property_value_steps}
 use Rattle.bac_fields.specs.ReadPropertyMultipleFields.{specification_steps, access_result_steps}
 use Rattle.bac_fields.specs.WritePropertyMultipleFields.{write_specification_steps, write_error_steps}
 use Rattle.bac_fields.specs.WhoIsFields.{limits_steps}
 use Rattle.bac_fields.specs.CovNotificationFields.{notification_field}
-use Rattle.bac_fields.specs.OpaqueFields.{opaque_steps}
+use Rattle.bac_field_parts.specs.OpaqueFields.{opaque_steps}
 use Rattle.bac_fields.specs.ServiceFields.{said_steps, service_steps}
 use Rattle.bac_fields.proofs.EventRanges.{Each}
 use Rattle.bac_fields.proofs.PlaceLemmas.{Lays, lays_next, lays_pass, lays_both, lays_same, Tells, tells_nothing, tells_next, tells_both, tells_same, count, count-append, Laid, laid_joined, Roomy, roomy_joined}

@@ -4,9 +4,9 @@ use Rattle.std.proofs.Common.{◌≡◌, ◌≤◌, ◌<◌, ◌+◌, ◌++◌, 
 use Rattle.std.proofs.Math.ListN.{set}
 use Rattle.std.proofs.lemmas.Bool.{cond-true, lt-ltb}
 use Rattle.std.proofs.lemmas.List.{take-append-drop, take_more_set, drop-set-lt, length-set}
-use Rattle.bac_fields.specs.declared.cursor.Cursor.{Cursor}
-use Rattle.bac_fields.specs.declared.field.Field.{Field}
-use Rattle.bac_fields.specs.Fields.{Step, next, aside, pass, told, placed, pen_of, Writes, Fits, size_of, field_at, held_at, room_with}
+use Rattle.bac_field_parts.specs.declared.cursor.Cursor.{Cursor}
+use Rattle.bac_field_parts.specs.declared.field.Field.{Field}
+use Rattle.bac_field_parts.specs.Fields.{Step, next, aside, pass, told, placed, pen_of, Writes, Fits, size_of, field_at, held_at, room_with}
 
 -- each field counts
 pub count-told : (steps : List Step) (room : List Field) (count place : ℕ) → (told (record { room = room; count = count; place = place }) steps).count ≡ count + length (placed place steps)

@@ -18,10 +18,10 @@ use Rattle.bac_text.specs.PrimitiveText.{bit_digit, primitive_text}
 use Rattle.bac_text.specs.OpenValueText.{open_text}
 use Rattle.bac_text.specs.WalkText.{blank, event_text, begins_group, events_text}
 use Rattle.bac_text.proofs.WalkLemmas.{walk_joined}
-use Rattle.bac_fields.specs.declared.names.Name.TheVariants as name
-use Rattle.bac_fields.specs.Fields.{FieldValue, next, opening_field, closing_field}
-use Rattle.bac_fields.specs.PrimitiveFields.{primitive_field, truth}
-use Rattle.bac_fields.specs.OpenValueFields.{event_field, event_step, open_steps}
+use Rattle.bac_field_parts.specs.declared.names.Name.TheVariants as name
+use Rattle.bac_field_parts.specs.Fields.{FieldValue, next, opening_field, closing_field}
+use Rattle.bac_field_parts.specs.PrimitiveFields.{primitive_field, truth}
+use Rattle.bac_field_parts.specs.OpenValueFields.{event_field, event_step, open_steps}
 use Rattle.bac_fields.specs.Line.{as_brace, form_of, shown, begins, lead}
 use Rattle.bac_fields.proofs.LineLemmas.{Prints, line_of, same_line, stepped, opened, one, object_is}
 use Rattle.bac_fields.proofs.EventRanges.{Each, HoldsEvent, elements_hold}

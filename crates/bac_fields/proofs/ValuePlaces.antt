@@ -34,13 +34,13 @@ use Rattle.bac_service.specs.Fields.{heading, IsField}
 use Rattle.bac_service.specs.Contents.{ObjectField, EnumeratedField, UnsignedField, InstanceField, PriorityField, BooleanField, ApplicationObject, ApplicationUnsigned, ApplicationEnumerated, ApplicationUnsigned16}
 use Rattle.bac_service.specs.Laws.Least.{least_nothing}
 use Rattle.bac_service.specs.Laws.Field.{least_field}
-use Rattle.bac_fields.specs.declared.names.Name.{Name}
-use Rattle.bac_fields.specs.declared.names.Name.TheVariants as name
-use Rattle.bac_fields.specs.Fields.{FieldValue, next, opening_field, closing_field}
-use Rattle.bac_fields.specs.PrimitiveFields.{truth, object_number, primitive_field, number_under, truth_under, object_under, unsigned_field, enumerated_field, object_field}
-use Rattle.bac_fields.specs.OpenValueFields.{event_field, event_step, open_steps}
+use Rattle.bac_field_parts.specs.declared.names.Name.{Name}
+use Rattle.bac_field_parts.specs.declared.names.Name.TheVariants as name
+use Rattle.bac_field_parts.specs.Fields.{FieldValue, next, opening_field, closing_field}
+use Rattle.bac_field_parts.specs.PrimitiveFields.{truth, object_number, primitive_field, number_under, truth_under, object_under, unsigned_field, enumerated_field, object_field}
+use Rattle.bac_field_parts.specs.OpenValueFields.{event_field, event_step, open_steps}
 use Rattle.bac_fields.proofs.EventRanges.{Each, HoldsEvent, elements_hold}
-use Rattle.bac_fields.proofs.FieldLemmas.{length-packed_bits}
+use Rattle.bac_field_parts.proofs.FieldLemmas.{length-packed_bits}
 use Rattle.bac_fields.proofs.PlaceLemmas.{tells_nothing, tells_next, tells_both, tells_same, count-append, Laid, laid_joined, Roomy}
 
 -- ---- fields under tags

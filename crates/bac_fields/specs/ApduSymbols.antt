@@ -7,9 +7,9 @@ use Rattle.bac_apdu.specs.declared.confirmed_request.RequestHead.{RequestHead}
 use Rattle.bac_apdu.specs.declared.segment.SegHead.TheVariants.{Request, Ack}
 use Rattle.bac_apdu.specs.Apdus.{ApduValue, SpellsApdu}
 use Rattle.bac_apdu.specs.Apdus as apdus
-use Rattle.bac_fields.specs.declared.numbers.Nothing.{Nothing}
+use Rattle.bac_field_parts.specs.declared.numbers.Nothing.{Nothing}
 use Rattle.bac_fields.specs.ApduFields.{apdu_steps}
-use Rattle.bac_fields.specs.Symbols.{Symbol, finished, steps_said}
+use Rattle.bac_field_parts.specs.Symbols.{Symbol, finished, steps_said}
 
 -- the symbols of an APDU, to the end of the fields
 abbrev pub apdu_said : ApduValue → List Symbol

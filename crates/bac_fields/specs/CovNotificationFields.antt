@@ -3,9 +3,9 @@ use Rattle.std.specs.Prelude.{List, ◌∷◌}
 use Rattle.bac_service.specs.declared.kind.Kind.{Kind}
 use Rattle.bac_service.specs.declared.kind.Kind.TheVariants.{Confirmed}
 use Rattle.bac_service.specs.CovNotification.{Notification}
-use Rattle.bac_fields.specs.declared.names.Name.TheVariants as name
-use Rattle.bac_fields.specs.Fields.{FieldValue, Step, next, octet_field, listed_in}
-use Rattle.bac_fields.specs.PrimitiveFields.{object_under, number_under}
+use Rattle.bac_field_parts.specs.declared.names.Name.TheVariants as name
+use Rattle.bac_field_parts.specs.Fields.{FieldValue, Step, next, octet_field, listed_in}
+use Rattle.bac_field_parts.specs.PrimitiveFields.{object_under, number_under}
 use Rattle.bac_fields.specs.PropertyFields.{property_value_steps}
 
 -- a notification is one of the two kinds of request

@@ -2,10 +2,10 @@
 use Rattle.std.specs.Prelude.{ℕ, ◌+◌, Bool, Option, None, Some, List, [], ◌∷◌, ◌++◌, length}
 use Rattle.bac_npdu.specs.Addresses.{SourceValue, DestinationValue}
 use Rattle.bac_npdu.specs.Frames.{FrameValue, BodyValue, apdu, message}
-use Rattle.bac_fields.specs.declared.names.Name.TheVariants as name
-use Rattle.bac_fields.specs.declared.field.Field.{Field}
-use Rattle.bac_fields.specs.Fields.{FieldValue, Step, next, aside, pass, address_field, fields_of, placed, Fits}
-use Rattle.bac_fields.specs.PrimitiveFields.{truth}
+use Rattle.bac_field_parts.specs.declared.names.Name.TheVariants as name
+use Rattle.bac_field_parts.specs.declared.field.Field.{Field}
+use Rattle.bac_field_parts.specs.Fields.{FieldValue, Step, next, aside, pass, address_field, fields_of, placed, Fits}
+use Rattle.bac_field_parts.specs.PrimitiveFields.{truth}
 use Rattle.bac_fields.specs.ApduFields.{apdu_steps}
 use Rattle.bac_fields.specs.MessageFields.{message_steps}
 

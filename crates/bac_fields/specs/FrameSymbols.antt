@@ -6,10 +6,10 @@ use Rattle.bac_tag.specs.Spelling.{AppendsLeast}
 use Rattle.bac_npdu.specs.declared.frame_head.DestRef.{DestRef}
 use Rattle.bac_npdu.specs.Addresses.{SourceValue, DestinationValue}
 use Rattle.bac_npdu.specs.Frames.{FrameValue, BodyValue, SpellsBody, SpellsFrame}
-use Rattle.bac_fields.specs.declared.field.Field.{Field}
+use Rattle.bac_field_parts.specs.declared.field.Field.{Field}
 use Rattle.bac_fields.specs.FrameFields.{frame_steps, body_steps}
-use Rattle.bac_fields.specs.PrimitiveFields.{truth}
-use Rattle.bac_fields.specs.Symbols.{Symbol, Language, IsStop, Read, Unwritten, finished, steps_said, number_said, contents_said, has, lead_in, symbols_in}
+use Rattle.bac_field_parts.specs.PrimitiveFields.{truth}
+use Rattle.bac_field_parts.specs.Symbols.{Symbol, Language, IsStop, Read, Unwritten, finished, steps_said, number_said, contents_said, has, lead_in, symbols_in}
 
 -- the symbols of a frame, to the end of the fields
 abbrev pub frame_said : FrameValue → List Symbol

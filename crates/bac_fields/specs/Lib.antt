@@ -1,7 +1,3 @@
-pub mod Names
-pub mod Fields
-pub mod PrimitiveFields
-pub mod OpenValueFields
 pub mod PropertyFields
 pub mod ReadPropertyFields
 pub mod ReadPropertyMultipleFields
@@ -12,17 +8,12 @@ pub mod IAmFields
 pub mod SubscribeCovFields
 pub mod CovNotificationFields
 pub mod ServiceErrorFields
-pub mod OpaqueFields
 pub mod ServiceFields
 pub mod ApduFields
 pub mod MessageFields
 pub mod FrameFields
 pub mod Line
 pub mod Places
-pub mod Symbols
-pub mod Opaques
-pub mod OctetForms
-pub mod Tables
 pub mod MessageSymbols
 pub mod Laws
 pub mod ServiceSymbols

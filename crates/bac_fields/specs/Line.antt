@@ -9,10 +9,10 @@ use Rattle.bac_text.specs.Words.{number, object_text}
 use Rattle.bac_text.specs.PrimitiveText.{bit_digit, string_text}
 use Rattle.bac_text.specs.WalkText.{blank}
 use Rattle.bac_text.specs.FrameText.{address_text}
-use Rattle.bac_fields.specs.declared.names.Name.{Name}
-use Rattle.bac_fields.specs.declared.names.Name.TheVariants as name
-use Rattle.bac_fields.specs.Fields.{FieldValue}
-use Rattle.bac_fields.specs.Names.{word_of}
+use Rattle.bac_field_parts.specs.declared.names.Name.{Name}
+use Rattle.bac_field_parts.specs.declared.names.Name.TheVariants as name
+use Rattle.bac_field_parts.specs.Fields.{FieldValue}
+use Rattle.bac_field_parts.specs.Names.{word_of}
 
 -- What is in the line for a field.
 pub data Form : Type 0 where

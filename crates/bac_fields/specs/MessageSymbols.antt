@@ -3,9 +3,9 @@ use Rattle.std.specs.Prelude.{◌≡◌, ℕ, ◌<◌, nat_le, Bool, false, cond
 use Rattle.bac_npdu.specs.declared.messages.port.Port.{Port}
 use Rattle.bac_npdu.specs.Messages.{MessageValue, who_is_router, i_am_router, i_could_be_router, reject_message, router_busy, router_available, init_table, init_table_ack, establish, disconnect, what_is_network_number, network_number_is, opaque}
 use Rattle.bac_npdu.specs.MessageTypes.{is_typed}
-use Rattle.bac_fields.specs.declared.field.Field.{Field}
+use Rattle.bac_field_parts.specs.declared.field.Field.{Field}
 use Rattle.bac_fields.specs.MessageFields.{message_steps}
-use Rattle.bac_fields.specs.Symbols.{Symbol, finished, steps_said}
+use Rattle.bac_field_parts.specs.Symbols.{Symbol, finished, steps_said}
 
 -- the symbols of a message, to the end of the fields
 abbrev pub message_said : MessageValue → List Symbol

@@ -1,10 +1,10 @@
 -- Where the octets of fields are (clauses 6.2.2 and 20.1).
 use Rattle.std.specs.Prelude.{◌≡◌, ℕ, ◌+◌, ◌/◌, ◌%◌, ◌<◌, false, List, [], ◌∷◌, ◌++◌, length, take, drop, slice_index}
-use Rattle.bac_fields.specs.declared.names.Name.{Name}
-use Rattle.bac_fields.specs.declared.names.Name.TheVariants as name
-use Rattle.bac_fields.specs.Names.{number_of}
-use Rattle.bac_fields.specs.Fields.{Step, next, aside, pass, size_of}
-use Rattle.bac_fields.specs.Symbols.{has_contents}
+use Rattle.bac_field_parts.specs.declared.names.Name.{Name}
+use Rattle.bac_field_parts.specs.declared.names.Name.TheVariants as name
+use Rattle.bac_field_parts.specs.Names.{number_of}
+use Rattle.bac_field_parts.specs.Fields.{Step, next, aside, pass, size_of}
+use Rattle.bac_field_parts.specs.Symbols.{has_contents}
 
 -- An octet of the head of a frame or of an APDU holds the number of a field: in some of its bits, or as a whole. The
 -- highest four bits of its first octet say which APDU it is.

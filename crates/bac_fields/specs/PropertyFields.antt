@@ -6,10 +6,10 @@ use Rattle.bac_service.specs.declared.services.property_result.ReadResult.{ReadR
 use Rattle.bac_service.specs.declared.services.property_result.ReadResult.TheVariants.{Value, Error}
 use Rattle.bac_service.specs.declared.services.property_result.PropertyResult.{PropertyResult}
 use Rattle.bac_service.specs.declared.services.property_value.PropertyValue.{PropertyValue}
-use Rattle.bac_fields.specs.declared.names.Name.TheVariants as name
-use Rattle.bac_fields.specs.Fields.{Step, next, optional, opening_field, closing_field}
-use Rattle.bac_fields.specs.PrimitiveFields.{number_under, enumerated_field}
-use Rattle.bac_fields.specs.OpenValueFields.{open_steps}
+use Rattle.bac_field_parts.specs.declared.names.Name.TheVariants as name
+use Rattle.bac_field_parts.specs.Fields.{Step, next, optional, opening_field, closing_field}
+use Rattle.bac_field_parts.specs.PrimitiveFields.{number_under, enumerated_field}
+use Rattle.bac_field_parts.specs.OpenValueFields.{open_steps}
 
 -- a property under the first tag, and under the second the index, where one element is meant
 abbrev pub property_steps : ℕ → ℕ → ℕ → Option ℕ → List Step

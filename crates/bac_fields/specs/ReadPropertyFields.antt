@@ -2,10 +2,10 @@
 use Rattle.std.specs.Prelude.{List, ◌∷◌, ◌++◌}
 use Rattle.bac_service.specs.declared.services.read_property.ReadProperty.{ReadProperty}
 use Rattle.bac_service.specs.declared.services.read_property_ack.ReadPropertyAck.{ReadPropertyAck}
-use Rattle.bac_fields.specs.declared.names.Name.TheVariants as name
-use Rattle.bac_fields.specs.Fields.{Step, next, octet_field}
-use Rattle.bac_fields.specs.PrimitiveFields.{object_under}
-use Rattle.bac_fields.specs.OpenValueFields.{open_steps}
+use Rattle.bac_field_parts.specs.declared.names.Name.TheVariants as name
+use Rattle.bac_field_parts.specs.Fields.{Step, next, octet_field}
+use Rattle.bac_field_parts.specs.PrimitiveFields.{object_under}
+use Rattle.bac_field_parts.specs.OpenValueFields.{open_steps}
 use Rattle.bac_fields.specs.PropertyFields.{property_steps}
 
 abbrev pub read_property_steps : ReadProperty → List Step

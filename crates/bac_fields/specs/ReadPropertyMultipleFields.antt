@@ -3,9 +3,9 @@ use Rattle.std.specs.Prelude.{List, [], ◌∷◌}
 use Rattle.std.specs.Option.{option_map_or}
 use Rattle.bac_service.specs.ReadAccessSpecification.{Specification}
 use Rattle.bac_service.specs.ReadAccessResult.{AccessResult}
-use Rattle.bac_fields.specs.declared.names.Name.TheVariants as name
-use Rattle.bac_fields.specs.Fields.{Step, next, octet_field, listed, listed_in}
-use Rattle.bac_fields.specs.PrimitiveFields.{object_under}
+use Rattle.bac_field_parts.specs.declared.names.Name.TheVariants as name
+use Rattle.bac_field_parts.specs.Fields.{Step, next, octet_field, listed, listed_in}
+use Rattle.bac_field_parts.specs.PrimitiveFields.{object_under}
 use Rattle.bac_fields.specs.PropertyFields.{reference_steps, property_result_steps}
 
 abbrev pub specification_steps : Specification → List Step

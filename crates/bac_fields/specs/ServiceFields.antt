@@ -3,7 +3,7 @@ use Rattle.std.specs.Prelude.{ℕ, Option, None, Some, List}
 use Rattle.bac_service.specs.declared.kind.Kind.{Kind}
 use Rattle.bac_service.specs.ServiceTable.{ServiceProduction, read_property, read_property_ack, read_property_multiple, read_property_multiple_ack, write_property, write_property_multiple, write_property_multiple_error, who_is, i_am, subscribe_cov, cov_notification, service_error}
 use Rattle.bac_service.specs.ServiceValues.{SaidBy, Said, ServiceValue}
-use Rattle.bac_fields.specs.Fields.{Step}
+use Rattle.bac_field_parts.specs.Fields.{Step}
 use Rattle.bac_fields.specs.ReadPropertyFields.{read_property_steps, read_property_ack_steps}
 use Rattle.bac_fields.specs.ReadPropertyMultipleFields.{read_multiple_steps, read_multiple_ack_steps}
 use Rattle.bac_fields.specs.WritePropertyFields.{write_property_steps}
@@ -13,7 +13,7 @@ use Rattle.bac_fields.specs.IAmFields.{i_am_steps}
 use Rattle.bac_fields.specs.SubscribeCovFields.{subscribe_cov_steps}
 use Rattle.bac_fields.specs.CovNotificationFields.{notification_steps}
 use Rattle.bac_fields.specs.ServiceErrorFields.{service_error_steps}
-use Rattle.bac_fields.specs.OpaqueFields.{opaque_steps}
+use Rattle.bac_field_parts.specs.OpaqueFields.{opaque_steps}
 
 -- what a service of this kind and this choice says by its production
 abbrev pub steps_by : Kind → ℕ → (production : ServiceProduction) → SaidBy production → List Step

@@ -8,7 +8,7 @@ use Rattle.bac_service.specs.Services.{SpellsService}
 use Rattle.bac_service.specs.declared.kind.Kind.{Kind}
 use Rattle.bac_service.specs.declared.kind.Kind.TheVariants.{Confirmed, Unconfirmed, ComplexAck, Error}
 use Rattle.bac_fields.specs.ServiceFields.{service_steps}
-use Rattle.bac_fields.specs.Symbols.{Symbol, finished, steps_said, the_octet}
+use Rattle.bac_field_parts.specs.Symbols.{Symbol, finished, steps_said, the_octet}
 
 -- the symbols of a service, to the end of the fields
 abbrev pub service_said : ServiceValue → List Symbol

@@ -1,10 +1,10 @@
 -- The fields of WriteProperty (clause 15.9).
 use Rattle.std.specs.Prelude.{List, ◌∷◌, ◌++◌}
 use Rattle.bac_service.specs.declared.services.write_property.WriteProperty.{WriteProperty}
-use Rattle.bac_fields.specs.declared.names.Name.TheVariants as name
-use Rattle.bac_fields.specs.Fields.{Step, next, optional, octet_field}
-use Rattle.bac_fields.specs.PrimitiveFields.{object_under, number_under}
-use Rattle.bac_fields.specs.OpenValueFields.{open_steps}
+use Rattle.bac_field_parts.specs.declared.names.Name.TheVariants as name
+use Rattle.bac_field_parts.specs.Fields.{Step, next, optional, octet_field}
+use Rattle.bac_field_parts.specs.PrimitiveFields.{object_under, number_under}
+use Rattle.bac_field_parts.specs.OpenValueFields.{open_steps}
 use Rattle.bac_fields.specs.PropertyFields.{property_steps}
 
 abbrev pub write_property_steps : WriteProperty → List Step

@@ -2,9 +2,9 @@
 use Rattle.std.specs.Prelude.{List, [], ◌∷◌, ◌++◌}
 use Rattle.bac_service.specs.WriteAccessSpecification.{WriteSpecification}
 use Rattle.bac_service.specs.declared.services.write_property_multiple_error.WritePropertyMultipleError.{WritePropertyMultipleError}
-use Rattle.bac_fields.specs.declared.names.Name.TheVariants as name
-use Rattle.bac_fields.specs.Fields.{Step, next, pass, octet_field, listed, listed_in}
-use Rattle.bac_fields.specs.PrimitiveFields.{object_under}
+use Rattle.bac_field_parts.specs.declared.names.Name.TheVariants as name
+use Rattle.bac_field_parts.specs.Fields.{Step, next, pass, octet_field, listed, listed_in}
+use Rattle.bac_field_parts.specs.PrimitiveFields.{object_under}
 use Rattle.bac_fields.specs.PropertyFields.{property_steps, cause_steps, property_value_steps}
 
 abbrev pub write_specification_steps : WriteSpecification → List Step

@@ -11,13 +11,13 @@ pub(crate) mod segment_ack;
 pub(crate) mod simple_ack;
 pub(crate) mod unconfirmed_request;
 
-use crate::cursor::Cursor;
-use crate::field::Field;
-use crate::making::{Fault, FromFields, Part, lead};
 use crate::parts::HasFields;
-use crate::whole::Whole;
 use abort::{AbortFields, tell_abort};
 use bac_apdu::Apdu;
+use bac_field_parts::Field;
+use bac_field_parts::cursor::Cursor;
+use bac_field_parts::making::{Fault, FromFields, Part, lead};
+use bac_field_parts::whole::Whole;
 use complex_ack::ComplexAckFields;
 use confirmed_request::ConfirmedRequestFields;
 use error_pdu::ErrorFields;

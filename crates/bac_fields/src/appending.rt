@@ -6,9 +6,9 @@ ghost use Rattle.bac_npdu.specs.FrameHeads.{frame_with};
 ghost use Rattle.bac_npdu.specs.Frames.{SpellsFrame, body_value, value_of};
 ghost use Rattle.bac_fields.specs.FrameFields.{placed_fields, FrameFits};
 
-use crate::cursor::Cursor;
-use crate::field::Field;
 use crate::frames::tell_frame;
+use bac_field_parts::Field;
+use bac_field_parts::cursor::Cursor;
 use bac_npdu::{Body, Frame, FrameHead, append_frame};
 use bac_tag::OutOfMemory;
 

@@ -7,16 +7,15 @@ ghost use Rattle.bac_npdu.specs.Addresses.{addressed, destination_of, source_of,
 ghost use Rattle.bac_npdu.specs.Control.{least_control};
 ghost use Rattle.bac_npdu.specs.FrameHeads.{address_read, destination_read};
 ghost use Rattle.bac_npdu.specs.Frames.{is_there, SpellsFrame};
-ghost use Rattle.bac_fields.specs.Names.{number_of};
+ghost use Rattle.bac_field_parts.specs.Names.{number_of};
 ghost use Rattle.bac_fields.specs.FrameSymbols.{frame_said, address_said, address_fits, destination_said, destination_fits, source_said, source_fits, destination_leads, source_leads, destination_parts, IsOptionalRead, HeadFits, IsHeadOf, IsLedStop};
 ghost use Rattle.bac_fields.specs.FrameFronts.{front_said};
-ghost use Rattle.bac_fields.specs.Symbols.{has_contents, symbols_in, Language, IsStop, IfStop, Read, Unwritten};
+ghost use Rattle.bac_field_parts.specs.Symbols.{has_contents, symbols_in, Language, IsStop, IfStop, Read, Unwritten};
 
-use crate::field::Field;
-use crate::forms::contents_of;
-use crate::making::{Fault, Part, lead};
-use crate::names::Name;
-use crate::numbers::{FromNumbers, Small, number_named};
+use bac_field_parts::forms::contents_of;
+use bac_field_parts::making::{Fault, Part, lead};
+use bac_field_parts::numbers::{FromNumbers, Small, number_named};
+use bac_field_parts::{Field, Name};
 use bac_npdu::{Addressed, DestRef, NetPriority};
 use bac_tag::OutOfMemory;
 

@@ -5,20 +5,19 @@ ghost use Rattle.bac_tag.specs.Octets.{Extends};
 ghost use Rattle.bac_npdu.specs.FrameHeads.{frame_with, address_read, destination_read};
 ghost use Rattle.bac_npdu.specs.Frames.{body_value};
 ghost use Rattle.bac_npdu.specs.Frames.{SpellsBody};
-ghost use Rattle.bac_fields.specs.Fields.{Writes};
+ghost use Rattle.bac_field_parts.specs.Fields.{Writes};
 ghost use Rattle.bac_fields.specs.FrameSymbols.{body_said, HeadFits, MadeAfter};
 ghost use Rattle.bac_fields.specs.FrameFronts.{front_said};
-ghost use Rattle.bac_fields.specs.Symbols.{symbols_in, taken_symbols, Language, IsStop, IfStop};
+ghost use Rattle.bac_field_parts.specs.Symbols.{symbols_in, taken_symbols, Language, IsStop, IfStop};
 ghost use Rattle.bac_fields.specs.FrameFields.{source_size, destination_steps, source_steps, hops_steps, addresses_steps, control_steps, frame_steps};
 
 use crate::apdus::ApduFields;
-use crate::cursor::Cursor;
-use crate::field::Field;
 use crate::frame_heads::{Front, append_front, read_front};
-use crate::making::{Fault, FromFields, lead};
 use crate::messages::MessageFields;
-use crate::names::Name;
 use crate::parts::{Address, Aside, HasFields, Pass};
+use bac_field_parts::cursor::Cursor;
+use bac_field_parts::making::{Fault, FromFields, lead};
+use bac_field_parts::{Field, Name};
 use bac_npdu::{Addressed, Body, DestRef, FrameHead};
 
 /// The destination of a frame, if there is one. Its hop count is after the source.

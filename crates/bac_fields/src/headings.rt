@@ -3,12 +3,12 @@
 ghost use Rattle.std.specs.Prelude.{◌≡◌, ◌++◌, ◌↔◌, ℕ, List, Bool, false, OnOk, IsTrue};
 ghost use Rattle.bac_tag.specs.HeadOctets.{Part as OctetOf, least_head, AreParts};
 ghost use Rattle.bac_tag.specs.Octets.{Extends};
-ghost use Rattle.bac_fields.specs.Symbols.{Heads};
-ghost use Rattle.bac_fields.specs.Laws.Numbers.{heading_lawful};
+ghost use Rattle.bac_field_parts.specs.Symbols.{Heads};
+ghost use Rattle.bac_field_parts.specs.Laws.Numbers.{heading_lawful};
 
-use crate::field::Field;
-use crate::making::{Fault, FromFields};
-use crate::numbers::FromNumbers;
+use bac_field_parts::Field;
+use bac_field_parts::making::{Fault, FromFields};
+use bac_field_parts::numbers::FromNumbers;
 use bac_tag::OutOfMemory;
 
 /// A head, which comes before what the message carries.

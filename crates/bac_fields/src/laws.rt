@@ -4,10 +4,10 @@ ghost use Rattle.std.specs.Prelude.{◌≡◌, ◌↔◌, ◌⊎◌, ℕ, ◌+�
 ghost use Rattle.bac_tag.specs.Spelling.{IsLeast, IsViable, IsPartway, JoinedBy, OneOf};
 ghost use Rattle.bac_npdu.specs.Frames.{FrameValue, SpellsFrame};
 ghost use Rattle.bac_text.specs.FrameText.{text};
-ghost use Rattle.bac_fields.specs.declared.field.Field.{Field};
+ghost use Rattle.bac_field_parts.specs.declared.field.Field.{Field};
 ghost use Rattle.bac_fields.specs.FrameFields.{fields, frame_steps, placed_fields, FrameFits};
 ghost use Rattle.bac_fields.specs.FrameSymbols.{frame_said};
-ghost use Rattle.bac_fields.specs.Symbols.{Symbol};
+ghost use Rattle.bac_field_parts.specs.Symbols.{Symbol};
 ghost use Rattle.bac_fields.specs.Line.{printed};
 ghost use Rattle.bac_fields.specs.Places.{AreAt};
 ghost use Rattle.bac_fields.specs.Making.{AreFieldsOf};

@@ -16,24 +16,21 @@
 //! is written as nested pairs of its parts, as its definition in `specs` lists them. A message has a file in `specs` with
 //! the name of its type.
 //!
-//! A `Cursor` (`cursor.rt`) says how many fields are written and where the next octets are. A field for which there is
-//! no room is counted only. So the fields are counted by the same code, with no room at all (`append_fields` and
+//! A `Cursor` of bac_field_parts says how many fields are written and where the next octets are. A field for which there
+//! is no room is counted only. So the fields are counted by the same code, with no room at all (`append_fields` and
 //! `write_fields` in `appending.rt`), and written once their number is known. If a number had no room in a `usize`, a
 //! function would return None. Which numbers these are depends only on the steps (`Fits`), so the second pass succeeds if
 //! the first one did. A frame has at most two fields for each of its canonical octets, and two more. So
 //! `write_fields_at_once` needs no first pass where there is room for as many.
 //!
 //! The way back is next to the way out: in the file in which the fields of a message are told, its parts are listed once
-//! more, as a type that implements the trait `FromFields` (`making.rt`). A part appends the canonical octets of what a
-//! front of the fields says, straight from the fields, or reports the first field that is hopeless. Pairs, parts that may
-//! be absent, choices and lists are parts too. The octets of a head are in another order than its fields, so its numbers
-//! are read first (`numbers.rt`) and its octets written then (`headings.rt`, `frame_heads.rt`). The name of a field
-//! always says which part comes next, so nothing is read twice.
+//! more, as a type that implements `Message` of bac_field_parts. Its octets are made by the parts of that crate. The
+//! octets of a head are in another order than its fields, so its numbers are read first, and its octets written then
+//! (`headings.rt`, `frame_heads.rt`).
 //!
-//! In `specs` (`Symbols.antt`) a field is three symbols: its name, its number and its contents. After the last field
-//! there is another one. So the fields that say something are a language over symbols, what fields a frame has is a list
-//! of them (`frame_said` in `FrameSymbols.antt`), and the words and lemmas that bac_tag has for spellings in octets say
-//! where fields are refused, too. The laws of the parts are in `Laws`.
+//! In `specs` the fields of a frame are a list of symbols (`frame_said` in `FrameSymbols.antt`). The words and lemmas that
+//! bac_tag has for spellings in octets say where fields are refused, too. The laws of messages by their parts are in
+//! `Laws`.
 //!
 //! The laws (`laws.rt`) say what the definitions have to do with each other: the line of a frame is its fields, printed
 //! (`Line.antt`), each field is where its place says (`Places.antt`), and the fields tell the frame. Their proofs go over
@@ -43,34 +40,20 @@
 
 mod apdus;
 mod appending;
-mod cursor;
-mod elements;
-mod field;
-mod field_refusal;
-mod forms;
 mod frame_heads;
 mod frames;
 mod from_fields;
-mod groups;
 mod headings;
 mod heads;
 pub mod laws;
 pub mod layers;
-mod making;
 mod messages;
-mod names;
-mod numbers;
 mod open_values;
 mod parts;
 mod primitives;
 mod services;
-mod tables;
-mod tagged;
 mod values;
-mod whole;
 
 pub use appending::append_fields;
-pub use field::Field;
-pub use field_refusal::{FieldRefusal, FieldWhy};
+pub use bac_field_parts::{Field, FieldRefusal, FieldWhy, Name};
 pub use from_fields::{append_octets, frame_of};
-pub use names::Name;

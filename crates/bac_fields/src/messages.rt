@@ -8,9 +8,6 @@ mod numbers;
 mod opaque;
 mod ports;
 
-use crate::cursor::Cursor;
-use crate::field::Field;
-use crate::making::{Fault, FromFields, Part};
 use crate::messages::networks::{Networks, NetworksFields};
 use crate::messages::numbers::{
     DisconnectFields, NetworkNumberFields, OptionalTwo, RejectMessageFields,
@@ -18,9 +15,12 @@ use crate::messages::numbers::{
 };
 use crate::messages::opaque::{PlainFields, VendoredFields, has_vendor};
 use crate::messages::ports::{InitTableAckFields, InitTableFields};
-use crate::names::Name;
-use crate::parts::{HasFields, Octet, TwoOctets};
-use crate::whole::Whole;
+use crate::parts::{HasFields, TwoOctets};
+use bac_field_parts::cursor::Cursor;
+use bac_field_parts::leaves::Octet;
+use bac_field_parts::making::{Fault, FromFields, Part};
+use bac_field_parts::whole::Whole;
+use bac_field_parts::{Field, Name};
 use bac_npdu::NetMessage;
 
 /// The type of a message.

@@ -1,28 +1,17 @@
 //! The fields of open values (clause 20.2).
 
-ghost use Rattle.std.specs.Prelude.{◌∷◌, ◌++◌, [], nat_le};
-ghost use Rattle.bac_tag.specs.declared.heads.TagHead.TheVariants as tag;
-ghost use Rattle.bac_service.specs.Productions.{Head};
-ghost use Rattle.bac_service.specs.Laws.Tag.{opening_inhabited, closing_inhabited};
-ghost use Rattle.bac_fields.specs.Symbols.{the_number};
+ghost use Rattle.std.specs.Prelude.{◌∷◌, ◌++◌, []};
 ghost use Rattle.bac_data.specs.Walks.{event_of, IsPackedStep};
-ghost use Rattle.bac_fields.specs.Fields.{Writes, next, listed_in, under_tag, opening_field, closing_field};
-ghost use Rattle.bac_fields.specs.OpenValueFields.{event_field, event_step, open_steps};
+ghost use Rattle.bac_field_parts.specs.Fields.{Writes, next, listed_in, under_tag, opening_field, closing_field};
+ghost use Rattle.bac_field_parts.specs.OpenValueFields.{event_field, event_step, open_steps};
 
-use crate::cursor::{Cursor, write_field};
-use crate::field::Field;
-use crate::forms::Form;
 use crate::heads::{head_len, tag_len};
-use crate::names::Name;
 use crate::parts::{HasFields, Items};
 use crate::primitives::tell_primitive;
 use bac_data::{Any, Event};
-use bac_tag::layers::append_head;
-use bac_tag::{OutOfMemory, TagHead};
-
-/// An opening tag with this number.
-#[derive(Clone, Copy)]
-pub(crate) struct Opening(pub(crate) Name, pub(crate) u8, pub(crate) u8);
+use bac_field_parts::cursor::{Cursor, write_field};
+use bac_field_parts::edges::{Closing, Opening};
+use bac_field_parts::{Field, Name};
 
 impl HasFields for Opening {
     ghost steps = { λ part. next (opening_field part.0 part.1 part.2) ∷ [] };
@@ -33,38 +22,6 @@ impl HasFields for Opening {
     }
 }
 
-impl Form for Opening {
-    ghost Value = { Unit {0} };
-
-    ghost name = { λ form. form.0 };
-
-    ghost number = { λ form. the_number form.2 };
-
-    ghost spells = { λ form. Head (tag.Open form.1) };
-
-    ghost is_form = { λ form. nat_le form.1 254 };
-
-    #[inline(always)]
-    fn name(&self) -> Name {
-        self.0
-    }
-
-    #[inline(always)]
-    fn make(&self, given: u64, out: &mut Vec<u8>) -> Result<bool, OutOfMemory> {
-        if given != u64::from(self.2) {
-            return Ok(false);
-        }
-        append_head(TagHead::Open(self.1), out)?;
-        Ok(true)
-    }
-
-    ghost inhabited = { λ form sound. opening_inhabited form.1 sound };
-}
-
-/// A closing tag with this number.
-#[derive(Clone, Copy)]
-pub(crate) struct Closing(pub(crate) Name, pub(crate) u8, pub(crate) u8);
-
 impl HasFields for Closing {
     ghost steps = { λ part. next (closing_field part.0 part.1 part.2) ∷ [] };
 
@@ -72,34 +29,6 @@ impl HasFields for Closing {
     fn tell(&self, cursor: Cursor, room: &mut [Field]) -> Option<Cursor> {
         write_field(self.0, u64::from(self.2), tag_len(self.1), 0, cursor, room)
     }
-}
-
-impl Form for Closing {
-    ghost Value = { Unit {0} };
-
-    ghost name = { λ form. form.0 };
-
-    ghost number = { λ form. the_number form.2 };
-
-    ghost spells = { λ form. Head (tag.Close form.1) };
-
-    ghost is_form = { λ form. nat_le form.1 254 };
-
-    #[inline(always)]
-    fn name(&self) -> Name {
-        self.0
-    }
-
-    #[inline(always)]
-    fn make(&self, given: u64, out: &mut Vec<u8>) -> Result<bool, OutOfMemory> {
-        if given != u64::from(self.2) {
-            return Ok(false);
-        }
-        append_head(TagHead::Close(self.1), out)?;
-        Ok(true)
-    }
-
-    ghost inhabited = { λ form sound. closing_inhabited form.1 sound };
 }
 
 /// Writes the field of a context primitive.

@@ -1,21 +1,13 @@
 //! What has fields, and the forms of fields that messages are made of.
 
-ghost use Rattle.std.specs.Prelude.{◌∷◌, ◌++◌, ℕ, List, [], true};
-ghost use Rattle.bac_fields.specs.Symbols.{no_number, no_octet_number, the_number, no_octets, the_octet};
-ghost use Rattle.bac_fields.specs.OctetForms.{IsOneOctet, AreTwoOctets, AreCounted};
-ghost use Rattle.bac_fields.specs.Opaques.{AreTheOctets};
-ghost use Rattle.bac_fields.specs.Laws.OctetForms.{one_octet_inhabited, two_octets_inhabited, counted_inhabited};
-ghost use Rattle.bac_fields.specs.Laws.Opaques.{octets_inhabited};
-ghost use Rattle.bac_fields.specs.Laws.Leaves.{nothing_inhabited, octet_inhabited};
+ghost use Rattle.std.specs.Prelude.{◌∷◌, ◌++◌, List, []};
 ghost use Rattle.std.specs.List.{flat_map};
 ghost use Rattle.std.specs.Option.{option_map_or};
-ghost use Rattle.bac_fields.specs.Fields.{Step, next, aside, pass, Writes, address_field, counted_field, counter_field, listed, word, octet_field, two_octets_field, octets_field, item_steps};
+ghost use Rattle.bac_field_parts.specs.Fields.{Step, next, aside, pass, Writes, address_field, counted_field, counter_field, listed, word, octet_field, two_octets_field, octets_field, item_steps};
 
-use crate::cursor::{Cursor, write_aside, write_field};
-use crate::field::Field;
-use crate::forms::{Form, Holding};
-use crate::names::Name;
-use bac_tag::OutOfMemory;
+use bac_field_parts::cursor::{Cursor, write_aside, write_field};
+use bac_field_parts::leaves::{Octet, Word};
+use bac_field_parts::{Field, Name};
 
 /// What has fields.
 pub(crate) trait HasFields {
@@ -62,10 +54,6 @@ impl<P: HasFields> HasFields for Option<P> {
     }
 }
 
-/// A word without octets of its own.
-#[derive(Clone, Copy)]
-pub(crate) struct Word(pub(crate) Name);
-
 impl HasFields for Word {
     ghost steps = { λ part. next (word part.0) ∷ [] };
 
@@ -75,34 +63,6 @@ impl HasFields for Word {
     }
 }
 
-impl Form for Word {
-    ghost Value = { Unit {0} };
-
-    ghost name = { λ form. form.0 };
-
-    ghost number = { λ form. no_number };
-
-    ghost spells = { λ form. no_octets };
-
-    ghost is_form = { λ form. true };
-
-    #[inline(always)]
-    fn name(&self) -> Name {
-        self.0
-    }
-
-    #[inline(always)]
-    fn make(&self, given: u64, _out: &mut Vec<u8>) -> Result<bool, OutOfMemory> {
-        Ok(given == 0)
-    }
-
-    ghost inhabited = { λ form sound. nothing_inhabited };
-}
-
-/// A number of one octet.
-#[derive(Clone, Copy)]
-pub(crate) struct Octet(pub(crate) Name, pub(crate) u8);
-
 impl HasFields for Octet {
     ghost steps = { λ part. next (octet_field part.0 part.1) ∷ [] };
 
@@ -110,67 +70,6 @@ impl HasFields for Octet {
     fn tell(&self, cursor: Cursor, room: &mut [Field]) -> Option<Cursor> {
         write_field(self.0, u64::from(self.1), 0, 1, cursor, room)
     }
-}
-
-/// The octet with this number, and no other one.
-impl Form for Octet {
-    ghost Value = { Unit {0} };
-
-    ghost name = { λ form. form.0 };
-
-    ghost number = { λ form. the_number form.1 };
-
-    ghost spells = { λ form. the_octet form.1 };
-
-    ghost is_form = { λ form. true };
-
-    #[inline(always)]
-    fn name(&self) -> Name {
-        self.0
-    }
-
-    #[inline(always)]
-    fn make(&self, given: u64, out: &mut Vec<u8>) -> Result<bool, OutOfMemory> {
-        if given != u64::from(self.1) {
-            return Ok(false);
-        }
-        out.push(self.1)?;
-        Ok(true)
-    }
-
-    ghost inhabited = { λ form sound. octet_inhabited form.1 };
-}
-
-/// A field that says any number of one octet.
-#[derive(Drop)]
-pub(crate) struct AnyOctet(pub(crate) Name);
-
-impl Form for AnyOctet {
-    ghost Value = { ℕ };
-
-    ghost name = { λ form. form.0 };
-
-    ghost number = { λ form n. n };
-
-    ghost spells = { λ form. IsOneOctet };
-
-    ghost is_form = { λ form. true };
-
-    #[inline(always)]
-    fn name(&self) -> Name {
-        self.0
-    }
-
-    #[inline(always)]
-    fn make(&self, given: u64, out: &mut Vec<u8>) -> Result<bool, OutOfMemory> {
-        let Ok(octet) = u8::try_from(given) else {
-            return Ok(false);
-        };
-        out.push(octet)?;
-        Ok(true)
-    }
-
-    ghost inhabited = { λ form sound. one_octet_inhabited };
 }
 
 /// A number of two octets.
@@ -186,38 +85,6 @@ impl HasFields for TwoOctets {
     }
 }
 
-/// A field that says any number of two octets.
-#[derive(Drop)]
-pub(crate) struct AnyTwoOctets(pub(crate) Name);
-
-impl Form for AnyTwoOctets {
-    ghost Value = { ℕ };
-
-    ghost name = { λ form. form.0 };
-
-    ghost number = { λ form n. n };
-
-    ghost spells = { λ form. AreTwoOctets };
-
-    ghost is_form = { λ form. true };
-
-    #[inline(always)]
-    fn name(&self) -> Name {
-        self.0
-    }
-
-    #[inline(always)]
-    fn make(&self, given: u64, out: &mut Vec<u8>) -> Result<bool, OutOfMemory> {
-        let Ok(number) = u16::try_from(given) else {
-            return Ok(false);
-        };
-        out.extend_from_slice(&[(number / 256) as u8, (number % 256) as u8])?;
-        Ok(true)
-    }
-
-    ghost inhabited = { λ form sound. two_octets_inhabited };
-}
-
 /// Octets as they are.
 #[derive(Clone, Copy)]
 pub(crate) struct Octets<'a>(pub(crate) Name, pub(crate) &'a [u8]);
@@ -229,40 +96,6 @@ impl HasFields for Octets<'_> {
     fn tell(&self, cursor: Cursor, room: &mut [Field]) -> Option<Cursor> {
         write_field(self.0, 0, 0, self.1.len(), cursor, room)
     }
-}
-
-/// A field that has any octets as they are.
-#[derive(Drop)]
-pub(crate) struct AnyOctets(pub(crate) Name);
-
-impl Holding for AnyOctets {
-    ghost Value = { List ℕ };
-
-    ghost name = { λ holding. holding.0 };
-
-    ghost number = { no_octet_number };
-
-    ghost contents = { λ octets. octets };
-
-    ghost spells = { AreTheOctets };
-
-    #[inline(always)]
-    fn name(&self) -> Name {
-        self.0
-    }
-
-    #[inline(always)]
-    fn has(&self, given: u64) -> bool {
-        given == 0
-    }
-
-    #[inline(always)]
-    fn append(&self, _given: u64, held: &[u8], out: &mut Vec<u8>) -> Result<bool, OutOfMemory> {
-        out.extend_from_slice(held)?;
-        Ok(true)
-    }
-
-    ghost inhabited = { octets_inhabited };
 }
 
 /// An item of a list, between its ends.
@@ -355,43 +188,6 @@ impl HasFields for Counted<'_> {
     fn tell(&self, cursor: Cursor, room: &mut [Field]) -> Option<Cursor> {
         write_field(self.0, 0, 1, self.1.len(), cursor, room)
     }
-}
-
-/// A field that has at most 255 octets, which are after their number.
-#[derive(Drop)]
-pub(crate) struct CountedOctets(pub(crate) Name);
-
-impl Holding for CountedOctets {
-    ghost Value = { List ℕ };
-
-    ghost name = { λ holding. holding.0 };
-
-    ghost number = { no_octet_number };
-
-    ghost contents = { λ octets. octets };
-
-    ghost spells = { AreCounted };
-
-    #[inline(always)]
-    fn name(&self) -> Name {
-        self.0
-    }
-
-    #[inline(always)]
-    fn has(&self, given: u64) -> bool {
-        given == 0
-    }
-
-    fn append(&self, _given: u64, held: &[u8], out: &mut Vec<u8>) -> Result<bool, OutOfMemory> {
-        let Ok(count) = u8::try_from(held.len()) else {
-            return Ok(false);
-        };
-        out.push(count)?;
-        out.extend_from_slice(held)?;
-        Ok(true)
-    }
-
-    ghost inhabited = { counted_inhabited };
 }
 
 /// The number of the items of a list, with which it begins.

@@ -2,17 +2,16 @@
 
 ghost use Rattle.std.specs.Prelude.{◌≡◌, ◌∷◌, []};
 ghost use Rattle.bac_value.specs.PrimRefValue.{prim_of, IsPackedRef};
-ghost use Rattle.bac_fields.specs.Fields.{Writes, next, under_type};
-ghost use Rattle.bac_fields.specs.PrimitiveFields.{boolean_field, primitive_field, text_field};
+ghost use Rattle.bac_field_parts.specs.Fields.{Writes, next, under_type};
+ghost use Rattle.bac_field_parts.specs.PrimitiveFields.{boolean_field, primitive_field, text_field};
 ghost use Rattle.bac_value.specs.BitsContents.{bits_in, IsPacked};
-ghost use Rattle.bac_fields.specs.PrimitiveFields.{bits_field};
+ghost use Rattle.bac_field_parts.specs.PrimitiveFields.{bits_field};
 
-use crate::cursor::{Cursor, write_field};
-use crate::field::Field;
 use crate::heads::head_len;
-use crate::names::Name;
 use crate::parts::HasFields;
 use crate::values::Typed;
+use bac_field_parts::cursor::{Cursor, write_field};
+use bac_field_parts::{Field, Name};
 use bac_value::{Boolean, PrimRef};
 
 /// Writes the field of a Boolean, whose tag says which it is.

@@ -1,8 +1,8 @@
 //! The fields of services (clause 21), from the service choice on.
 
-use crate::cursor::Cursor;
-use crate::field::Field;
 use crate::parts::HasFields;
+use bac_field_parts::Field;
+use bac_field_parts::cursor::Cursor;
 use bac_service::Service;
 
 pub(crate) mod answers;

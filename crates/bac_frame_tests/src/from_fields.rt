@@ -84,7 +84,7 @@ struct Numbered;
 
 impl laws::Said for Numbered {
     ghost use Rattle.std.specs.Prelude.{◌≡◌, ◌∷◌, [], ℕ};
-    ghost use Rattle.bac_fields.specs.Symbols.{numbered};
+    ghost use Rattle.bac_field_parts.specs.Symbols.{numbered};
 
     ghost Value = { ℕ };
 

@@ -4,11 +4,11 @@ use Rattle.std.proofs.Common.{sym, ◌∙◌, ap, arith, append_assoc}
 use Rattle.std.proofs.Math.Seq.{drop-append_seam, take-append_seam}
 use Rattle.std.proofs.lemmas.List.{length-append}
 use Rattle.std.proofs.lemmas.Bool.{le-leb}
-use Rattle.bac_fields.specs.declared.field.Field.{Field}
-use Rattle.bac_fields.specs.declared.names.Name.{Name}
-use Rattle.bac_fields.specs.Names.{number_of}
-use Rattle.bac_fields.specs.Fields.{FieldValue}
-use Rattle.bac_fields.specs.Symbols.{has_contents, contents_in}
+use Rattle.bac_field_parts.specs.declared.field.Field.{Field}
+use Rattle.bac_field_parts.specs.declared.names.Name.{Name}
+use Rattle.bac_field_parts.specs.Names.{number_of}
+use Rattle.bac_field_parts.specs.Fields.{FieldValue}
+use Rattle.bac_field_parts.specs.Symbols.{has_contents, contents_in}
 use Rattle.bac_lines.specs.declared.said.Said.{Said}
 use Rattle.bac_lines.specs.Found.{Adds}
 

@@ -2,7 +2,7 @@
 use Rattle.std.specs.Prelude.{◌≡◌, ◌⊎◌, ℕ, ◌+◌, ◌==◌, if◌then◌else◌, Bool, true, false, List, [], ◌∷◌, ◌++◌, take, Option, Result, IfOk, IfSome}
 use Rattle.std.proofs.Common.{sym, ◌∙◌, ap, subst, inl, inr, Some, None, Ok, Err}
 use Rattle.bac_text.specs.WalkText.{blank}
-use Rattle.bac_fields.specs.Fields.{FieldValue}
+use Rattle.bac_field_parts.specs.Fields.{FieldValue}
 use Rattle.bac_fields.specs.Line.{Form, form_of, as_word, as_truth, shown, begins}
 use Rattle.bac_lines.specs.declared.closing.Closing.{Closing}
 use Rattle.bac_lines.specs.declared.fault.LineFault.{LineFault}

@@ -17,9 +17,9 @@ use Rattle.bac_npdu.specs.declared.messages.port.Port.{Port}
 use Rattle.bac_npdu.specs.Messages.{MessageValue, who_is_router, i_am_router, i_could_be_router, reject_message, router_busy, router_available, init_table, init_table_ack, establish, disconnect, what_is_network_number, network_number_is, opaque}
 use Rattle.bac_npdu.specs.Addresses.{SourceValue, DestinationValue}
 use Rattle.bac_npdu.specs.Frames.{FrameValue, BodyValue, apdu, message, SpellsBody, SpellsFrame}
-use Rattle.bac_fields.specs.declared.names.Name.TheVariants as name
-use Rattle.bac_fields.specs.Fields.{FieldValue, next, aside, word, octet_field, two_octets_field, octets_field, counted_field, counter_field, address_field, item_steps, optional}
-use Rattle.bac_fields.specs.PrimitiveFields.{truth}
+use Rattle.bac_field_parts.specs.declared.names.Name.TheVariants as name
+use Rattle.bac_field_parts.specs.Fields.{FieldValue, next, aside, word, octet_field, two_octets_field, octets_field, counted_field, counter_field, address_field, item_steps, optional}
+use Rattle.bac_field_parts.specs.PrimitiveFields.{truth}
 use Rattle.bac_fields.specs.ServiceFields.{service_steps}
 use Rattle.bac_fields.specs.ApduFields.{request_head_steps, segment_steps, part_steps, apdu_steps}
 use Rattle.bac_fields.specs.MessageFields.{networks_steps, listed_network_steps, port_steps, ports_steps, message_steps}

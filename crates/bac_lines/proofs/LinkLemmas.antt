@@ -4,11 +4,11 @@ use Rattle.std.proofs.Common.{sym, ◌∙◌, ap, subst, inl, inr, arith}
 use Rattle.std.proofs.lemmas.Bool.{and_parts, not-true, both_ways}
 use Rattle.std.proofs.lemmas.Option.{IfSome_then}
 use Rattle.std.specs.Cmp.Lexicographic.{pointwise, bytes_decides}
-use Rattle.bac_fields.specs.declared.names.Name.{Name}
-use Rattle.bac_fields.specs.declared.names.Name.TheVariants as name
-use Rattle.bac_fields.specs.Names.{number_of, word_of}
-use Rattle.bac_fields.specs.Fields.{FieldValue}
-use Rattle.bac_fields.specs.Symbols.{has_contents}
+use Rattle.bac_field_parts.specs.declared.names.Name.{Name}
+use Rattle.bac_field_parts.specs.declared.names.Name.TheVariants as name
+use Rattle.bac_field_parts.specs.Names.{number_of, word_of}
+use Rattle.bac_field_parts.specs.Fields.{FieldValue}
+use Rattle.bac_field_parts.specs.Symbols.{has_contents}
 use Rattle.bac_fields.specs.Line.{Form, as_number, as_object, as_octets, as_address, as_element, as_signed, as_contents, as_bits, as_identifier, as_text, form_of}
 use Rattle.bac_lines.specs.declared.closing.Closing.{Closing}
 use Rattle.bac_lines.specs.declared.fault.LineFault.{LineFault}

@@ -3,9 +3,9 @@ use Rattle.std.specs.Prelude.{◌≡◌, ◌⊎◌, ℕ, ◌+◌, ◌<◌, ◌�
 use Rattle.std.proofs.Common.{sym, ◌∙◌, ap, subst, inl, inr, arith, suc, zero}
 use Rattle.std.proofs.lemmas.Bool.{and_parts, both_ways, not-true}
 use Rattle.std.proofs.lemmas.Bool.Decides.{nat_tests}
-use Rattle.bac_fields.specs.declared.names.Name.{Name}
-use Rattle.bac_fields.specs.declared.names.Name.TheVariants as name
-use Rattle.bac_fields.specs.Names.{word_of}
+use Rattle.bac_field_parts.specs.declared.names.Name.{Name}
+use Rattle.bac_field_parts.specs.declared.names.Name.TheVariants as name
+use Rattle.bac_field_parts.specs.Names.{word_of}
 use Rattle.bac_fields.specs.Line.{Form, as_word, as_number, as_object, as_octets, as_address, as_type, as_network, as_list, as_item, as_value, as_group, as_parenthesis, as_brace, as_truth, as_element, as_signed, as_contents, as_bits, as_identifier, as_text, as_context, form_of}
 use Rattle.bac_lines.specs.Scanning.{each, is_letter, IsNamed}
 use Rattle.bac_lines.specs.declared.closing.Closing.{Closing}

@@ -3,12 +3,12 @@ use Rattle.std.specs.Prelude.{◌≡◌, ℕ, ◌+◌, ◌-◌, ◌<◌, ◌≤�
 use Rattle.std.proofs.Common.{sym, ◌∙◌, ap, subst, arith, append_assoc}
 use Rattle.std.proofs.lemmas.List.{append-nil, drop-drop, drop_all, take_all, length-drop}
 use Rattle.std.proofs.Math.Seq.{drop-append_seam}
-use Rattle.bac_fields.specs.declared.field.Field.{Field}
-use Rattle.bac_fields.specs.Names.{number_of}
-use Rattle.bac_fields.specs.Fields.{FieldValue}
+use Rattle.bac_field_parts.specs.declared.field.Field.{Field}
+use Rattle.bac_field_parts.specs.Names.{number_of}
+use Rattle.bac_field_parts.specs.Fields.{FieldValue}
 use Rattle.bac_fields.specs.Line.{form_of, lead, shown, begins, printed, printed_from}
 use Rattle.bac_fields.specs.Making.{field_symbols}
-use Rattle.bac_fields.specs.Symbols.{Symbol, named, numbered, containing, finished, field_said, contents_in, symbols_in}
+use Rattle.bac_field_parts.specs.Symbols.{Symbol, named, numbered, containing, finished, field_said, contents_in, symbols_in}
 use Rattle.bac_lines.specs.declared.closing.Closing.{Closing}
 use Rattle.bac_lines.specs.declared.said.Said.{Said}
 use Rattle.bac_lines.specs.Scanning.{TokenIn, AreTokens, ends_field}

@@ -7,14 +7,14 @@ use Rattle.bac_tag.specs.Spelling.{IsLeast}
 use Rattle.bac_npdu.specs.Frames.{FrameValue, SpellsFrame}
 use Rattle.bac_npdu.proofs.FrameLemmas.{behind_octets}
 use Rattle.bac_text.specs.FrameText.{text}
-use Rattle.bac_fields.specs.declared.field.Field.{Field}
-use Rattle.bac_fields.specs.declared.field_refusal.FieldRefusal.{FieldRefusal}
-use Rattle.bac_fields.specs.declared.field_refusal.FieldWhy.TheVariants.{OutOfMemory}
-use Rattle.bac_fields.specs.Fields.{FieldValue, Step, next, aside, pass, fields_of, held_field}
+use Rattle.bac_field_parts.specs.declared.field.Field.{Field}
+use Rattle.bac_field_parts.specs.declared.field_refusal.FieldRefusal.{FieldRefusal}
+use Rattle.bac_field_parts.specs.declared.field_refusal.FieldWhy.TheVariants.{OutOfMemory}
+use Rattle.bac_field_parts.specs.Fields.{FieldValue, Step, next, aside, pass, fields_of, held_field}
 use Rattle.bac_fields.specs.FrameFields.{fields, frame_steps}
 use Rattle.bac_fields.specs.Line.{printed}
 use Rattle.bac_fields.specs.Making.{AreFieldsOf, MadeOf, IsFieldRefusal}
-use Rattle.bac_fields.specs.Symbols.{Symbol, field_said, steps_said, symbols_in, finished}
+use Rattle.bac_field_parts.specs.Symbols.{Symbol, field_said, steps_said, symbols_in, finished}
 use Rattle.bac_lines.specs.declared.said.Said.{Said}
 use Rattle.bac_lines.specs.Lines.{IsRead, IsNoLine, IsFrame, SaysFrame}
 use Rattle.bac_lines.specs.Scanning.{AreTokens}

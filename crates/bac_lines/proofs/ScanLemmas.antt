@@ -7,7 +7,7 @@ use Rattle.std.proofs.lemmas.List.{take_rest, length-append, length-take-le, tak
 use Rattle.bac_tag.specs.Octets.{IsOctets}
 use Rattle.bac_record.specs.Digits.{digit, hexadecimal}
 use Rattle.bac_text.specs.Words.{number}
-use Rattle.bac_fields.specs.Fields.{FieldValue}
+use Rattle.bac_field_parts.specs.Fields.{FieldValue}
 use Rattle.bac_fields.specs.Line.{Form, as_group, as_context, shown}
 use Rattle.bac_lines.specs.Found.{tagged_text}
 use Rattle.bac_lines.proofs.Hexes.{hex_digits}

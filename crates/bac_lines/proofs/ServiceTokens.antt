@@ -40,9 +40,9 @@ use Rattle.bac_service.specs.SubscribeCov.{SpellsSubscribeCov}
 use Rattle.bac_service.specs.ServiceTable.{ServiceProduction, read_property, read_property_ack, read_property_multiple, read_property_multiple_ack, write_property, write_property_multiple, write_property_multiple_error, who_is, i_am, subscribe_cov, cov_notification, service_error}
 use Rattle.bac_service.specs.ServiceValues.{Said, ServiceValue}
 use Rattle.bac_service.specs.Services.{SpellsSaid, SpellsService}
-use Rattle.bac_fields.specs.declared.names.Name.TheVariants as name
-use Rattle.bac_fields.specs.Fields.{Step, next, word, octet_field, octets_field, optional, opening_field, closing_field, item_steps, listed_in}
-use Rattle.bac_fields.specs.PrimitiveFields.{number_under, truth_under, object_under, unsigned_field, enumerated_field, object_field}
+use Rattle.bac_field_parts.specs.declared.names.Name.TheVariants as name
+use Rattle.bac_field_parts.specs.Fields.{Step, next, word, octet_field, octets_field, optional, opening_field, closing_field, item_steps, listed_in}
+use Rattle.bac_field_parts.specs.PrimitiveFields.{number_under, truth_under, object_under, unsigned_field, enumerated_field, object_field}
 use Rattle.bac_fields.specs.PropertyFields.{property_steps, cause_steps, reference_steps, read_result_steps, property_result_steps, property_value_steps}
 use Rattle.bac_fields.specs.ReadPropertyFields.{read_property_steps, read_property_ack_steps}
 use Rattle.bac_fields.specs.ReadPropertyMultipleFields.{specification_steps, read_multiple_steps, access_result_steps, read_multiple_ack_steps}
@@ -53,7 +53,7 @@ use Rattle.bac_fields.specs.IAmFields.{i_am_steps}
 use Rattle.bac_fields.specs.SubscribeCovFields.{subscribe_cov_steps}
 use Rattle.bac_fields.specs.CovNotificationFields.{notification_field, notification_steps}
 use Rattle.bac_fields.specs.ServiceErrorFields.{service_error_steps}
-use Rattle.bac_fields.specs.OpaqueFields.{opaque_steps}
+use Rattle.bac_field_parts.specs.OpaqueFields.{opaque_steps}
 use Rattle.bac_fields.specs.ServiceFields.{said_steps, service_steps}
 use Rattle.bac_lines.specs.declared.closing.Closing.{Closing}
 use Rattle.bac_lines.specs.Scanning.{open_end}

@@ -5,15 +5,15 @@ use Rattle.std.proofs.Common.{sym, ◌∙◌, ap, subst, inl, inr, arith, append
 use Rattle.std.proofs.lemmas.Bool.{both_ways, and_parts, not-true}
 use Rattle.std.proofs.lemmas.Fmt.{decimal_nonempty}
 use Rattle.bac_text.specs.WalkText.{blank}
-use Rattle.bac_fields.specs.Fields.{FieldValue}
+use Rattle.bac_field_parts.specs.Fields.{FieldValue}
 use Rattle.bac_fields.specs.Line.{Form, as_word, as_number, as_object, as_octets, as_address, as_type, as_network, as_list, as_item, as_value, as_group, as_parenthesis, as_brace, as_truth, as_element, as_signed, as_contents, as_bits, as_identifier, as_text, as_context, form_of, shown, begins, lead, printed_from}
 use Rattle.bac_lines.specs.declared.closing.Closing.{Closing}
 use Rattle.bac_lines.specs.Scanning.{TokenIn, open_end, is_decimal, is_letter, each, ends_field}
 use Rattle.bac_lines.specs.Found.{ending, Sort, by_end, by_parenthesis, by_bracket, by_digit, by_word, sort_of, Link, by_equals, by_colon, link_of, word_before, value_shown, after_word}
-use Rattle.bac_fields.specs.Names.{number_of, word_of}
-use Rattle.bac_fields.specs.declared.names.Name.{Name}
-use Rattle.bac_fields.specs.declared.names.Name.TheVariants as name
-use Rattle.bac_fields.specs.Symbols.{has_contents}
+use Rattle.bac_field_parts.specs.Names.{number_of, word_of}
+use Rattle.bac_field_parts.specs.declared.names.Name.{Name}
+use Rattle.bac_field_parts.specs.declared.names.Name.TheVariants as name
+use Rattle.bac_field_parts.specs.Symbols.{has_contents}
 use Rattle.bac_lines.proofs.Digits.{decimal_digits}
 use Rattle.bac_lines.proofs.WordLemmas.{word_shape, word_is, apart_numbers, no_letter, not_nil}
 

@@ -6,10 +6,10 @@ use Rattle.bac_tag.specs.Octets.{IsOctets}
 use Rattle.bac_tag.specs.Laws.Octets.{octets_take, octets_drop, octets_below}
 use Rattle.bac_value.specs.Identifier.{Identifier, IsIdentifier}
 use Rattle.bac_service.specs.Productions.{Items, Optional}
-use Rattle.bac_fields.specs.declared.names.Name.{Name}
-use Rattle.bac_fields.specs.declared.names.Name.TheVariants as name
-use Rattle.bac_fields.specs.Fields.{FieldValue, Step, next, aside, pass, size_of, fields_of, word, held_field, item_steps, optional}
-use Rattle.bac_fields.specs.PrimitiveFields.{truth, object_number}
+use Rattle.bac_field_parts.specs.declared.names.Name.{Name}
+use Rattle.bac_field_parts.specs.declared.names.Name.TheVariants as name
+use Rattle.bac_field_parts.specs.Fields.{FieldValue, Step, next, aside, pass, size_of, fields_of, word, held_field, item_steps, optional}
+use Rattle.bac_field_parts.specs.PrimitiveFields.{truth, object_number}
 use Rattle.bac_fields.specs.Places.{HoldsNumber, AreAt}
 use Rattle.bac_fields.specs.Line.{form_of}
 use Rattle.bac_fields.proofs.EventRanges.{Each}

@@ -19,10 +19,10 @@ use Rattle.bac_data.specs.OpenValue.{Element, primitive, context, group, Element
 use Rattle.bac_data.specs.Events.{closing, element_events, events}
 use Rattle.bac_data.specs.Spells.{SpellsOpen}
 use Rattle.bac_data.proofs.ValueLemmas.{open_value_only}
-use Rattle.bac_fields.specs.declared.names.Name.TheVariants as name
-use Rattle.bac_fields.specs.Fields.{FieldValue, under_tag, opening_field, closing_field}
-use Rattle.bac_fields.specs.PrimitiveFields.{primitive_field}
-use Rattle.bac_fields.specs.OpenValueFields.{event_step, open_steps}
+use Rattle.bac_field_parts.specs.declared.names.Name.TheVariants as name
+use Rattle.bac_field_parts.specs.Fields.{FieldValue, under_tag, opening_field, closing_field}
+use Rattle.bac_field_parts.specs.PrimitiveFields.{primitive_field}
+use Rattle.bac_field_parts.specs.OpenValueFields.{event_step, open_steps}
 use Rattle.bac_fields.specs.Line.{form_of}
 use Rattle.bac_lines.specs.declared.closing.Closing.{Closing}
 use Rattle.bac_lines.specs.Scanning.{number_after, open_end, TokenIn}

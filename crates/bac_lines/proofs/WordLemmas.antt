@@ -8,10 +8,10 @@ use Rattle.bac_record.specs.Digits.{hexadecimal}
 use Rattle.bac_text.specs.Words.{number, field}
 use Rattle.bac_text.specs.PrimitiveText.{is_plain, string_text}
 use Rattle.bac_text.specs.FrameText.{address_text}
-use Rattle.bac_fields.specs.declared.names.Name.{Name}
-use Rattle.bac_fields.specs.declared.names.Name.TheVariants as name
-use Rattle.bac_fields.specs.Names.{word_of}
-use Rattle.bac_fields.specs.Fields.{FieldValue}
+use Rattle.bac_field_parts.specs.declared.names.Name.{Name}
+use Rattle.bac_field_parts.specs.declared.names.Name.TheVariants as name
+use Rattle.bac_field_parts.specs.Names.{word_of}
+use Rattle.bac_field_parts.specs.Fields.{FieldValue}
 use Rattle.bac_fields.specs.Line.{Form, as_word, as_number, as_object, as_octets, as_address, as_type, as_network, as_list, as_item, as_value, as_group, as_parenthesis, as_brace, as_truth, as_element, as_signed, as_contents, as_bits, as_identifier, as_text, as_context, form_of, shown, begins}
 use Rattle.bac_lines.specs.declared.closing.Closing.{Closing}
 use Rattle.bac_lines.specs.Scanning.{TokenIn, is_decimal, is_hex, is_letter, ends_field, clear, text_tail}

@@ -8,11 +8,11 @@ use Rattle.bac_record.specs.Digits.{hexadecimal}
 use Rattle.bac_text.specs.Words.{number, object_text}
 use Rattle.bac_text.specs.PrimitiveText.{bit_digit}
 use Rattle.bac_text.specs.FrameText.{address_text}
-use Rattle.bac_fields.specs.declared.field.Field.{Field}
-use Rattle.bac_fields.specs.declared.names.Name.{Name}
-use Rattle.bac_fields.specs.Names.{number_of, word_of}
-use Rattle.bac_fields.specs.Fields.{FieldValue}
-use Rattle.bac_fields.specs.Symbols.{Symbol, finished, symbols_in, field_said, has_contents, contents_in}
+use Rattle.bac_field_parts.specs.declared.field.Field.{Field}
+use Rattle.bac_field_parts.specs.declared.names.Name.{Name}
+use Rattle.bac_field_parts.specs.Names.{number_of, word_of}
+use Rattle.bac_field_parts.specs.Fields.{FieldValue}
+use Rattle.bac_field_parts.specs.Symbols.{Symbol, finished, symbols_in, field_said, has_contents, contents_in}
 use Rattle.bac_fields.specs.Line.{Form, as_number, as_object, as_octets, as_address, as_type, as_network, as_list, as_item, as_value, as_group, as_parenthesis, as_brace, as_truth, as_element, as_signed, as_contents, as_bits, as_identifier, as_text, as_context, form_of, object_of, shown, lead, begins, printed}
 use Rattle.bac_lines.specs.declared.closing.Closing.{Closing}
 use Rattle.bac_lines.specs.declared.fault.LineFault.{LineFault}

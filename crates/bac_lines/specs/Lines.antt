@@ -4,7 +4,7 @@ use Rattle.bac_tag.specs.Spelling.{AppendsLeast, IsLeast}
 use Rattle.bac_tag.specs.Octets.{IsOctets}
 use Rattle.bac_npdu.specs.Frames.{FrameValue, SpellsFrame}
 use Rattle.bac_text.specs.FrameText.{text}
-use Rattle.bac_fields.specs.declared.field.Field.{Field}
+use Rattle.bac_field_parts.specs.declared.field.Field.{Field}
 use Rattle.bac_fields.specs.Making.{AreFieldsOf}
 use Rattle.bac_lines.specs.declared.fault.LineFault.{LineFault}
 use Rattle.bac_lines.specs.declared.fault.LineFault.TheVariants.{OutOfMemory, Stop}

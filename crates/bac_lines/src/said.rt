@@ -1,9 +1,9 @@
 //! The fields that a line says.
 
 ghost use Rattle.std.specs.Prelude.{◌≡◌, ◌++◌, ◌∷◌, [], false, length, IfErr, IfOk};
-ghost use Rattle.bac_fields.specs.Names.{number_of};
-ghost use Rattle.bac_fields.specs.Fields.{FieldValue};
-ghost use Rattle.bac_fields.specs.Symbols.{has_contents};
+ghost use Rattle.bac_field_parts.specs.Names.{number_of};
+ghost use Rattle.bac_field_parts.specs.Fields.{FieldValue};
+ghost use Rattle.bac_field_parts.specs.Symbols.{has_contents};
 ghost use Rattle.bac_lines.specs.declared.said.Said.{Said};
 ghost use Rattle.bac_lines.specs.Found.{Adds};
 

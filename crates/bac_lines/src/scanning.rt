@@ -1,9 +1,9 @@
 //! Finding the fields of a line without a grammar: what a field begins with says what it is.
 
 ghost use Rattle.std.specs.Prelude.{◌≡◌, ◌≤◌, ◌<◌, ◌+◌, ◌++◌, ◌∷◌, [], ℕ, List, Bool, true, false, Some, length, IsTrue, IfOk, IfErr, IfSome};
-ghost use Rattle.bac_fields.specs.Fields.{FieldValue};
+ghost use Rattle.bac_field_parts.specs.Fields.{FieldValue};
 ghost use Rattle.bac_fields.specs.Line.{form_of, begins, lead, shown, printed};
-ghost use Rattle.bac_fields.specs.Symbols.{symbols_in, finished};
+ghost use Rattle.bac_field_parts.specs.Symbols.{symbols_in, finished};
 ghost use Rattle.bac_lines.specs.declared.closing.Closing.{Closing};
 ghost use Rattle.bac_lines.specs.Scanning.{TokenIn, AreTokens, ends_field};
 ghost use Rattle.bac_lines.specs.Found.{by_end, sort_of, IsAdded, Scanned, Shows, AreScanned, fields_said};

@@ -2,7 +2,7 @@
 use Rattle.std.specs.Prelude.{◌≡◌, ℕ, ◌+◌, ◌<◌, List, [], ◌∷◌, ◌++◌, length, take}
 use Rattle.std.proofs.Common.{sym, ◌∙◌, ap, subst, arith, zero, suc}
 use Rattle.bac_tag.specs.Spelling.{IsViable}
-use Rattle.bac_fields.specs.Symbols.{Symbol, named, numbered, Language, IsStop}
+use Rattle.bac_field_parts.specs.Symbols.{Symbol, named, numbered, Language, IsStop}
 
 module _ {V X : Type 0} (f : V → List Symbol) (S : V → List ℕ → Type 0) (h : X → List Symbol) (T : X → List ℕ → Type 0) (n : ℕ) (to : (es : List Symbol) → Language f S tt es → Language h T tt es)
     (from : (rest : List Symbol) → Language h T tt (named n ∷ rest) → Language f S tt (named n ∷ rest)) (filled : Language h T tt [] → ⊥) where

@@ -5,12 +5,12 @@ use Rattle.bac_tag.specs.Spelling.{EndsItself}
 use Rattle.bac_apdu.specs.declared.segment.SegHead.TheVariants.{Request, Ack}
 use Rattle.bac_apdu.specs.Apdus.{ApduValue, SpellsApdu}
 use Rattle.bac_apdu.specs.Apdus as apdus
-use Rattle.bac_fields.specs.declared.field.Field.{Field}
+use Rattle.bac_field_parts.specs.declared.field.Field.{Field}
 use Rattle.bac_fields.specs.ApduFields.{apdu_steps}
 use Rattle.bac_fields.specs.ApduSymbols.{apdu_said, ApduType, confirmed_request, unconfirmed_request, simple_ack, complex_ack, segment_ack, error, reject, abort, request_segment, ack_segment, SaidBy, apdu_of, said_by, SpellsBy, first_name, type_named, apdu_leads}
-use Rattle.bac_fields.specs.Symbols.{Symbol, named, finished, steps_said, symbols_in, lead_in, has, Opens, Lawful, IsStop, Made, Language}
+use Rattle.bac_field_parts.specs.Symbols.{Symbol, named, finished, steps_said, symbols_in, lead_in, has, Opens, Lawful, IsStop, Made, Language}
 use Rattle.bac_fields.specs.Laws.Among.{among_stopped}
-use Rattle.bac_fields.specs.Laws.Languages.{stop_at_first}
+use Rattle.bac_field_parts.specs.Laws.Languages.{stop_at_first}
 use Rattle.bac_fields.specs.Laws.Services.{ended, not_nothing}
 
 -- an APDU is one of its type

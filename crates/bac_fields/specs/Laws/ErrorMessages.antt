@@ -13,15 +13,15 @@ use Rattle.bac_service.specs.ServiceTable.{service_error, production_of}
 use Rattle.bac_service.specs.declared.kind.Kind.TheVariants.{Error}
 use Rattle.bac_tag.specs.Laws.Octets.{NoGreater-same}
 use Rattle.std.proofs.Common.{sym, lit<}
-use Rattle.bac_fields.specs.Opaques.{IsCauseChoice}
+use Rattle.bac_field_parts.specs.Opaques.{IsCauseChoice}
 use Rattle.bac_service.specs.WritePropertyMultipleError.{SpellsWriteError}
 use Rattle.bac_service.specs.declared.services.error_cause.ErrorCause.{ErrorCause}
 use Rattle.bac_service.specs.declared.services.write_property_multiple_error.WritePropertyMultipleError.{WritePropertyMultipleError}
-use Rattle.bac_fields.specs.PrimitiveFields.{object_number}
+use Rattle.bac_field_parts.specs.PrimitiveFields.{object_number}
 use Rattle.bac_fields.specs.ServiceErrorFields.{service_error_steps}
 use Rattle.bac_fields.specs.WritePropertyMultipleFields.{write_error_steps}
-use Rattle.bac_fields.specs.Symbols.{Symbol, finished, IsMessage, HasForm, the_octet, the_number, no_octets, number_said, end_said, nothing_said, steps_said}
-use Rattle.bac_fields.specs.Laws.Messages.{Alike, last_part, second_alike, then_alike, grouped_first}
+use Rattle.bac_field_parts.specs.Symbols.{Symbol, finished, IsMessage, HasForm, the_octet, the_number, no_octets, number_said, end_said, nothing_said, steps_said}
+use Rattle.bac_field_parts.specs.Laws.Messages.{Alike, last_part, second_alike, then_alike, grouped_first}
 use Rattle.bac_fields.specs.Laws.ServiceMessages.{SpellsChosen}
 
 -- ---- class and code of an error, after its choice

@@ -10,13 +10,13 @@ use Rattle.std.specs.Prelude.{slice_get}
 use Rattle.bac_service.specs.declared.kind.Kind.TheVariants.{Error}
 use Rattle.bac_fields.specs.ServiceFields.{service_steps}
 use Rattle.bac_fields.specs.ServiceSymbols.{service_said, SpellsAfterHead}
-use Rattle.bac_fields.specs.Symbols.{Symbol, named, numbered, containing, finished, contents_in, symbols_in, Opens, Lawful, IsStop, Made, Language, the_octet}
+use Rattle.bac_field_parts.specs.Symbols.{Symbol, named, numbered, containing, finished, contents_in, symbols_in, Opens, Lawful, IsStop, Made, Language, the_octet}
 use Rattle.bac_fields.specs.Laws.Among.{numbered_stopped}
 use Rattle.bac_fields.specs.Laws.ErrorMessages.{service_error_said, SpellsServiceError}
-use Rattle.bac_fields.specs.Laws.Opaques.{opaque_said, SpellsOpaque}
+use Rattle.bac_field_parts.specs.Laws.Opaques.{opaque_said, SpellsOpaque}
 use Rattle.bac_fields.specs.Laws.Services.{AllOf, found, ended, not_first}
-use Rattle.bac_fields.specs.Laws.Languages.{stop_at_first}
-use Rattle.bac_fields.specs.declared.field.Field.{Field}
+use Rattle.bac_field_parts.specs.Laws.Languages.{stop_at_first}
+use Rattle.bac_field_parts.specs.declared.field.Field.{Field}
 
 -- the choices of errors with a production
 abbrev IsErrorRow : ℕ × ServiceProduction → Type 0

@@ -15,19 +15,19 @@ use Rattle.bac_npdu.specs.Frames.{FrameValue, BodyValue, apdu, message, SpellsBo
 use Rattle.bac_npdu.proofs.FrameLemmas.{control_spelled}
 use Rattle.bac_apdu.specs.Apdus.{ApduValue, SpellsApdu}
 use Rattle.bac_npdu.specs.Messages.{MessageValue, SpellsMessage}
-use Rattle.bac_fields.specs.declared.field.Field.{Field}
-use Rattle.bac_fields.specs.PrimitiveFields.{truth}
+use Rattle.bac_field_parts.specs.declared.field.Field.{Field}
+use Rattle.bac_field_parts.specs.PrimitiveFields.{truth}
 use Rattle.bac_fields.specs.ApduSymbols.{apdu_said, apdu_leads}
 use Rattle.bac_fields.specs.MessageSymbols.{message_said}
 use Rattle.bac_fields.specs.FrameSymbols.{frame_said, body_said, address_said, address_fits, destination_said, destination_fits, hops_fit, source_said, source_fits, control_said, control_fits, priority_fits, reply_fits, destination_leads, source_leads, IsOptionalRead, frame_of_parts, destination_of_parts, IfThere}
-use Rattle.bac_fields.specs.Symbols.{Symbol, has_contents, named, numbered, containing, IsNumber, contents_in, finished, lead_in, lead_of, has, disjoint, Language, Lawful, IsStop, Read, Unwritten, symbols_in, number_said}
+use Rattle.bac_field_parts.specs.Symbols.{Symbol, has_contents, named, numbered, containing, IsNumber, contents_in, finished, lead_in, lead_of, has, disjoint, Language, Lawful, IsStop, Read, Unwritten, symbols_in, number_said}
 use Rattle.bac_fields.specs.Laws.Apdus.{apdu_lawful}
-use Rattle.bac_fields.specs.Laws.Languages.{lawful_alike, stop_alike, stop_at_first, has_second}
-use Rattle.bac_fields.specs.Laws.Leaves.{leaf_lawful, one_none, one_other_name, one_other_number, one_other_contents}
-use Rattle.bac_fields.specs.Laws.Making.{symbols_after, some_stopped, none_stopped, first_stopped, second_stopped}
-use Rattle.bac_fields.specs.Laws.Numbers.{number_lawful, numbers_lawful, read_says}
+use Rattle.bac_field_parts.specs.Laws.Languages.{lawful_alike, stop_alike, stop_at_first, has_second}
+use Rattle.bac_field_parts.specs.Laws.Leaves.{leaf_lawful, one_none, one_other_name, one_other_number, one_other_contents}
+use Rattle.bac_field_parts.specs.Laws.Making.{symbols_after, some_stopped, none_stopped, first_stopped, second_stopped}
+use Rattle.bac_field_parts.specs.Laws.Numbers.{number_lawful, numbers_lawful, read_says}
 use Rattle.bac_fields.specs.Laws.Layouts.{messages_lawful}
-use Rattle.bac_fields.specs.Laws.Parts.{pair_said, pair_lawful, pair_stop_first, pair_stop_second, maybe_said, maybe_lawful, either_said, choice_lawful}
+use Rattle.bac_field_parts.specs.Laws.Parts.{pair_said, pair_lawful, pair_stop_first, pair_stop_second, maybe_said, maybe_lawful, either_said, choice_lawful}
 
 -- ---- the body: an APDU or a network message
 

@@ -23,16 +23,16 @@ use Rattle.bac_service.specs.PropertyValue.{SpellsPropertyValue}
 use Rattle.bac_service.specs.ReadAccessResult.{SpellsAccessResult}
 use Rattle.bac_service.specs.ReadAccessSpecification.{SpellsSpecification}
 use Rattle.bac_service.specs.WriteAccessSpecification.{SpellsWriteSpecification}
-use Rattle.bac_fields.specs.PrimitiveFields.{object_number}
-use Rattle.bac_fields.specs.Symbols.{Symbol, named, numbered, containing, finished, lead_of, has, is_edge, nothing_said, Language, Lawful, disjoint, number_said, no_number, the_number, no_octets}
-use Rattle.bac_fields.specs.Laws.Leaves.{leaf_lawful, end_lawful, nothing_inhabited, octet_inhabited, tag_fits, type_fits}
-use Rattle.bac_fields.specs.Laws.Tagged.{after_sound}
+use Rattle.bac_field_parts.specs.PrimitiveFields.{object_number}
+use Rattle.bac_field_parts.specs.Symbols.{Symbol, named, numbered, containing, finished, lead_of, has, is_edge, nothing_said, Language, Lawful, disjoint, number_said, no_number, the_number, no_octets}
+use Rattle.bac_field_parts.specs.Laws.Leaves.{leaf_lawful, end_lawful, nothing_inhabited, octet_inhabited, tag_fits, type_fits}
+use Rattle.bac_field_parts.specs.Laws.Tagged.{after_sound}
 use Rattle.bac_fields.specs.Laws.ErrorMessages.{SpellsServiceError, service_error_said, service_error_message, cause_choice_inhabited, write_error_said, write_error_message}
 use Rattle.bac_service.specs.WritePropertyMultipleError.{SpellsWriteError}
 use Rattle.bac_tag.specs.declared.heads.TagHead.{TagHead}
-use Rattle.bac_fields.specs.Laws.Messages.{message_lawful}
-use Rattle.bac_fields.specs.Laws.OpenValues.{open_lawful}
-use Rattle.bac_fields.specs.Laws.Parts.{pair_said, pair_lawful, maybe_said, maybe_lawful, list_said, list_lawful, either_said, choice_lawful}
+use Rattle.bac_field_parts.specs.Laws.Messages.{message_lawful}
+use Rattle.bac_field_parts.specs.Laws.OpenValues.{open_lawful}
+use Rattle.bac_field_parts.specs.Laws.Parts.{pair_said, pair_lawful, maybe_said, maybe_lawful, list_said, list_lawful, either_said, choice_lawful}
 use Rattle.bac_fields.specs.Laws.ServiceMessages.{reference_said, reference_message, value_said, value_message, cause_said, cause_message, result_said, result_message, specification_said, specification_message, access_said, access_message, write_specification_said, write_specification_message, SpellsChosen}
 
 -- ---- single fields

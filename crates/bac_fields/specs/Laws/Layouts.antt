@@ -10,16 +10,16 @@ use Rattle.bac_npdu.specs.declared.messages.port.Port.{Port}
 use Rattle.bac_npdu.specs.Messages.{MessageValue, who_is_router, i_am_router, i_could_be_router, reject_message, router_busy, router_available, init_table, init_table_ack, establish, disconnect, what_is_network_number, network_number_is, opaque, SpellsMessage, IsMessage, networks_of, network_or_none, table_of, table_or_none}
 use Rattle.bac_npdu.specs.MessageTypes.{is_typed, IsVendored}
 use Rattle.bac_service.specs.Laws.Least.{appends_alike}
-use Rattle.bac_fields.specs.declared.field.Field.{Field}
+use Rattle.bac_field_parts.specs.declared.field.Field.{Field}
 use Rattle.bac_fields.specs.MessageFields.{message_steps}
 use Rattle.bac_fields.specs.MessageSymbols.{message_said, Layout, who_is, i_am, could_be, reject, busy, available, table, table_ack, establishing, disconnecting, number_wanted, number_told, plain, vendored, SaidIn, message_in, layout_said, typed_layout, layout_told, type_in, IsOpaqueType}
-use Rattle.bac_fields.specs.Opaques.{AreTheOctets}
-use Rattle.bac_fields.specs.Symbols.{Symbol, named, numbered, containing, finished, contents_in, symbols_in, Language, Lawful, Opens, IsStop, Made}
+use Rattle.bac_field_parts.specs.Opaques.{AreTheOctets}
+use Rattle.bac_field_parts.specs.Symbols.{Symbol, named, numbered, containing, finished, contents_in, symbols_in, Language, Lawful, Opens, IsStop, Made}
 use Rattle.bac_fields.specs.Laws.Among.{numbered_stopped}
-use Rattle.bac_fields.specs.Laws.Languages.{stop_at_first}
-use Rattle.bac_fields.specs.Laws.Messages.{Alike, then_alike, second_alike}
+use Rattle.bac_field_parts.specs.Laws.Languages.{stop_at_first}
+use Rattle.bac_field_parts.specs.Laws.Messages.{Alike, then_alike, second_alike}
 use Rattle.bac_fields.specs.Laws.NetworkMessages.{Exactly, SpellsLaidOut, SpellsWhoIsRouter, SpellsNetworks, SpellsNetworkNumber, SpellsReject, SpellsInitTable, SpellsInitTableAck, SpellsDisconnect, SpellsNumberWanted, SpellsPlain, SpellsVendored}
-use Rattle.bac_fields.specs.Laws.OctetForms.{octets_headed, two_headed}
+use Rattle.bac_field_parts.specs.Laws.OctetForms.{octets_headed, two_headed}
 use Rattle.bac_fields.specs.Laws.Services.{ended, not_first}
 
 abbrev Messages : Unit {0} → List Symbol → Type 0

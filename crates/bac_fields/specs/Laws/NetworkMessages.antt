@@ -11,20 +11,20 @@ use Rattle.bac_npdu.specs.declared.messages.port.Port.{Port}
 use Rattle.bac_npdu.specs.Messages.{networks_of, network_or_none, ports_of, table_of, table_or_none}
 use Rattle.bac_npdu.specs.MessageTypes.{is_typed}
 use Rattle.bac_service.specs.Productions.{Items, Optional, IsInhabited}
-use Rattle.bac_fields.specs.declared.names.Name.{Name}
-use Rattle.bac_fields.specs.declared.names.Name.TheVariants as name
-use Rattle.bac_fields.specs.Fields.{Step, next, item_steps, word}
+use Rattle.bac_field_parts.specs.declared.names.Name.{Name}
+use Rattle.bac_field_parts.specs.declared.names.Name.TheVariants as name
+use Rattle.bac_field_parts.specs.Fields.{Step, next, item_steps, word}
 use Rattle.bac_fields.specs.MessageFields.{listed_network_steps, networks_steps, port_steps, ports_steps, type_step}
 use Rattle.bac_fields.specs.MessageSymbols.{who_is, reject, table, table_ack, disconnecting, number_wanted, plain, vendored, layout_said, IsOpaqueType}
-use Rattle.bac_fields.specs.Names.{number_of}
-use Rattle.bac_fields.specs.OctetForms.{IsOneOctet, AreTwoOctets, AreCounted}
-use Rattle.bac_fields.specs.Opaques.{AreTheOctets}
-use Rattle.bac_fields.specs.Symbols.{Symbol, finished, IsMessage, Language, Lawful, HasForm, the_octet, the_number, no_number, no_octet_number, no_octets, number_said, contents_said, end_said, steps_said}
-use Rattle.bac_fields.specs.Tables.{SpellsTable}
+use Rattle.bac_field_parts.specs.Names.{number_of}
+use Rattle.bac_field_parts.specs.OctetForms.{IsOneOctet, AreTwoOctets, AreCounted}
+use Rattle.bac_field_parts.specs.Opaques.{AreTheOctets}
+use Rattle.bac_field_parts.specs.Symbols.{Symbol, finished, IsMessage, Language, Lawful, HasForm, the_octet, the_number, no_number, no_octet_number, no_octets, number_said, contents_said, end_said, steps_said}
+use Rattle.bac_field_parts.specs.Tables.{SpellsTable}
 use Rattle.bac_fields.specs.Laws.Items.{one, word_law, and_then}
-use Rattle.bac_fields.specs.Laws.Leaves.{held_lawful}
-use Rattle.bac_fields.specs.Laws.Messages.{Alike, first_part, last_part, second_alike, then_alike, grouped_first, message_lawful}
-use Rattle.bac_fields.specs.Laws.OctetForms.{turned, octet_headed, two_headed, counted_headed, one_octet_inhabited, two_octets_inhabited, counted_inhabited}
+use Rattle.bac_field_parts.specs.Laws.Leaves.{held_lawful}
+use Rattle.bac_field_parts.specs.Laws.Messages.{Alike, first_part, last_part, second_alike, then_alike, grouped_first, message_lawful}
+use Rattle.bac_field_parts.specs.Laws.OctetForms.{turned, octet_headed, two_headed, counted_headed, one_octet_inhabited, two_octets_inhabited, counted_inhabited}
 use Rattle.bac_fields.specs.Laws.ServiceMessages.{SpellsChosen, items_told}
 
 -- these octets, and nothing after them

@@ -12,13 +12,13 @@ use Rattle.bac_service.specs.PropertyValue.{SpellsPropertyValue}
 use Rattle.bac_service.specs.declared.kind.Kind.{Kind}
 use Rattle.bac_service.specs.declared.kind.Kind.TheVariants.{Confirmed, Unconfirmed}
 use Rattle.bac_service.specs.declared.services.property_value.PropertyValue.{PropertyValue}
-use Rattle.bac_fields.specs.declared.names.Name.TheVariants as name
+use Rattle.bac_field_parts.specs.declared.names.Name.TheVariants as name
 use Rattle.bac_fields.specs.CovNotificationFields.{notification_steps}
-use Rattle.bac_fields.specs.Fields.{next, item_steps, closing_field}
-use Rattle.bac_fields.specs.PrimitiveFields.{object_number}
+use Rattle.bac_field_parts.specs.Fields.{next, item_steps, closing_field}
+use Rattle.bac_field_parts.specs.PrimitiveFields.{object_number}
 use Rattle.bac_fields.specs.PropertyFields.{property_value_steps}
-use Rattle.bac_fields.specs.Symbols.{Symbol, finished, IsMessage, the_octet, the_number, no_octets, number_said, end_said, steps_said}
-use Rattle.bac_fields.specs.Laws.Messages.{last_part, second_alike, then_alike, grouped_first}
+use Rattle.bac_field_parts.specs.Symbols.{Symbol, finished, IsMessage, the_octet, the_number, no_octets, number_said, end_said, steps_said}
+use Rattle.bac_field_parts.specs.Laws.Messages.{last_part, second_alike, then_alike, grouped_first}
 use Rattle.bac_fields.specs.Laws.ServiceMessages.{SpellsChosen, items_told, value_said}
 
 -- the values, between their tags

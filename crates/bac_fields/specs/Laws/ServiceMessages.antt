@@ -9,11 +9,11 @@ use Rattle.bac_service.specs.Contents.{ObjectField, UnsignedField}
 use Rattle.bac_service.specs.Laws.Parts.{EnumeratedPart, of_number}
 use Rattle.bac_service.specs.ReadProperty.{SpellsReadProperty}
 use Rattle.bac_value.specs.declared.types.enumeration.Enumerated.{Enumerated}
-use Rattle.bac_fields.specs.declared.names.Name.TheVariants as name
-use Rattle.bac_fields.specs.PrimitiveFields.{object_number}
+use Rattle.bac_field_parts.specs.declared.names.Name.TheVariants as name
+use Rattle.bac_field_parts.specs.PrimitiveFields.{object_number}
 use Rattle.bac_fields.specs.ReadPropertyFields.{read_property_steps}
-use Rattle.bac_fields.specs.Symbols.{Symbol, finished, IsMessage, the_octet, the_number, no_number, no_octets, number_said, end_said, steps_said, field_said}
-use Rattle.bac_fields.specs.Fields.{Step, next, aside, pass, held_field, word, item_steps, closing_field}
+use Rattle.bac_field_parts.specs.Symbols.{Symbol, finished, IsMessage, the_octet, the_number, no_number, no_octets, number_said, end_said, steps_said, field_said}
+use Rattle.bac_field_parts.specs.Fields.{Step, next, aside, pass, held_field, word, item_steps, closing_field}
 use Rattle.std.proofs.Common.{ap, sym, ◌∙◌, append_assoc}
 use Rattle.std.specs.Option.{option_map}
 use Rattle.std.specs.List.{flat_map}
@@ -37,14 +37,14 @@ use Rattle.bac_service.specs.declared.services.property_result.ReadResult.TheVar
 use Rattle.bac_service.specs.declared.services.property_result.PropertyResult.{PropertyResult}
 use Rattle.bac_service.specs.PropertyResult.{SpellsReadResult, SpellsPropertyResult, read_result_of}
 use Rattle.bac_service.specs.ReadAccessResult.{AccessResult, SpellsAccessResult}
-use Rattle.bac_fields.specs.Laws.Parts.{either_said}
+use Rattle.bac_field_parts.specs.Laws.Parts.{either_said}
 use Rattle.bac_fields.specs.PropertyFields.{reference_steps, property_value_steps, property_result_steps, error_steps}
 use Rattle.bac_fields.specs.ReadPropertyMultipleFields.{specification_steps, read_multiple_steps, access_result_steps, read_multiple_ack_steps}
 use Rattle.std.specs.Prelude.{Bool}
 use Rattle.bac_value.specs.declared.types.boolean_value.Boolean.{Boolean as BooleanType}
 use Rattle.bac_service.specs.Laws.SubscribeCov.{BitField, bit_of, boolean_of, subscribe_cov_of, subscribe_cov_alike}
-use Rattle.bac_fields.specs.PrimitiveFields.{truth, number_under}
-use Rattle.bac_fields.specs.Laws.Messages.{Alike, first_part, last_part, second_alike, then_alike, grouped_first}
+use Rattle.bac_field_parts.specs.PrimitiveFields.{truth, number_under}
+use Rattle.bac_field_parts.specs.Laws.Messages.{Alike, first_part, last_part, second_alike, then_alike, grouped_first}
 use Rattle.bac_data.specs.OpenValue.{Elements}
 use Rattle.bac_data.specs.Spells.{SpellsOpen}
 use Rattle.bac_service.specs.declared.services.read_property_ack.ReadPropertyAck.{ReadPropertyAck}
@@ -59,7 +59,7 @@ use Rattle.bac_service.specs.WhoIs.{SpellsWhoIs}
 use Rattle.bac_service.specs.IAm.{SpellsIAm}
 use Rattle.bac_service.specs.Contents.{PriorityField, InstanceField, ApplicationObject, ApplicationUnsigned, ApplicationUnsigned16}
 use Rattle.bac_service.specs.Laws.Parts.{ApplicationEnumeratedPart}
-use Rattle.bac_fields.specs.OpenValueFields.{open_steps}
+use Rattle.bac_field_parts.specs.OpenValueFields.{open_steps}
 use Rattle.bac_fields.specs.ReadPropertyFields.{read_property_ack_steps}
 use Rattle.bac_fields.specs.WritePropertyFields.{write_property_steps}
 use Rattle.bac_fields.specs.SubscribeCovFields.{subscribe_cov_steps}

@@ -10,13 +10,13 @@ use Rattle.bac_service.specs.Laws.Service.{spelled_as}
 use Rattle.bac_service.specs.declared.kind.Kind.{Kind}
 use Rattle.bac_service.specs.declared.kind.Kind.TheVariants.{Confirmed, Unconfirmed, ComplexAck, Error}
 use Rattle.bac_fields.specs.ServiceSymbols.{service_said, SpellsAfterHead, first_name, named_choice, service_leads}
-use Rattle.bac_fields.specs.Symbols.{Symbol, named, numbered, containing, finished, contents_in, symbols_in, lead_in, has, Opens, Lawful, IsStop, Made, Language, the_octet, field_said, steps_said}
-use Rattle.bac_fields.specs.Fields.{FieldValue, Step, next, aside, pass, held_field}
-use Rattle.bac_fields.specs.Laws.Messages.{second_alike}
-use Rattle.bac_fields.specs.Laws.Opaques.{has_word, opaque_said, SpellsOpaque, opaque_choice_inhabited}
+use Rattle.bac_field_parts.specs.Symbols.{Symbol, named, numbered, containing, finished, contents_in, symbols_in, lead_in, has, Opens, Lawful, IsStop, Made, Language, the_octet, field_said, steps_said}
+use Rattle.bac_field_parts.specs.Fields.{FieldValue, Step, next, aside, pass, held_field}
+use Rattle.bac_field_parts.specs.Laws.Messages.{second_alike}
+use Rattle.bac_field_parts.specs.Laws.Opaques.{has_word, opaque_said, SpellsOpaque, opaque_choice_inhabited}
 use Rattle.bac_fields.specs.Laws.Among.{among_stopped}
-use Rattle.bac_fields.specs.Laws.Languages.{stop_at_first}
-use Rattle.bac_fields.specs.declared.field.Field.{Field}
+use Rattle.bac_field_parts.specs.Laws.Languages.{stop_at_first}
+use Rattle.bac_field_parts.specs.declared.field.Field.{Field}
 use Rattle.bac_service.specs.Laws.Least.{least_alike}
 use Rattle.bac_fields.specs.ServiceFields.{service_steps}
 

@@ -1,14 +1,13 @@
 //! The fields of ComplexACK (clause 20.1.5).
 
-use crate::cursor::Cursor;
-use crate::field::Field;
 use crate::headings::{Head, Heading};
-use crate::names::Name;
-use crate::numbers::{FromNumbers, Nothing, Number, number_named};
 use crate::parts::{Aside, HasFields, Pass};
 use crate::services::answers::AnswerService;
-use crate::whole::Message;
 use bac_apdu::ComplexAck;
+use bac_field_parts::cursor::Cursor;
+use bac_field_parts::numbers::{FromNumbers, Nothing, Number, number_named};
+use bac_field_parts::whole::Message;
+use bac_field_parts::{Field, Name};
 use bac_tag::OutOfMemory;
 
 impl HasFields for ComplexAck {
@@ -30,7 +29,7 @@ impl HasFields for ComplexAck {
 pub(crate) struct ComplexAckHead;
 
 impl Head for ComplexAckHead {
-    ghost use Rattle.bac_fields.specs.declared.names.Name.TheVariants as name;
+    ghost use Rattle.bac_field_parts.specs.declared.names.Name.TheVariants as name;
     ghost use Rattle.bac_fields.specs.ApduSymbols.{complex_ack_front};
     ghost use Rattle.bac_fields.specs.Laws.ApduMessages.{complex_ack_fit};
 

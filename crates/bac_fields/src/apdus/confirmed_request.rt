@@ -1,15 +1,14 @@
 //! The fields of Confirmed-Request (clause 20.1.2).
 
 use crate::apdus::front::{RequestNumbers, request_numbers};
-use crate::cursor::Cursor;
-use crate::field::Field;
 use crate::headings::{Head, Heading};
-use crate::names::Name;
-use crate::numbers::{FromNumbers, Nothing, Number, number_named};
 use crate::parts::{Aside, HasFields, Pass};
 use crate::services::confirmed::ConfirmedService;
-use crate::whole::Message;
 use bac_apdu::ConfirmedRequest;
+use bac_field_parts::cursor::Cursor;
+use bac_field_parts::numbers::{FromNumbers, Nothing, Number, number_named};
+use bac_field_parts::whole::Message;
+use bac_field_parts::{Field, Name};
 use bac_tag::OutOfMemory;
 
 impl HasFields for ConfirmedRequest {
@@ -30,7 +29,7 @@ impl HasFields for ConfirmedRequest {
 pub(crate) struct ConfirmedRequestHead;
 
 impl Head for ConfirmedRequestHead {
-    ghost use Rattle.bac_fields.specs.declared.names.Name.TheVariants as name;
+    ghost use Rattle.bac_field_parts.specs.declared.names.Name.TheVariants as name;
     ghost use Rattle.bac_fields.specs.ApduSymbols.{confirmed_request_front};
     ghost use Rattle.bac_fields.specs.Laws.ApduMessages.{confirmed_request_fit};
 

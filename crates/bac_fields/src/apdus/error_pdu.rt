@@ -1,14 +1,13 @@
 //! The fields of Error (clause 20.1.7).
 
-use crate::cursor::Cursor;
-use crate::field::Field;
 use crate::headings::{Head, Heading};
-use crate::names::Name;
-use crate::numbers::{FromNumbers, Nothing, Number, number_named};
 use crate::parts::{Aside, HasFields, Pass};
 use crate::services::errors::ErrorService;
-use crate::whole::Message;
 use bac_apdu::ErrorPdu;
+use bac_field_parts::cursor::Cursor;
+use bac_field_parts::numbers::{FromNumbers, Nothing, Number, number_named};
+use bac_field_parts::whole::Message;
+use bac_field_parts::{Field, Name};
 use bac_tag::OutOfMemory;
 
 impl HasFields for ErrorPdu {
@@ -30,7 +29,7 @@ impl HasFields for ErrorPdu {
 pub(crate) struct ErrorHead;
 
 impl Head for ErrorHead {
-    ghost use Rattle.bac_fields.specs.declared.names.Name.TheVariants as name;
+    ghost use Rattle.bac_field_parts.specs.declared.names.Name.TheVariants as name;
     ghost use Rattle.bac_fields.specs.ApduSymbols.{error_front};
     ghost use Rattle.bac_fields.specs.Laws.ApduMessages.{error_fit};
 

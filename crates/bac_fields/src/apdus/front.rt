@@ -1,14 +1,13 @@
 //! What the heads of requests, and those of segments, have in common.
 
 ghost use Rattle.std.specs.Prelude.{◌≡◌};
-ghost use Rattle.bac_fields.specs.declared.names.Name.TheVariants as name;
+ghost use Rattle.bac_field_parts.specs.declared.names.Name.TheVariants as name;
 
-use crate::cursor::Cursor;
-use crate::field::Field;
-use crate::names::Name;
-use crate::numbers::{Number, number_named};
 use crate::parts::{Aside, HasFields};
 use bac_apdu::{MaxResp, MaxSegs, RequestHead, Window};
+use bac_field_parts::cursor::Cursor;
+use bac_field_parts::numbers::{Number, number_named};
+use bac_field_parts::{Field, Name};
 
 /// The head of a request without its first word.
 impl HasFields for RequestHead {

@@ -1,16 +1,15 @@
 //! The fields of Reject (clause 20.1.8).
 
 ghost use Rattle.bac_fields.specs.ApduFields.{reject_steps};
-ghost use Rattle.bac_fields.specs.Fields.{Writes};
+ghost use Rattle.bac_field_parts.specs.Fields.{Writes};
 
-use crate::cursor::Cursor;
-use crate::field::Field;
 use crate::headings::{Head, Heading};
-use crate::making::End;
-use crate::names::Name;
-use crate::numbers::{FromNumbers, Nothing, Number, number_named};
 use crate::parts::{Aside, HasFields, Pass};
-use crate::whole::Message;
+use bac_field_parts::cursor::Cursor;
+use bac_field_parts::making::End;
+use bac_field_parts::numbers::{FromNumbers, Nothing, Number, number_named};
+use bac_field_parts::whole::Message;
+use bac_field_parts::{Field, Name};
 use bac_tag::OutOfMemory;
 
 /// Writes the fields of a Reject.
@@ -33,7 +32,7 @@ pub(crate) fn tell_reject(
 pub(crate) struct RejectHead;
 
 impl Head for RejectHead {
-    ghost use Rattle.bac_fields.specs.declared.names.Name.TheVariants as name;
+    ghost use Rattle.bac_field_parts.specs.declared.names.Name.TheVariants as name;
     ghost use Rattle.bac_fields.specs.ApduSymbols.{reject_front};
     ghost use Rattle.bac_fields.specs.Laws.ApduMessages.{reject_fit};
 

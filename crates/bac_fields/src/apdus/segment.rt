@@ -3,16 +3,16 @@
 ghost use Rattle.bac_fields.specs.ApduFields.{segment_steps};
 
 use crate::apdus::front::{RequestNumbers, SegmentNumbers, request_numbers, segment_numbers};
-use crate::cursor::Cursor;
-use crate::field::Field;
-use crate::forms::Held;
 use crate::headings::{Head, Heading};
-use crate::making::End;
-use crate::names::Name;
-use crate::numbers::{FromNumbers, Nothing, Number, number_named};
-use crate::parts::{AnyOctets, Aside, HasFields, Octets, Pass};
-use crate::whole::Message;
+use crate::parts::{Aside, HasFields, Octets, Pass};
 use bac_apdu::{SegHead, Segment};
+use bac_field_parts::cursor::Cursor;
+use bac_field_parts::forms::Held;
+use bac_field_parts::leaves::AnyOctets;
+use bac_field_parts::making::End;
+use bac_field_parts::numbers::{FromNumbers, Nothing, Number, number_named};
+use bac_field_parts::whole::Message;
+use bac_field_parts::{Field, Name};
 use bac_tag::OutOfMemory;
 
 /// What follows the invoke id of a segment, whose next octet has the number N in the head.
@@ -60,7 +60,7 @@ impl HasFields for Segment {
 pub(crate) struct RequestSegmentHead;
 
 impl Head for RequestSegmentHead {
-    ghost use Rattle.bac_fields.specs.declared.names.Name.TheVariants as name;
+    ghost use Rattle.bac_field_parts.specs.declared.names.Name.TheVariants as name;
     ghost use Rattle.bac_fields.specs.ApduSymbols.{request_segment_front};
     ghost use Rattle.bac_fields.specs.Laws.ApduMessages.{request_segment_fit};
 
@@ -95,7 +95,7 @@ impl Head for RequestSegmentHead {
 pub(crate) struct RequestSegmentFields;
 
 impl Message for RequestSegmentFields {
-    ghost use Rattle.bac_fields.specs.declared.names.Name.TheVariants as name;
+    ghost use Rattle.bac_field_parts.specs.declared.names.Name.TheVariants as name;
     ghost use Rattle.bac_fields.specs.ApduSymbols.{request_segment, SaidBy, said_by, SpellsBy};
     ghost use Rattle.bac_fields.specs.Laws.ApduMessages.{request_segment_message};
 
@@ -124,7 +124,7 @@ impl Message for RequestSegmentFields {
 pub(crate) struct AckSegmentHead;
 
 impl Head for AckSegmentHead {
-    ghost use Rattle.bac_fields.specs.declared.names.Name.TheVariants as name;
+    ghost use Rattle.bac_field_parts.specs.declared.names.Name.TheVariants as name;
     ghost use Rattle.bac_fields.specs.ApduSymbols.{ack_segment_front};
     ghost use Rattle.bac_fields.specs.Laws.ApduMessages.{ack_segment_fit};
 
@@ -158,7 +158,7 @@ impl Head for AckSegmentHead {
 pub(crate) struct AckSegmentFields;
 
 impl Message for AckSegmentFields {
-    ghost use Rattle.bac_fields.specs.declared.names.Name.TheVariants as name;
+    ghost use Rattle.bac_field_parts.specs.declared.names.Name.TheVariants as name;
     ghost use Rattle.bac_fields.specs.ApduSymbols.{ack_segment, SaidBy, said_by, SpellsBy};
     ghost use Rattle.bac_fields.specs.Laws.ApduMessages.{ack_segment_message};
 

@@ -1,17 +1,16 @@
 //! The fields of SegmentACK (clause 20.1.6).
 
 ghost use Rattle.bac_fields.specs.ApduFields.{segment_ack_steps};
-ghost use Rattle.bac_fields.specs.Fields.{Writes};
+ghost use Rattle.bac_field_parts.specs.Fields.{Writes};
 
-use crate::cursor::Cursor;
-use crate::field::Field;
 use crate::headings::{Head, Heading};
-use crate::making::End;
-use crate::names::Name;
-use crate::numbers::{FromNumbers, Nothing, Number, number_named};
 use crate::parts::{Aside, HasFields, Pass};
-use crate::whole::Message;
 use bac_apdu::Window;
+use bac_field_parts::cursor::Cursor;
+use bac_field_parts::making::End;
+use bac_field_parts::numbers::{FromNumbers, Nothing, Number, number_named};
+use bac_field_parts::whole::Message;
+use bac_field_parts::{Field, Name};
 use bac_tag::OutOfMemory;
 
 /// Writes the fields of a SegmentACK.
@@ -39,7 +38,7 @@ pub(crate) fn tell_segment_ack(
 pub(crate) struct SegmentAckHead;
 
 impl Head for SegmentAckHead {
-    ghost use Rattle.bac_fields.specs.declared.names.Name.TheVariants as name;
+    ghost use Rattle.bac_field_parts.specs.declared.names.Name.TheVariants as name;
     ghost use Rattle.bac_fields.specs.ApduSymbols.{segment_ack_front};
     ghost use Rattle.bac_fields.specs.Laws.ApduMessages.{segment_ack_fit};
 

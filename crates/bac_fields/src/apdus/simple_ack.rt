@@ -1,16 +1,15 @@
 //! The fields of SimpleACK (clause 20.1.4).
 
 ghost use Rattle.bac_fields.specs.ApduFields.{simple_ack_steps};
-ghost use Rattle.bac_fields.specs.Fields.{Writes};
+ghost use Rattle.bac_field_parts.specs.Fields.{Writes};
 
-use crate::cursor::Cursor;
-use crate::field::Field;
 use crate::headings::{Head, Heading};
-use crate::making::End;
-use crate::names::Name;
-use crate::numbers::{FromNumbers, Nothing, Number, number_named};
 use crate::parts::{Aside, HasFields, Pass};
-use crate::whole::Message;
+use bac_field_parts::cursor::Cursor;
+use bac_field_parts::making::End;
+use bac_field_parts::numbers::{FromNumbers, Nothing, Number, number_named};
+use bac_field_parts::whole::Message;
+use bac_field_parts::{Field, Name};
 use bac_tag::OutOfMemory;
 
 /// Writes the fields of a SimpleACK.
@@ -33,7 +32,7 @@ pub(crate) fn tell_simple_ack(
 pub(crate) struct SimpleAckHead;
 
 impl Head for SimpleAckHead {
-    ghost use Rattle.bac_fields.specs.declared.names.Name.TheVariants as name;
+    ghost use Rattle.bac_field_parts.specs.declared.names.Name.TheVariants as name;
     ghost use Rattle.bac_fields.specs.ApduSymbols.{simple_ack_front};
     ghost use Rattle.bac_fields.specs.Laws.ApduMessages.{simple_ack_fit};
 

@@ -1,14 +1,13 @@
 //! The fields of Unconfirmed-Request (clause 20.1.3).
 
-use crate::cursor::Cursor;
-use crate::field::Field;
 use crate::headings::{Head, Heading};
-use crate::names::Name;
-use crate::numbers::{FromNumbers, Nothing, Number, number_named};
 use crate::parts::{Aside, HasFields, Pass};
 use crate::services::unconfirmed::UnconfirmedService;
-use crate::whole::Message;
 use bac_apdu::UnconfirmedRequest;
+use bac_field_parts::cursor::Cursor;
+use bac_field_parts::numbers::{FromNumbers, Nothing, Number, number_named};
+use bac_field_parts::whole::Message;
+use bac_field_parts::{Field, Name};
 use bac_tag::OutOfMemory;
 
 impl HasFields for UnconfirmedRequest {
@@ -28,7 +27,7 @@ impl HasFields for UnconfirmedRequest {
 pub(crate) struct UnconfirmedRequestHead;
 
 impl Head for UnconfirmedRequestHead {
-    ghost use Rattle.bac_fields.specs.declared.names.Name.TheVariants as name;
+    ghost use Rattle.bac_field_parts.specs.declared.names.Name.TheVariants as name;
     ghost use Rattle.bac_fields.specs.ApduSymbols.{unconfirmed_request_front};
     ghost use Rattle.bac_fields.specs.Laws.ApduMessages.{unconfirmed_request_fit};
 

@@ -3,14 +3,14 @@
 ghost use Rattle.std.specs.Prelude.{ℕ, List};
 ghost use Rattle.bac_fields.specs.MessageFields.{networks_steps};
 
-use crate::cursor::Cursor;
-use crate::field::Field;
-use crate::forms::One;
-use crate::making::{Each, End};
 use crate::messages::kind;
-use crate::names::Name;
-use crate::parts::{AnyTwoOctets, HasFields, Octet, TwoOctets, Word};
-use crate::whole::Message;
+use crate::parts::{HasFields, TwoOctets};
+use bac_field_parts::cursor::Cursor;
+use bac_field_parts::forms::One;
+use bac_field_parts::leaves::{AnyTwoOctets, Octet, Word};
+use bac_field_parts::making::{Each, End};
+use bac_field_parts::whole::Message;
+use bac_field_parts::{Field, Name};
 
 /// The networks of a list.
 #[derive(Clone, Copy)]
@@ -49,7 +49,7 @@ impl HasFields for Networks<'_> {
 pub(crate) struct NetworksFields(pub(crate) u8);
 
 impl Message for NetworksFields {
-    ghost use Rattle.bac_fields.specs.declared.names.Name.TheVariants as name;
+    ghost use Rattle.bac_field_parts.specs.declared.names.Name.TheVariants as name;
     ghost use Rattle.bac_fields.specs.Laws.NetworkMessages.{networks_said, SpellsNetworks, networks_message};
 
     type Parts = (

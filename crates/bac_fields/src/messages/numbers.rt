@@ -1,20 +1,20 @@
 //! The fields of messages that have at most one network, and numbers of one octet.
 
-use crate::cursor::Cursor;
-use crate::field::Field;
-use crate::forms::One;
-use crate::making::{End, Maybe};
 use crate::messages::kind;
-use crate::names::Name;
-use crate::parts::{AnyOctet, AnyTwoOctets, HasFields, Octet, TwoOctets};
-use crate::whole::Message;
+use crate::parts::{HasFields, TwoOctets};
+use bac_field_parts::cursor::Cursor;
+use bac_field_parts::forms::One;
+use bac_field_parts::leaves::{AnyOctet, AnyTwoOctets, Octet};
+use bac_field_parts::making::{End, Maybe};
+use bac_field_parts::whole::Message;
+use bac_field_parts::{Field, Name};
 
 /// A network that may be absent, or a vendor.
 #[derive(Clone, Copy)]
 pub(crate) struct OptionalTwo(pub(crate) Name, pub(crate) Option<u16>);
 
 impl HasFields for OptionalTwo {
-    ghost use Rattle.bac_fields.specs.Fields.{optional, two_octets_field};
+    ghost use Rattle.bac_field_parts.specs.Fields.{optional, two_octets_field};
 
     ghost steps = { λ part. optional (two_octets_field part.0) part.1 };
 
@@ -33,7 +33,7 @@ pub(crate) struct WhoIsRouterFields;
 
 impl Message for WhoIsRouterFields {
     ghost use Rattle.std.specs.Prelude.{ℕ, Option};
-    ghost use Rattle.bac_fields.specs.declared.names.Name.TheVariants as name;
+    ghost use Rattle.bac_field_parts.specs.declared.names.Name.TheVariants as name;
     ghost use Rattle.bac_fields.specs.MessageSymbols.{who_is, layout_said};
     ghost use Rattle.bac_fields.specs.Laws.NetworkMessages.{SpellsWhoIsRouter, who_is_router_message};
 
@@ -62,7 +62,7 @@ pub(crate) struct NetworkNumberFields(pub(crate) u8, pub(crate) Name);
 
 impl Message for NetworkNumberFields {
     ghost use Rattle.std.specs.Prelude.{ℕ};
-    ghost use Rattle.bac_fields.specs.declared.names.Name.TheVariants as name;
+    ghost use Rattle.bac_field_parts.specs.declared.names.Name.TheVariants as name;
     ghost use Rattle.bac_fields.specs.Laws.NetworkMessages.{network_number_said, SpellsNetworkNumber, network_number_message};
 
     type Parts = (One<Octet>, (One<AnyTwoOctets>, (One<AnyOctet>, End)));
@@ -90,7 +90,7 @@ pub(crate) struct RejectMessageFields;
 
 impl Message for RejectMessageFields {
     ghost use Rattle.std.specs.Prelude.{ℕ};
-    ghost use Rattle.bac_fields.specs.declared.names.Name.TheVariants as name;
+    ghost use Rattle.bac_field_parts.specs.declared.names.Name.TheVariants as name;
     ghost use Rattle.bac_fields.specs.MessageSymbols.{reject, layout_said};
     ghost use Rattle.bac_fields.specs.Laws.NetworkMessages.{SpellsReject, reject_message};
 
@@ -119,7 +119,7 @@ pub(crate) struct DisconnectFields;
 
 impl Message for DisconnectFields {
     ghost use Rattle.std.specs.Prelude.{ℕ};
-    ghost use Rattle.bac_fields.specs.declared.names.Name.TheVariants as name;
+    ghost use Rattle.bac_field_parts.specs.declared.names.Name.TheVariants as name;
     ghost use Rattle.bac_fields.specs.MessageSymbols.{disconnecting, layout_said};
     ghost use Rattle.bac_fields.specs.Laws.NetworkMessages.{SpellsDisconnect, disconnect_message};
 
@@ -146,7 +146,7 @@ impl Message for DisconnectFields {
 pub(crate) struct WhatIsNetworkNumberFields;
 
 impl Message for WhatIsNetworkNumberFields {
-    ghost use Rattle.bac_fields.specs.declared.names.Name.TheVariants as name;
+    ghost use Rattle.bac_field_parts.specs.declared.names.Name.TheVariants as name;
     ghost use Rattle.bac_fields.specs.MessageSymbols.{number_wanted, layout_said};
     ghost use Rattle.bac_fields.specs.Laws.NetworkMessages.{SpellsNumberWanted, number_wanted_message};
 

@@ -2,18 +2,18 @@
 
 ghost use Rattle.std.specs.Prelude.{◌≡◌, nat_le, ℕ, List, true, false};
 ghost use Rattle.bac_npdu.specs.MessageTypes.{is_typed};
-ghost use Rattle.bac_fields.specs.declared.names.Name.TheVariants as name;
+ghost use Rattle.bac_field_parts.specs.declared.names.Name.TheVariants as name;
 ghost use Rattle.bac_fields.specs.MessageSymbols.{IsOpaqueType};
 ghost use Rattle.bac_fields.specs.Laws.NetworkMessages.{opaque_type_inhabited};
 
-use crate::cursor::Cursor;
-use crate::field::Field;
-use crate::forms::{Form, Held, One};
-use crate::making::End;
 use crate::messages::numbers::OptionalTwo;
-use crate::names::Name;
-use crate::parts::{AnyOctets, AnyTwoOctets, HasFields, Octet, Octets};
-use crate::whole::Message;
+use crate::parts::{HasFields, Octets};
+use bac_field_parts::cursor::Cursor;
+use bac_field_parts::forms::{Form, Held, One};
+use bac_field_parts::leaves::{AnyOctets, AnyTwoOctets, Octet};
+use bac_field_parts::making::End;
+use bac_field_parts::whole::Message;
+use bac_field_parts::{Field, Name};
 use bac_npdu::OpaqueNet;
 use bac_tag::OutOfMemory;
 

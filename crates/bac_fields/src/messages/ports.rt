@@ -2,21 +2,18 @@
 
 ghost use Rattle.std.specs.Prelude.{List};
 ghost use Rattle.bac_npdu.specs.declared.messages.port.Port.{Port};
-ghost use Rattle.bac_fields.specs.declared.names.Name.TheVariants as name;
+ghost use Rattle.bac_field_parts.specs.declared.names.Name.TheVariants as name;
 ghost use Rattle.bac_fields.specs.MessageFields.{ports_steps};
 
-use crate::cursor::Cursor;
-use crate::field::Field;
-use crate::forms::{Held, One};
-use crate::making::{End, Fault, FromFields, Maybe};
 use crate::messages::kind;
-use crate::names::Name;
-use crate::parts::{
-    AnyOctet, AnyTwoOctets, Counted, CountedOctets, Counter, HasFields, Items, Octet, TwoOctets,
-    Word,
-};
-use crate::tables::Table;
-use crate::whole::{Message, Whole};
+use crate::parts::{Counted, Counter, HasFields, Items, TwoOctets};
+use bac_field_parts::cursor::Cursor;
+use bac_field_parts::forms::{Held, One};
+use bac_field_parts::leaves::{AnyOctet, AnyTwoOctets, CountedOctets, Octet, Word};
+use bac_field_parts::making::{End, Fault, FromFields, Maybe};
+use bac_field_parts::tables::Table;
+use bac_field_parts::whole::{Message, Whole};
+use bac_field_parts::{Field, Name};
 use bac_npdu::{Port, Ports};
 
 impl HasFields for Port {

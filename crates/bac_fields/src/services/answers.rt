@@ -1,11 +1,11 @@
 //! The fields of the service of an answer with contents.
 
-use crate::field::Field;
-use crate::making::{Fault, FromFields, Part, lead};
 use crate::services::opaque::OpaqueComplexAckFields;
 use crate::services::read_property::ReadPropertyAckFields;
 use crate::services::read_property_multiple::ReadMultipleAckFields;
-use crate::whole::Whole;
+use bac_field_parts::Field;
+use bac_field_parts::making::{Fault, FromFields, Part, lead};
+use bac_field_parts::whole::Whole;
 
 /// The service of an answer with contents.
 #[derive(Drop)]

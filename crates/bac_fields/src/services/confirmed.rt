@@ -1,7 +1,5 @@
 //! The fields of the service of a confirmed request.
 
-use crate::field::Field;
-use crate::making::{Fault, FromFields, Part, lead};
 use crate::services::cov_notification::ConfirmedFields;
 use crate::services::opaque::OpaqueConfirmedFields;
 use crate::services::read_property::ReadPropertyFields;
@@ -9,7 +7,9 @@ use crate::services::read_property_multiple::ReadMultipleFields;
 use crate::services::subscribe_cov::SubscribeCovFields;
 use crate::services::write_property::WritePropertyFields;
 use crate::services::write_property_multiple::WriteMultipleFields;
-use crate::whole::Whole;
+use bac_field_parts::Field;
+use bac_field_parts::making::{Fault, FromFields, Part, lead};
+use bac_field_parts::whole::Whole;
 
 /// The service of a confirmed request.
 #[derive(Drop)]

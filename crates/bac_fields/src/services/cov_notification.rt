@@ -1,19 +1,21 @@
 //! The fields of notifications of changed values (clauses 13.6 and 13.7).
 
 ghost use Rattle.std.specs.Prelude.{◌∷◌, []};
-ghost use Rattle.bac_fields.specs.Fields.{next};
+ghost use Rattle.bac_field_parts.specs.Fields.{next};
 ghost use Rattle.bac_fields.specs.CovNotificationFields.{notification_field};
 
-use crate::cursor::Cursor;
-use crate::field::Field;
-use crate::forms::One;
-use crate::making::{Each, End};
-use crate::names::Name;
-use crate::open_values::{Closing, ListedIn, Opening};
-use crate::parts::{HasFields, Octet};
+use crate::open_values::ListedIn;
+use crate::parts::HasFields;
 use crate::services::properties::ValueFields;
-use crate::values::{NumberUnder, Under, number_under};
-use crate::whole::{Message, Whole};
+use crate::values::Under;
+use bac_field_parts::cursor::Cursor;
+use bac_field_parts::edges::{Closing, Opening};
+use bac_field_parts::forms::One;
+use bac_field_parts::leaves::Octet;
+use bac_field_parts::making::{Each, End};
+use bac_field_parts::values::{NumberUnder, number_under};
+use bac_field_parts::whole::{Message, Whole};
+use bac_field_parts::{Field, Name};
 use bac_service::CovNotification;
 use bac_value::ObjectId;
 use bac_value::layers::Unsigned32;
@@ -62,7 +64,7 @@ pub(crate) struct ConfirmedFields;
 impl Message for ConfirmedFields {
     ghost use Rattle.bac_service.specs.CovNotification.{Notification, SpellsNotification};
     ghost use Rattle.bac_service.specs.declared.kind.Kind.TheVariants as kind;
-    ghost use Rattle.bac_fields.specs.declared.names.Name.TheVariants as name;
+    ghost use Rattle.bac_field_parts.specs.declared.names.Name.TheVariants as name;
     ghost use Rattle.bac_fields.specs.Laws.ServiceMessages.{SpellsChosen};
     ghost use Rattle.bac_fields.specs.Laws.NotificationMessages.{notification_said, confirmed_message};
 
@@ -116,7 +118,7 @@ pub(crate) struct UnconfirmedFields;
 impl Message for UnconfirmedFields {
     ghost use Rattle.bac_service.specs.CovNotification.{Notification, SpellsNotification};
     ghost use Rattle.bac_service.specs.declared.kind.Kind.TheVariants as kind;
-    ghost use Rattle.bac_fields.specs.declared.names.Name.TheVariants as name;
+    ghost use Rattle.bac_field_parts.specs.declared.names.Name.TheVariants as name;
     ghost use Rattle.bac_fields.specs.Laws.ServiceMessages.{SpellsChosen};
     ghost use Rattle.bac_fields.specs.Laws.NotificationMessages.{notification_said, unconfirmed_message};
 

@@ -1,12 +1,11 @@
 //! The fields of the service of an error.
 
-use crate::field::Field;
-use crate::making::{Fault, FromFields, Part};
-use crate::names::Name;
 use crate::services::opaque::OpaqueErrorFields;
 use crate::services::service_error::{ServiceErrorFields, has_cause};
 use crate::services::write_property_multiple::WriteErrorFields;
-use crate::whole::Whole;
+use bac_field_parts::making::{Fault, FromFields, Part};
+use bac_field_parts::whole::Whole;
+use bac_field_parts::{Field, Name};
 
 /// The service of an error. Its choice says what follows.
 #[derive(Drop)]

@@ -1,13 +1,14 @@
 //! The fields of I-Am (clause 16.10).
 
-use crate::cursor::Cursor;
-use crate::field::Field;
-use crate::forms::One;
-use crate::making::End;
-use crate::names::Name;
-use crate::parts::{HasFields, Octet};
-use crate::values::{NumberTyped, Typed, number_typed};
-use crate::whole::Message;
+use crate::parts::HasFields;
+use crate::values::Typed;
+use bac_field_parts::cursor::Cursor;
+use bac_field_parts::forms::One;
+use bac_field_parts::leaves::Octet;
+use bac_field_parts::making::End;
+use bac_field_parts::values::{NumberTyped, number_typed};
+use bac_field_parts::whole::Message;
+use bac_field_parts::{Field, Name};
 use bac_service::IAm;
 use bac_value::layers::{Unsigned16, Unsigned32};
 use bac_value::{Enumerated, ObjectId};
@@ -34,7 +35,7 @@ pub(crate) struct IAmFields;
 impl Message for IAmFields {
     ghost use Rattle.bac_service.specs.declared.services.i_am.IAm.{IAm};
     ghost use Rattle.bac_service.specs.IAm.{SpellsIAm};
-    ghost use Rattle.bac_fields.specs.declared.names.Name.TheVariants as name;
+    ghost use Rattle.bac_field_parts.specs.declared.names.Name.TheVariants as name;
     ghost use Rattle.bac_fields.specs.Laws.ServiceMessages.{SpellsChosen, i_am_said, i_am_message};
 
     type Parts = (

@@ -2,18 +2,18 @@
 
 ghost use Rattle.std.specs.Prelude.{◌≡◌, ℕ, List, true};
 ghost use Rattle.bac_service.specs.ServiceTable.{production_of};
-ghost use Rattle.bac_fields.specs.declared.names.Name.TheVariants as name;
-ghost use Rattle.bac_fields.specs.OpaqueFields.{opaque_word};
-ghost use Rattle.bac_fields.specs.Opaques.{is_some, IsOpaqueChoice};
-ghost use Rattle.bac_fields.specs.Laws.Opaques.{opaque_choice_inhabited};
+ghost use Rattle.bac_field_parts.specs.declared.names.Name.TheVariants as name;
+ghost use Rattle.bac_field_parts.specs.OpaqueFields.{opaque_word};
+ghost use Rattle.bac_field_parts.specs.Opaques.{is_some, IsOpaqueChoice};
+ghost use Rattle.bac_field_parts.specs.Laws.Opaques.{opaque_choice_inhabited};
 
-use crate::cursor::Cursor;
-use crate::field::Field;
-use crate::forms::{Form, Held, One};
-use crate::making::End;
-use crate::names::Name;
-use crate::parts::{AnyOctets, HasFields, Octet, Octets, Word};
-use crate::whole::Message;
+use crate::parts::{HasFields, Octets};
+use bac_field_parts::cursor::Cursor;
+use bac_field_parts::forms::{Form, Held, One};
+use bac_field_parts::leaves::{AnyOctets, Octet, Word};
+use bac_field_parts::making::End;
+use bac_field_parts::whole::Message;
+use bac_field_parts::{Field, Name};
 use bac_service::{Kind, Opaque};
 use bac_tag::OutOfMemory;
 
@@ -34,7 +34,7 @@ impl HasFields for Lead {
 }
 
 impl HasFields for Opaque {
-    ghost use Rattle.bac_fields.specs.OpaqueFields.{opaque_steps};
+    ghost use Rattle.bac_field_parts.specs.OpaqueFields.{opaque_steps};
 
     ghost steps = { λ service. opaque_steps service.kind service.choice service.octets };
 
@@ -103,7 +103,7 @@ pub(crate) struct OpaqueErrorFields;
 
 impl Message for OpaqueErrorFields {
     ghost use Rattle.bac_service.specs.declared.kind.Kind.TheVariants as kind;
-    ghost use Rattle.bac_fields.specs.Laws.Opaques.{SpellsOpaque, opaque_said, opaque_error_message};
+    ghost use Rattle.bac_field_parts.specs.Laws.Opaques.{SpellsOpaque, opaque_said, opaque_error_message};
 
     type Parts = (One<OpaqueChoice>, (Held<AnyOctets>, End));
 
@@ -130,7 +130,7 @@ pub(crate) struct OpaqueConfirmedFields;
 impl Message for OpaqueConfirmedFields {
     ghost use Rattle.bac_service.specs.declared.kind.Kind.TheVariants as kind;
     ghost use Rattle.std.specs.Prelude.{refl};
-    ghost use Rattle.bac_fields.specs.Laws.Opaques.{SpellsOpaque, opaque_said, opaque_message};
+    ghost use Rattle.bac_field_parts.specs.Laws.Opaques.{SpellsOpaque, opaque_said, opaque_message};
 
     type Parts = (One<Word>, (One<OpaqueChoice>, (Held<AnyOctets>, End)));
 
@@ -158,7 +158,7 @@ pub(crate) struct OpaqueUnconfirmedFields;
 impl Message for OpaqueUnconfirmedFields {
     ghost use Rattle.bac_service.specs.declared.kind.Kind.TheVariants as kind;
     ghost use Rattle.std.specs.Prelude.{refl};
-    ghost use Rattle.bac_fields.specs.Laws.Opaques.{SpellsOpaque, opaque_said, opaque_message};
+    ghost use Rattle.bac_field_parts.specs.Laws.Opaques.{SpellsOpaque, opaque_said, opaque_message};
 
     type Parts = (One<Word>, (One<OpaqueChoice>, (Held<AnyOctets>, End)));
 
@@ -186,7 +186,7 @@ pub(crate) struct OpaqueComplexAckFields;
 impl Message for OpaqueComplexAckFields {
     ghost use Rattle.bac_service.specs.declared.kind.Kind.TheVariants as kind;
     ghost use Rattle.std.specs.Prelude.{refl};
-    ghost use Rattle.bac_fields.specs.Laws.Opaques.{SpellsOpaque, opaque_said, opaque_message};
+    ghost use Rattle.bac_field_parts.specs.Laws.Opaques.{SpellsOpaque, opaque_said, opaque_message};
 
     type Parts = (One<Word>, (One<OpaqueChoice>, (Held<AnyOctets>, End)));
 

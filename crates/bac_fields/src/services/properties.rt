@@ -1,17 +1,17 @@
 //! The fields of properties, their values, and why they have none (clause 21).
 
-use crate::cursor::Cursor;
-use crate::field::Field;
-use crate::forms::One;
-use crate::groups::OpenValueFields;
-use crate::making::{Either, Fault, FromFields, Maybe};
-use crate::names::Name;
-use crate::open_values::{Closing, OpenValue, Opening};
-use crate::parts::{HasFields, Word};
-use crate::values::{
-    NumberTyped, NumberUnder, Optional, Typed, Under, number_typed, number_under, unsigned,
-};
-use crate::whole::{Message, Whole};
+use crate::open_values::OpenValue;
+use crate::parts::HasFields;
+use crate::values::{Optional, Typed, Under, unsigned};
+use bac_field_parts::cursor::Cursor;
+use bac_field_parts::edges::{Closing, Opening};
+use bac_field_parts::forms::One;
+use bac_field_parts::groups::OpenValueFields;
+use bac_field_parts::leaves::Word;
+use bac_field_parts::making::{Either, Fault, FromFields, Maybe};
+use bac_field_parts::values::{NumberTyped, NumberUnder, number_typed, number_under};
+use bac_field_parts::whole::{Message, Whole};
+use bac_field_parts::{Field, Name};
 use bac_service::{ErrorCause, PropertyReference, PropertyResult, PropertyValue, ReadResult};
 use bac_value::layers::Unsigned32;
 use bac_value::{Enumerated, Priority};
@@ -141,7 +141,7 @@ pub(crate) struct ReferenceFields;
 impl Message for ReferenceFields {
     ghost use Rattle.bac_service.specs.declared.services.property_reference.PropertyReference.{PropertyReference};
     ghost use Rattle.bac_service.specs.PropertyReference.{SpellsPropertyReference};
-    ghost use Rattle.bac_fields.specs.declared.names.Name.TheVariants as name;
+    ghost use Rattle.bac_field_parts.specs.declared.names.Name.TheVariants as name;
     ghost use Rattle.bac_fields.specs.Laws.ServiceMessages.{reference_said, reference_message};
 
     type Parts = (
@@ -177,7 +177,7 @@ pub(crate) struct ValueFields;
 impl Message for ValueFields {
     ghost use Rattle.bac_service.specs.declared.services.property_value.PropertyValue.{PropertyValue};
     ghost use Rattle.bac_service.specs.PropertyValue.{SpellsPropertyValue};
-    ghost use Rattle.bac_fields.specs.declared.names.Name.TheVariants as name;
+    ghost use Rattle.bac_field_parts.specs.declared.names.Name.TheVariants as name;
     ghost use Rattle.bac_fields.specs.Laws.ServiceMessages.{value_said, value_message};
 
     type Parts = (
@@ -222,7 +222,7 @@ impl Message for CauseFields {
     ghost use Rattle.bac_service.specs.declared.services.error_cause.ErrorCause.{ErrorCause};
     ghost use Rattle.bac_service.specs.ErrorCause.{SpellsErrorCause};
     ghost use Rattle.bac_service.specs.Productions.{Grouped};
-    ghost use Rattle.bac_fields.specs.declared.names.Name.TheVariants as name;
+    ghost use Rattle.bac_field_parts.specs.declared.names.Name.TheVariants as name;
     ghost use Rattle.bac_fields.specs.Laws.ServiceMessages.{cause_said, cause_message};
 
     type Parts = (
@@ -261,7 +261,7 @@ pub(crate) struct ResultFields;
 impl Message for ResultFields {
     ghost use Rattle.bac_service.specs.declared.services.property_result.PropertyResult.{PropertyResult};
     ghost use Rattle.bac_service.specs.PropertyResult.{SpellsPropertyResult};
-    ghost use Rattle.bac_fields.specs.declared.names.Name.TheVariants as name;
+    ghost use Rattle.bac_field_parts.specs.declared.names.Name.TheVariants as name;
     ghost use Rattle.bac_fields.specs.Laws.ServiceMessages.{result_said, result_message};
 
     type Parts = (

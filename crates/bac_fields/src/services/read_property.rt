@@ -1,16 +1,17 @@
 //! The fields of ReadProperty and of its answer (clause 15.5).
 
-use crate::cursor::Cursor;
-use crate::field::Field;
-use crate::forms::One;
-use crate::groups::OpenValueFields;
-use crate::making::{End, Maybe};
-use crate::names::Name;
 use crate::open_values::OpenValue;
-use crate::parts::{HasFields, Octet};
+use crate::parts::HasFields;
 use crate::services::properties::Property;
-use crate::values::{NumberUnder, Under, number_under};
-use crate::whole::Message;
+use crate::values::Under;
+use bac_field_parts::cursor::Cursor;
+use bac_field_parts::forms::One;
+use bac_field_parts::groups::OpenValueFields;
+use bac_field_parts::leaves::Octet;
+use bac_field_parts::making::{End, Maybe};
+use bac_field_parts::values::{NumberUnder, number_under};
+use bac_field_parts::whole::Message;
+use bac_field_parts::{Field, Name};
 use bac_service::{ReadProperty, ReadPropertyAck};
 use bac_value::layers::Unsigned32;
 use bac_value::{Enumerated, ObjectId};
@@ -37,7 +38,7 @@ pub(crate) struct ReadPropertyFields;
 impl Message for ReadPropertyFields {
     ghost use Rattle.bac_service.specs.declared.services.read_property.ReadProperty.{ReadProperty};
     ghost use Rattle.bac_service.specs.ReadProperty.{SpellsReadProperty};
-    ghost use Rattle.bac_fields.specs.declared.names.Name.TheVariants as name;
+    ghost use Rattle.bac_field_parts.specs.declared.names.Name.TheVariants as name;
     ghost use Rattle.bac_fields.specs.Laws.ServiceMessages.{SpellsChosen, read_property_said, read_property_message};
 
     type Parts = (
@@ -92,7 +93,7 @@ pub(crate) struct ReadPropertyAckFields;
 impl Message for ReadPropertyAckFields {
     ghost use Rattle.bac_service.specs.declared.services.read_property_ack.ReadPropertyAck.{ReadPropertyAck};
     ghost use Rattle.bac_service.specs.ReadPropertyAck.{SpellsReadPropertyAck};
-    ghost use Rattle.bac_fields.specs.declared.names.Name.TheVariants as name;
+    ghost use Rattle.bac_field_parts.specs.declared.names.Name.TheVariants as name;
     ghost use Rattle.bac_fields.specs.Laws.ServiceMessages.{SpellsChosen, read_property_ack_said, read_property_ack_message};
 
     type Parts = (

@@ -1,15 +1,17 @@
 //! The fields of ReadPropertyMultiple and of its answer (clause 15.7).
 
-use crate::cursor::Cursor;
-use crate::field::Field;
-use crate::forms::One;
-use crate::making::{Each, End, Fault, FromFields, Maybe};
-use crate::names::Name;
-use crate::open_values::{Closing, ListedIn, Opening};
-use crate::parts::{HasFields, Listed, Octet, Word};
+use crate::open_values::ListedIn;
+use crate::parts::{HasFields, Listed};
 use crate::services::properties::{ReferenceFields, ResultFields};
-use crate::values::{NumberUnder, Under, number_under};
-use crate::whole::{Message, Whole};
+use crate::values::Under;
+use bac_field_parts::cursor::Cursor;
+use bac_field_parts::edges::{Closing, Opening};
+use bac_field_parts::forms::One;
+use bac_field_parts::leaves::{Octet, Word};
+use bac_field_parts::making::{Each, End, Fault, FromFields, Maybe};
+use bac_field_parts::values::{NumberUnder, number_under};
+use bac_field_parts::whole::{Message, Whole};
+use bac_field_parts::{Field, Name};
 use bac_service::{
     PropertyResult, ReadAccessResult, ReadAccessSpecification, ReadPropertyMultiple,
     ReadPropertyMultipleAck,
@@ -47,10 +49,10 @@ impl HasFields for ReadPropertyMultiple {
 struct Results<'a>(&'a Option<Vec<PropertyResult>>);
 
 impl HasFields for Results<'_> {
-    ghost use Rattle.bac_fields.specs.declared.names.Name.TheVariants as name;
+    ghost use Rattle.bac_field_parts.specs.declared.names.Name.TheVariants as name;
     ghost use Rattle.std.specs.Prelude.{[]};
     ghost use Rattle.std.specs.Option.{option_map_or};
-    ghost use Rattle.bac_fields.specs.Fields.{listed_in};
+    ghost use Rattle.bac_field_parts.specs.Fields.{listed_in};
     ghost use Rattle.bac_fields.specs.PropertyFields.{property_result_steps};
 
     ghost steps = { λ results. option_map_or (λ there. listed_in name.Results 1 property_result_steps there.items) results.0.now [] };
@@ -96,7 +98,7 @@ pub(crate) struct SpecificationFields;
 
 impl Message for SpecificationFields {
     ghost use Rattle.bac_service.specs.ReadAccessSpecification.{Specification, SpellsSpecification};
-    ghost use Rattle.bac_fields.specs.declared.names.Name.TheVariants as name;
+    ghost use Rattle.bac_field_parts.specs.declared.names.Name.TheVariants as name;
     ghost use Rattle.bac_fields.specs.Laws.ServiceMessages.{specification_said, specification_message};
 
     type Parts = (
@@ -138,7 +140,7 @@ impl Message for ReadMultipleFields {
     ghost use Rattle.std.specs.Prelude.{List};
     ghost use Rattle.bac_service.specs.Productions.{Items};
     ghost use Rattle.bac_service.specs.ReadAccessSpecification.{Specification, SpellsSpecification};
-    ghost use Rattle.bac_fields.specs.declared.names.Name.TheVariants as name;
+    ghost use Rattle.bac_field_parts.specs.declared.names.Name.TheVariants as name;
     ghost use Rattle.bac_fields.specs.Laws.ServiceMessages.{SpellsChosen, read_multiple_said, read_multiple_message};
 
     type Parts = (
@@ -170,7 +172,7 @@ pub(crate) struct AccessFields;
 
 impl Message for AccessFields {
     ghost use Rattle.bac_service.specs.ReadAccessResult.{AccessResult, SpellsAccessResult};
-    ghost use Rattle.bac_fields.specs.declared.names.Name.TheVariants as name;
+    ghost use Rattle.bac_field_parts.specs.declared.names.Name.TheVariants as name;
     ghost use Rattle.bac_fields.specs.Laws.ServiceMessages.{access_said, access_message};
 
     type Parts = (
@@ -209,7 +211,7 @@ impl Message for ReadMultipleAckFields {
     ghost use Rattle.std.specs.Prelude.{List};
     ghost use Rattle.bac_service.specs.Productions.{Items};
     ghost use Rattle.bac_service.specs.ReadAccessResult.{AccessResult, SpellsAccessResult};
-    ghost use Rattle.bac_fields.specs.declared.names.Name.TheVariants as name;
+    ghost use Rattle.bac_field_parts.specs.declared.names.Name.TheVariants as name;
     ghost use Rattle.bac_fields.specs.Laws.ServiceMessages.{SpellsChosen, read_multiple_ack_said, read_multiple_ack_message};
 
     type Parts = (

@@ -3,14 +3,15 @@
 ghost use Rattle.std.specs.Prelude.{◌≡◌};
 ghost use Rattle.std.specs.Option.{option_map};
 
-use crate::cursor::Cursor;
-use crate::field::Field;
-use crate::forms::One;
-use crate::making::{End, Maybe};
-use crate::names::Name;
-use crate::parts::{HasFields, Octet};
-use crate::values::{NumberUnder, Optional, Under, number_under, unsigned};
-use crate::whole::Message;
+use crate::parts::HasFields;
+use crate::values::{Optional, Under, unsigned};
+use bac_field_parts::cursor::Cursor;
+use bac_field_parts::forms::One;
+use bac_field_parts::leaves::Octet;
+use bac_field_parts::making::{End, Maybe};
+use bac_field_parts::values::{NumberUnder, number_under};
+use bac_field_parts::whole::Message;
+use bac_field_parts::{Field, Name};
 use bac_service::SubscribeCov;
 use bac_value::layers::Unsigned32;
 use bac_value::{Boolean, ObjectId};
@@ -45,7 +46,7 @@ pub(crate) struct SubscribeCovFields;
 impl Message for SubscribeCovFields {
     ghost use Rattle.bac_service.specs.declared.services.subscribe_cov.SubscribeCov.{SubscribeCov};
     ghost use Rattle.bac_service.specs.SubscribeCov.{SpellsSubscribeCov};
-    ghost use Rattle.bac_fields.specs.declared.names.Name.TheVariants as name;
+    ghost use Rattle.bac_field_parts.specs.declared.names.Name.TheVariants as name;
     ghost use Rattle.bac_fields.specs.Laws.ServiceMessages.{SpellsChosen, subscribe_cov_said, subscribe_cov_message};
 
     type Parts = (

@@ -1,12 +1,12 @@
 //! The fields of the service of an unconfirmed request.
 
-use crate::field::Field;
-use crate::making::{Fault, FromFields, Part, lead};
 use crate::services::cov_notification::UnconfirmedFields;
 use crate::services::i_am::IAmFields;
 use crate::services::opaque::OpaqueUnconfirmedFields;
 use crate::services::who_is::WhoIsFields;
-use crate::whole::Whole;
+use bac_field_parts::Field;
+use bac_field_parts::making::{Fault, FromFields, Part, lead};
+use bac_field_parts::whole::Whole;
 
 /// The service of an unconfirmed request.
 #[derive(Drop)]

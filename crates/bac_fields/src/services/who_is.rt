@@ -1,13 +1,14 @@
 //! The fields of Who-Is (clause 16.10).
 
-use crate::cursor::Cursor;
-use crate::field::Field;
-use crate::forms::One;
-use crate::making::{End, Maybe};
-use crate::names::Name;
-use crate::parts::{HasFields, Octet};
-use crate::values::{NumberUnder, Under, number_under};
-use crate::whole::Message;
+use crate::parts::HasFields;
+use crate::values::Under;
+use bac_field_parts::cursor::Cursor;
+use bac_field_parts::forms::One;
+use bac_field_parts::leaves::Octet;
+use bac_field_parts::making::{End, Maybe};
+use bac_field_parts::values::{NumberUnder, number_under};
+use bac_field_parts::whole::Message;
+use bac_field_parts::{Field, Name};
 use bac_service::WhoIs;
 use bac_value::Instance;
 
@@ -36,7 +37,7 @@ pub(crate) struct WhoIsFields;
 impl Message for WhoIsFields {
     ghost use Rattle.bac_service.specs.declared.services.who_is.WhoIs.{WhoIs};
     ghost use Rattle.bac_service.specs.WhoIs.{SpellsWhoIs};
-    ghost use Rattle.bac_fields.specs.declared.names.Name.TheVariants as name;
+    ghost use Rattle.bac_field_parts.specs.declared.names.Name.TheVariants as name;
     ghost use Rattle.bac_fields.specs.Laws.ServiceMessages.{SpellsChosen, who_is_said, who_is_message};
 
     type Parts = (

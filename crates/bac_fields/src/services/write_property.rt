@@ -1,16 +1,17 @@
 //! The fields of WriteProperty (clause 15.9).
 
-use crate::cursor::Cursor;
-use crate::field::Field;
-use crate::forms::One;
-use crate::groups::OpenValueFields;
-use crate::making::{End, Maybe};
-use crate::names::Name;
 use crate::open_values::OpenValue;
-use crate::parts::{HasFields, Octet};
+use crate::parts::HasFields;
 use crate::services::properties::Property;
-use crate::values::{NumberUnder, Optional, Under, number_under};
-use crate::whole::Message;
+use crate::values::{Optional, Under};
+use bac_field_parts::cursor::Cursor;
+use bac_field_parts::forms::One;
+use bac_field_parts::groups::OpenValueFields;
+use bac_field_parts::leaves::Octet;
+use bac_field_parts::making::{End, Maybe};
+use bac_field_parts::values::{NumberUnder, number_under};
+use bac_field_parts::whole::Message;
+use bac_field_parts::{Field, Name};
 use bac_service::WriteProperty;
 use bac_value::layers::Unsigned32;
 use bac_value::{Enumerated, ObjectId, Priority};
@@ -39,7 +40,7 @@ pub(crate) struct WritePropertyFields;
 impl Message for WritePropertyFields {
     ghost use Rattle.bac_service.specs.declared.services.write_property.WriteProperty.{WriteProperty};
     ghost use Rattle.bac_service.specs.WriteProperty.{SpellsWriteProperty};
-    ghost use Rattle.bac_fields.specs.declared.names.Name.TheVariants as name;
+    ghost use Rattle.bac_field_parts.specs.declared.names.Name.TheVariants as name;
     ghost use Rattle.bac_fields.specs.Laws.ServiceMessages.{SpellsChosen, write_property_said, write_property_message};
 
     type Parts = (

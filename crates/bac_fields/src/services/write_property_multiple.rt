@@ -1,16 +1,18 @@
 //! The fields of WritePropertyMultiple and of its error (clause 15.10).
 
-use crate::cursor::Cursor;
-use crate::field::Field;
-use crate::forms::One;
-use crate::making::{Each, End, Fault, FromFields, Maybe};
-use crate::names::Name;
-use crate::open_values::{Closing, ListedIn, Opening};
-use crate::parts::{HasFields, Listed, Octet, Pass, Word};
+use crate::open_values::ListedIn;
+use crate::parts::{HasFields, Listed, Pass};
 use crate::services::properties::{Cause, Property, ValueFields};
-use crate::tagged::{After, ClosedEnd};
-use crate::values::{NumberTyped, NumberUnder, Under, number_typed, number_under};
-use crate::whole::{Message, Whole};
+use crate::values::Under;
+use bac_field_parts::cursor::Cursor;
+use bac_field_parts::edges::{Closing, Opening};
+use bac_field_parts::forms::One;
+use bac_field_parts::leaves::{Octet, Word};
+use bac_field_parts::making::{Each, End, Fault, FromFields, Maybe};
+use bac_field_parts::tagged::{After, ClosedEnd};
+use bac_field_parts::values::{NumberTyped, NumberUnder, number_typed, number_under};
+use bac_field_parts::whole::{Message, Whole};
+use bac_field_parts::{Field, Name};
 use bac_service::{WriteAccessSpecification, WritePropertyMultiple, WritePropertyMultipleError};
 use bac_tag::TagHead;
 use bac_value::layers::Unsigned32;
@@ -69,7 +71,7 @@ pub(crate) struct WriteSpecificationFields;
 
 impl Message for WriteSpecificationFields {
     ghost use Rattle.bac_service.specs.WriteAccessSpecification.{WriteSpecification, SpellsWriteSpecification};
-    ghost use Rattle.bac_fields.specs.declared.names.Name.TheVariants as name;
+    ghost use Rattle.bac_field_parts.specs.declared.names.Name.TheVariants as name;
     ghost use Rattle.bac_fields.specs.Laws.ServiceMessages.{write_specification_said, write_specification_message};
 
     type Parts = (
@@ -108,7 +110,7 @@ impl Message for WriteMultipleFields {
     ghost use Rattle.std.specs.Prelude.{List};
     ghost use Rattle.bac_service.specs.Productions.{Items};
     ghost use Rattle.bac_service.specs.WriteAccessSpecification.{WriteSpecification, SpellsWriteSpecification};
-    ghost use Rattle.bac_fields.specs.declared.names.Name.TheVariants as name;
+    ghost use Rattle.bac_field_parts.specs.declared.names.Name.TheVariants as name;
     ghost use Rattle.bac_fields.specs.Laws.ServiceMessages.{SpellsChosen, write_multiple_said, write_multiple_message};
 
     type Parts = (
@@ -142,7 +144,7 @@ impl Message for WriteErrorFields {
     ghost use Rattle.bac_service.specs.declared.services.write_property_multiple_error.WritePropertyMultipleError.{WritePropertyMultipleError};
     ghost use Rattle.bac_service.specs.WritePropertyMultipleError.{SpellsWriteError};
     ghost use Rattle.bac_tag.specs.declared.heads.TagHead.TheVariants as tag;
-    ghost use Rattle.bac_fields.specs.declared.names.Name.TheVariants as name;
+    ghost use Rattle.bac_field_parts.specs.declared.names.Name.TheVariants as name;
     ghost use Rattle.bac_fields.specs.Laws.ErrorMessages.{write_error_said, write_error_message};
     ghost use Rattle.bac_fields.specs.Laws.ServiceMessages.{SpellsChosen};
 

@@ -3,9 +3,9 @@
 ghost use Rattle.std.specs.Prelude.{◌≡◌, ◌≤◌, ◌<◌, ◌+◌, ◌++◌, ◌∷◌, [], ℕ, List, Bool, true, false, Some, length, take, slice_get, IsTrue, IfOk, IfErr, IfSome};
 ghost use Rattle.bac_record.specs.Digits.{hexadecimal};
 ghost use Rattle.bac_text.specs.Words.{number};
-ghost use Rattle.bac_fields.specs.Names.{number_of};
-ghost use Rattle.bac_fields.specs.Fields.{FieldValue};
-ghost use Rattle.bac_fields.specs.Symbols.{has_contents};
+ghost use Rattle.bac_field_parts.specs.Names.{number_of};
+ghost use Rattle.bac_field_parts.specs.Fields.{FieldValue};
+ghost use Rattle.bac_field_parts.specs.Symbols.{has_contents};
 ghost use Rattle.bac_fields.specs.Line.{form_of, begins, shown, as_item, as_group, as_context, as_network};
 ghost use Rattle.bac_lines.specs.declared.closing.Closing.{Closing};
 ghost use Rattle.bac_lines.specs.Scanning.{TokenIn, ends_field, open_end};

@@ -1,8 +1,8 @@
 //! The names that words of a line are.
 
 ghost use Rattle.std.specs.Prelude.{◌≡◌, ◌↔◌, IsTrue, IfSome, IfNone, Some, List};
-ghost use Rattle.bac_fields.specs.declared.names.Name.{Name};
-ghost use Rattle.bac_fields.specs.Names.{word_of};
+ghost use Rattle.bac_field_parts.specs.declared.names.Name.{Name};
+ghost use Rattle.bac_field_parts.specs.Names.{word_of};
 ghost use Rattle.bac_fields.specs.Line.{form_of, as_number};
 ghost use Rattle.bac_lines.specs.declared.closing.Closing.{Closing};
 ghost use Rattle.bac_lines.specs.Scanning.{IsNamed, word_number, end_of};

@@ -3,10 +3,10 @@
 ghost use Rattle.std.specs.Prelude.{◌≡◌, ◌≤◌, ◌<◌, ◌*◌, ◌++◌, ℕ, List, true, false, Some, length, IsTrue, IfOk, IfErr, IfSome};
 ghost use Rattle.bac_tag.specs.Octets.{IsOctets};
 ghost use Rattle.bac_record.specs.Digits.{hexadecimal};
-ghost use Rattle.bac_fields.specs.declared.names.Name.TheVariants as name;
-ghost use Rattle.bac_fields.specs.Names.{number_of, word_of};
-ghost use Rattle.bac_fields.specs.Fields.{FieldValue};
-ghost use Rattle.bac_fields.specs.Symbols.{has_contents};
+ghost use Rattle.bac_field_parts.specs.declared.names.Name.TheVariants as name;
+ghost use Rattle.bac_field_parts.specs.Names.{number_of, word_of};
+ghost use Rattle.bac_field_parts.specs.Fields.{FieldValue};
+ghost use Rattle.bac_field_parts.specs.Symbols.{has_contents};
 ghost use Rattle.bac_fields.specs.Line.{form_of, as_address, as_bits, as_text};
 ghost use Rattle.bac_lines.specs.declared.closing.Closing.{Closing};
 ghost use Rattle.bac_lines.specs.Scanning.{TokenIn, ends_field, text_tail, number_after};

@@ -1,8 +1,8 @@
 //! Fields that begin with a word.
 
 ghost use Rattle.std.specs.Prelude.{◌≡◌, ◌⊎◌, ◌≤◌, ◌<◌, ◌+◌, ◌++◌, ◌∷◌, [], ℕ, List, Bool, true, false, Some, length, take, IsTrue, IfOk, IfErr, IfSome};
-ghost use Rattle.bac_fields.specs.Names.{number_of, word_of};
-ghost use Rattle.bac_fields.specs.Fields.{FieldValue};
+ghost use Rattle.bac_field_parts.specs.Names.{number_of, word_of};
+ghost use Rattle.bac_field_parts.specs.Fields.{FieldValue};
 ghost use Rattle.bac_fields.specs.Line.{form_of, begins, shown, as_word, as_truth, as_type, as_list, as_value, as_text};
 ghost use Rattle.bac_lines.specs.declared.closing.Closing.{Closing};
 ghost use Rattle.bac_lines.specs.Scanning.{TokenIn, ends_field, is_letter};

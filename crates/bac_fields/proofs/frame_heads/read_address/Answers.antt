@@ -1,6 +1,6 @@
 use Rattle.std.proofs.Common.{sym, ◌∙◌, ap, arith}
 use Rattle.bac_tag.specs.Laws.Octets.{octets_at}
-use Rattle.bac_fields.specs.Symbols.{has_contents}
+use Rattle.bac_field_parts.specs.Symbols.{has_contents}
 use Rattle.bac_fields.specs.Laws.Frames.{address_none, address_other_name, address_other_number, address_other_contents, address_of_other_length, address_said_so, contents_octets}
 use Rattle.bac_fields.proofs.frame_heads.read_address.Goals as goal
 

@@ -2,7 +2,7 @@ use Rattle.std.proofs.Common.{subst}
 use Rattle.std.specs.Prelude.{IsTrue, Option, ℕ}
 use Rattle.std.proofs.lemmas.Result.{err_from_is_err_and}
 use Rattle.bac_fields.specs.FrameSymbols.{destination_leads}
-use Rattle.bac_fields.specs.Symbols.{has}
+use Rattle.bac_field_parts.specs.Symbols.{has}
 use Rattle.bac_fields.proofs.FrameMaking.{led, address_stops, hops_stop, destination_read_so}
 use Rattle.bac_fields.proofs.frame_heads.read_destination.Goals as goal
 

@@ -1,6 +1,6 @@
 use Rattle.std.proofs.lemmas.Result.{err_from_is_err_and}
 use Rattle.bac_fields.specs.Laws.Frames.{control_stopped}
-use Rattle.bac_fields.specs.Laws.Making.{stop_then}
+use Rattle.bac_field_parts.specs.Laws.Making.{stop_then}
 use Rattle.bac_fields.proofs.FrameMaking.{destination_stopped, source_stopped, head_of}
 use Rattle.bac_fields.proofs.frame_heads.read_front.Goals as goal
 

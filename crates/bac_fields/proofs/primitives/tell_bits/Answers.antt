@@ -1,6 +1,6 @@
 use Rattle.std.proofs.Common.{◌≡◌, ◌+◌, ◌∙◌, length, refl, sym, ap, arith}
 use Rattle.bac_value.specs.BitsContents.{bits_in, octets_for}
-use Rattle.bac_fields.proofs.FieldLemmas.{length-head_more, length-bits_in, length-packed_bits}
+use Rattle.bac_field_parts.proofs.FieldLemmas.{length-head_more, length-bits_in, length-packed_bits}
 use Rattle.bac_fields.proofs.primitives.tell_bits.Goals as goal
 
 pub returns : goal.returns

@@ -1,5 +1,5 @@
 use Rattle.std.proofs.Common.{◌≡◌, suc, length, refl, sym, arith}
-use Rattle.bac_fields.proofs.FieldLemmas.{length-head_more}
+use Rattle.bac_field_parts.proofs.FieldLemmas.{length-head_more}
 use Rattle.bac_fields.proofs.primitives.tell_text.Goals as goal
 
 pub returns : goal.returns

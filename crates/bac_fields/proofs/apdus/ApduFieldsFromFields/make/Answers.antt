@@ -2,8 +2,8 @@ use Rattle.std.specs.Prelude.{Some, None, Option, ℕ, ◌∷◌, [], IsTrue}
 use Rattle.std.proofs.Common.{refl, ◌≡◌, sym, ◌∙◌, ap, subst}
 use Rattle.std.proofs.lemmas.Result.{IfOk-weaker, IfErr-weaker}
 use Rattle.bac_fields.specs.ApduSymbols.{apdu_leads, confirmed_request, unconfirmed_request, simple_ack, complex_ack, segment_ack, error, reject, abort, request_segment, ack_segment}
-use Rattle.bac_fields.specs.Symbols.{has, lead_in}
-use Rattle.bac_fields.specs.Laws.Making.{stop_then}
+use Rattle.bac_field_parts.specs.Symbols.{has, lead_in}
+use Rattle.bac_field_parts.specs.Laws.Making.{stop_then}
 use Rattle.bac_fields.specs.Laws.Apdus.{type_made, type_stopped_at, no_apdu_stopped_at}
 use Rattle.bac_fields.specs.Laws.Services.{not_first}
 use Rattle.bac_fields.proofs.apdus.ApduFieldsFromFields.make.Goals.{in_default-via-in-Some+in_default, in_default-via-in_default}

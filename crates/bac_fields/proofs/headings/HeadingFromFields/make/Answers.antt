@@ -1,6 +1,6 @@
 use Rattle.std.proofs.lemmas.Result.{err_from_is_err_and}
-use Rattle.bac_fields.specs.Laws.Making.{stop_then}
-use Rattle.bac_fields.specs.Laws.Numbers.{heading_made, heading_stopped}
+use Rattle.bac_field_parts.specs.Laws.Making.{stop_then}
+use Rattle.bac_field_parts.specs.Laws.Numbers.{heading_made, heading_stopped}
 use Rattle.bac_fields.proofs.headings.HeadingFromFields.make.Goals as goal
 
 pub returns-in_err-said-clause-stopped : goal.returns-in_err-said-clause-stopped

@@ -1,7 +1,7 @@
 use Rattle.std.proofs.Common.{refl, sym, ◌∙◌, ap}
 use Rattle.std.proofs.lemmas.Result.{IfOk-weaker, IfErr-weaker}
 use Rattle.bac_fields.specs.MessageSymbols.{who_is, i_am, could_be, reject, busy, available, table, table_ack, establishing, disconnecting, number_wanted, number_told, plain, vendored}
-use Rattle.bac_fields.specs.Laws.Making.{stop_then}
+use Rattle.bac_field_parts.specs.Laws.Making.{stop_then}
 use Rattle.bac_fields.specs.Laws.NetworkMessages.{SpellsWhoIsRouter, SpellsNetworks, SpellsNetworkNumber, SpellsReject, SpellsInitTable, SpellsInitTableAck, SpellsDisconnect, SpellsNumberWanted, SpellsPlain, SpellsVendored}
 use Rattle.bac_fields.specs.Laws.Layouts.{message_other_name, layout_made, layout_stopped_at, who_is_alike, i_am_alike, could_be_alike, reject_alike, busy_alike, available_alike, table_alike, table_ack_alike, establishing_alike, disconnecting_alike, number_wanted_alike, number_told_alike, plain_alike, vendored_alike, untyped, told_opaque}
 use Rattle.std.specs.Prelude.{Some, true, false}

@@ -1,5 +1,5 @@
 use Rattle.std.proofs.Common.{[], ◌∙◌}
-use Rattle.bac_fields.proofs.WalkLemmas.{writes_nothing, writes_event, writes_no_event, writes_events}
+use Rattle.bac_field_parts.proofs.WalkLemmas.{writes_nothing, writes_event, writes_no_event, writes_events}
 use Rattle.bac_fields.proofs.open_values.ElementsHasFields.tell.Goals as goal
 
 pub loop-event-init : goal.loop-event-init

@@ -1,7 +1,7 @@
 use Rattle.std.specs.Prelude.{◌≡◌, ◌++◌, List, map, Some}
 use Rattle.bac_data.specs.Events.{Event, events}
-use Rattle.bac_fields.specs.Fields.{Writes}
-use Rattle.bac_fields.specs.OpenValueFields.{event_step}
+use Rattle.bac_field_parts.specs.Fields.{Writes}
+use Rattle.bac_field_parts.specs.OpenValueFields.{event_step}
 use Rattle.bac_fields.proofs.open_values.ElementsHasFields.tell.Given as goal
 
 -- the fields of some events are written, and the others are left

@@ -1,8 +1,8 @@
 use Rattle.std.proofs.lemmas.Grind.{common_steps}
 use Rattle.std.proofs.Common.{arith, ◌≡◌, ◌++◌, ◌+◌, take}
 use Rattle.std.specs.List.{flat_map}
-use Rattle.bac_fields.specs.Fields.{item_steps}
-use Rattle.bac_fields.proofs.FieldLemmas.{writes_then, writes_none, writes_same, flat_map-from}
+use Rattle.bac_field_parts.specs.Fields.{item_steps}
+use Rattle.bac_field_parts.proofs.FieldLemmas.{writes_then, writes_none, writes_same, flat_map-from}
 use Rattle.bac_fields.proofs.parts.ItemsHasFields.tell.Goals as goal
 
 pub loop-item-preserved : goal.loop-item-preserved

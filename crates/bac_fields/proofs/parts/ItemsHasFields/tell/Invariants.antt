@@ -1,7 +1,7 @@
 use Rattle.std.proofs.Common.{take}
 use Rattle.std.specs.Prelude.{Some}
 use Rattle.std.specs.List.{flat_map}
-use Rattle.bac_fields.specs.Fields.{item_steps, Writes}
+use Rattle.bac_field_parts.specs.Fields.{item_steps, Writes}
 use Rattle.bac_fields.proofs.parts.ItemsHasFields.tell.Given as goal
 
 abbrev pub invariant-loop-item : goal.invariant-loop-item

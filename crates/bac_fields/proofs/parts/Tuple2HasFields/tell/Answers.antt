@@ -1,4 +1,4 @@
-use Rattle.bac_fields.proofs.FieldLemmas.{writes_then, writes_none}
+use Rattle.bac_field_parts.proofs.FieldLemmas.{writes_then, writes_none}
 use Rattle.bac_fields.proofs.parts.Tuple2HasFields.tell.Goals as goal
 
 pub returns-in_err-cursor : goal.returns-in_err-cursor

@@ -1,7 +1,7 @@
 use Rattle.std.specs.Prelude.{[], take, refl}
 use Rattle.std.proofs.Common.{◌∙◌, ◌∷◌, ℕ, sym, ap, subst, inl, inr}
 use Rattle.bac_fields.specs.Line.{Form, begins}
-use Rattle.bac_fields.specs.declared.names.Name.TheVariants as name
+use Rattle.bac_field_parts.specs.declared.names.Name.TheVariants as name
 use Rattle.bac_lines.specs.Scanning.{TokenIn}
 use Rattle.bac_lines.specs.Found.{tagged_text}
 use Rattle.bac_lines.proofs.ScanLemmas.{some_is, not_both, found_is, first_is, not_digits}

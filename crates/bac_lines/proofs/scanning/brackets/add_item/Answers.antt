@@ -1,5 +1,5 @@
 use Rattle.std.specs.Prelude.{[], refl}
-use Rattle.bac_fields.specs.declared.names.Name.TheVariants as name
+use Rattle.bac_field_parts.specs.declared.names.Name.TheVariants as name
 use Rattle.bac_lines.proofs.scanning.brackets.add_item.Goals as goal
 
 pub returns-clause-sound : goal.returns-clause-sound

@@ -1,7 +1,7 @@
 use Rattle.std.specs.Prelude.{◌<◌, ◌^◌, [], refl}
 use Rattle.std.proofs.Common.{arith}
 use Rattle.std.proofs.lemmas.Fmt.{decimal_nonempty}
-use Rattle.bac_fields.specs.declared.names.Name.TheVariants as name
+use Rattle.bac_field_parts.specs.declared.names.Name.TheVariants as name
 use Rattle.bac_lines.specs.Scanning.{is_decimal}
 use Rattle.bac_fields.specs.Line.{as_network}
 use Rattle.bac_lines.specs.Found.{sort_of}

@@ -1,7 +1,7 @@
 use Rattle.std.specs.Cmp.Lexicographic.{bytes_decides}
 use Rattle.std.proofs.Common.{◌∙◌, sym, ap, arith, inl, inr}
 use Rattle.std.proofs.lemmas.Bool.Decides.{not_from_Decides}
-use Rattle.bac_fields.specs.Names.{word_of}
+use Rattle.bac_field_parts.specs.Names.{word_of}
 use Rattle.bac_lines.proofs.NameLemmas.{among_at, among_more}
 use Rattle.bac_lines.proofs.scanning.names.find_name.Goals as goal
 

@@ -1,6 +1,6 @@
 use Rattle.std.proofs.Common.{◌≤◌, ◌-◌, ◌≡◌, length, take}
-use Rattle.bac_fields.specs.declared.names.Name.{Name}
-use Rattle.bac_fields.specs.Names.{word_of}
+use Rattle.bac_field_parts.specs.declared.names.Name.{Name}
+use Rattle.bac_field_parts.specs.Names.{word_of}
 use Rattle.bac_lines.specs.Found.{Among}
 use Rattle.bac_lines.proofs.scanning.names.find_name.Given as goal
 

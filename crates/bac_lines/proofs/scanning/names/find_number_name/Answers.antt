@@ -2,8 +2,8 @@ use Rattle.std.specs.Prelude.{refl}
 use Rattle.std.specs.Cmp.Lexicographic.{bytes_decides}
 use Rattle.std.proofs.Common.{◌∙◌, sym, ap, subst}
 use Rattle.std.proofs.lemmas.Bool.Decides.{not_from_Decides}
-use Rattle.bac_fields.specs.declared.names.Name.{Name}
-use Rattle.bac_fields.specs.Names.{word_of}
+use Rattle.bac_field_parts.specs.declared.names.Name.{Name}
+use Rattle.bac_field_parts.specs.Names.{word_of}
 use Rattle.bac_lines.specs.Scanning.{IsNamed}
 use Rattle.bac_lines.proofs.NameLemmas.{numbers, found_in, number_name, number_found, number_named}
 use Rattle.bac_lines.proofs.ScanLemmas.{nothing_open}

@@ -2,7 +2,7 @@ use Rattle.std.specs.Prelude.{map, refl}
 use Rattle.std.proofs.Common.{ap, sym, ◌∙◌}
 use Rattle.bac_value.specs.BitsContents.{packed_bits, bits_in}
 use Rattle.bac_text.specs.PrimitiveText.{bit_digit}
-use Rattle.bac_fields.specs.declared.names.Name.TheVariants as name
+use Rattle.bac_field_parts.specs.declared.names.Name.TheVariants as name
 use Rattle.bac_lines.proofs.LinkLemmas.{with_contents}
 use Rattle.bac_lines.proofs.PackedBits.{bits_of_packed}
 use Rattle.bac_lines.proofs.scanning.values.add_bit_string.Goals as goal

@@ -4,9 +4,9 @@ use Rattle.std.specs.Fmt.{signed_decimal}
 use Rattle.std.specs.Int.{w64, cast_signed}
 use Rattle.bac_text.specs.Words.{number, object_text}
 use Rattle.bac_record.specs.Digits.{hexadecimal}
-use Rattle.bac_fields.specs.declared.names.Name.{Name}
-use Rattle.bac_fields.specs.declared.names.Name.TheVariants as name
-use Rattle.bac_fields.specs.Names.{word_of}
+use Rattle.bac_field_parts.specs.declared.names.Name.{Name}
+use Rattle.bac_field_parts.specs.declared.names.Name.TheVariants as name
+use Rattle.bac_field_parts.specs.Names.{word_of}
 use Rattle.bac_fields.specs.Line.{as_element, as_contents, as_signed, as_identifier, as_bits, form_of, object_of}
 use Rattle.bac_lines.specs.Scanning.{is_decimal}
 use Rattle.bac_lines.specs.Found.{Among, by_colon, value_shown, shown_value, ValueOf}

@@ -2,7 +2,7 @@ use Rattle.std.specs.Prelude.{◌≡◌, ◌++◌, [], length}
 use Rattle.std.proofs.Common.{ap, sym, refl, ◌∙◌}
 use Rattle.bac_text.specs.Words.{number, object_text}
 use Rattle.bac_record.specs.Digits.{hexadecimal}
-use Rattle.bac_fields.specs.Names.{word_of}
+use Rattle.bac_field_parts.specs.Names.{word_of}
 use Rattle.bac_fields.specs.Line.{as_number, as_object, as_octets, as_address, form_of, object_of}
 use Rattle.bac_lines.specs.Found.{Among, by_equals, value_shown, shown_value, ValueOf}
 use Rattle.bac_lines.specs.Scanning.{is_decimal}

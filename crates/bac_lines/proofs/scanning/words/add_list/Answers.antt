@@ -1,6 +1,6 @@
 use Rattle.std.specs.Prelude.{[], ◌∷◌, ◌++◌, refl}
 use Rattle.std.proofs.Common.{◌∙◌, ap}
-use Rattle.bac_fields.specs.declared.names.Name.{Name}
+use Rattle.bac_field_parts.specs.declared.names.Name.{Name}
 use Rattle.bac_lines.specs.Scanning.{open_end}
 use Rattle.bac_fields.specs.Line.{as_list}
 use Rattle.bac_lines.proofs.NameLemmas.{lists, form_among}

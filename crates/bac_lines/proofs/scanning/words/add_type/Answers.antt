@@ -4,7 +4,7 @@ use Rattle.std.specs.Cmp.Lexicographic.{bytes_decides}
 use Rattle.std.proofs.lemmas.List.{take-append-drop}
 use Rattle.std.proofs.Math.Seq.{take-append-add}
 use Rattle.bac_record.specs.Digits.{hexadecimal}
-use Rattle.bac_fields.specs.declared.names.Name.TheVariants as name
+use Rattle.bac_field_parts.specs.declared.names.Name.TheVariants as name
 use Rattle.bac_fields.specs.Line.{Form, begins}
 use Rattle.bac_lines.specs.Scanning.{is_hex}
 use Rattle.bac_lines.proofs.Hexes.{one_octet}

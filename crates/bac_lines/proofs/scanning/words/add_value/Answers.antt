@@ -1,7 +1,7 @@
 use Rattle.std.specs.Prelude.{[], refl}
 use Rattle.std.specs.Cmp.Lexicographic.{bytes_decides}
 use Rattle.std.proofs.Common.{◌∙◌, sym}
-use Rattle.bac_fields.specs.declared.names.Name.TheVariants as name
+use Rattle.bac_field_parts.specs.declared.names.Name.TheVariants as name
 use Rattle.bac_lines.proofs.scanning.words.add_value.Goals as goal
 
 pub returns-then-eq-clause-sound : goal.returns-then-eq-clause-sound

@@ -4,7 +4,7 @@ use Rattle.std.proofs.Common.{◌∙◌, sym, ap, subst, inl, inr, arith}
 use Rattle.bac_fields.specs.Line.{Form, as_word, begins}
 use Rattle.bac_lines.specs.Scanning.{TokenIn, word_number}
 use Rattle.bac_lines.specs.Found.{word_before}
-use Rattle.bac_fields.specs.declared.names.Name.TheVariants as name
+use Rattle.bac_field_parts.specs.declared.names.Name.TheVariants as name
 use Rattle.bac_lines.proofs.NameLemmas.{words, Named, named, one_name, form_among}
 use Rattle.bac_lines.proofs.LinkLemmas.{bare_among}
 use Rattle.bac_lines.proofs.ScanLemmas.{found_is}

@@ -2,7 +2,7 @@ use Rattle.std.proofs.lemmas.Grind.{common_steps}
 use Rattle.std.proofs.Common.{arith, ◌≡◌, ◌++◌, ◌+◌, take, get_or}
 use Rattle.std.specs.List.{flat_map}
 use Rattle.bac_fields.specs.MessageFields.{listed_network_steps}
-use Rattle.bac_fields.proofs.FieldLemmas.{writes_then, writes_none, writes_same, flat_map-from}
+use Rattle.bac_field_parts.proofs.FieldLemmas.{writes_then, writes_none, writes_same, flat_map-from}
 use Rattle.bac_fields.proofs.messages.networks.ListedNetworksHasFields.tell.Goals as goal
 
 pub loop-network-preserved : goal.loop-network-preserved

@@ -1,7 +1,7 @@
 use Rattle.std.proofs.Common.{take}
 use Rattle.std.specs.Prelude.{Some}
 use Rattle.std.specs.List.{flat_map}
-use Rattle.bac_fields.specs.Fields.{Writes}
+use Rattle.bac_field_parts.specs.Fields.{Writes}
 use Rattle.bac_fields.specs.MessageFields.{listed_network_steps}
 use Rattle.bac_fields.proofs.messages.networks.ListedNetworksHasFields.tell.Given as goal
 

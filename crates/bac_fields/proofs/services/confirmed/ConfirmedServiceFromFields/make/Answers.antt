@@ -4,8 +4,8 @@ use Rattle.std.proofs.lemmas.Result.{IfOk-weaker, IfErr-weaker}
 use Rattle.bac_service.specs.ServiceTable.{read_property, read_property_multiple, write_property, write_property_multiple, subscribe_cov, cov_notification}
 use Rattle.bac_service.specs.declared.kind.Kind.TheVariants.{Confirmed}
 use Rattle.bac_fields.specs.ServiceSymbols.{service_leads}
-use Rattle.bac_fields.specs.Symbols.{has, lead_in}
-use Rattle.bac_fields.specs.Laws.Making.{stop_then}
+use Rattle.bac_field_parts.specs.Symbols.{has, lead_in}
+use Rattle.bac_field_parts.specs.Laws.Making.{stop_then}
 use Rattle.bac_fields.specs.Laws.Services.{row_made, row_stopped_at, opaque_made, opaque_stopped_at, other_stopped_at, not_first}
 use Rattle.bac_fields.proofs.services.confirmed.ConfirmedServiceFromFields.make.Goals.{in_default-via-in-Some+in_default, in_default-via-in_default}
 use Rattle.bac_fields.proofs.services.confirmed.ConfirmedServiceFromFields.make.Goals as goal

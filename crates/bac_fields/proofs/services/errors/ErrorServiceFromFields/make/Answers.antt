@@ -1,11 +1,11 @@
 use Rattle.std.specs.Prelude.{Some, ℕ, List, ◌∷◌}
 use Rattle.bac_service.specs.declared.kind.Kind.TheVariants.{Error}
 use Rattle.bac_fields.specs.ServiceSymbols.{service_said, SpellsAfterHead}
-use Rattle.bac_fields.specs.Symbols.{Symbol, named, numbered, Language, IsStop}
+use Rattle.bac_field_parts.specs.Symbols.{Symbol, named, numbered, Language, IsStop}
 use Rattle.std.proofs.Common.{refl, sym, ◌∙◌, subst, lit<}
 use Rattle.std.proofs.lemmas.Result.{IfOk-weaker, IfErr-weaker}
 use Rattle.bac_service.specs.ServiceTable.{write_property_multiple_error}
-use Rattle.bac_fields.specs.Laws.Making.{stop_then}
+use Rattle.bac_field_parts.specs.Laws.Making.{stop_then}
 use Rattle.bac_fields.specs.Laws.Items.{some_named, service_error_lawful, write_error_lawful}
 use Rattle.bac_fields.specs.Laws.Errors.{error_said, SpellsError, error_none, error_other_name, at_choice, error_stopped, cause_stopped, opaque_error_stopped, nothing_left, write_error_made, cause_made, opaque_error_made}
 use Rattle.bac_fields.proofs.services.errors.ErrorServiceFromFields.make.Goals as goal

@@ -1,9 +1,9 @@
 use Rattle.std.proofs.Common.{◌∷◌, ap, ◌∙◌}
 use Rattle.bac_service.specs.ReadAccessResult.{access_result_of}
-use Rattle.bac_fields.specs.declared.names.Name.TheVariants as name
-use Rattle.bac_fields.specs.Fields.{next, octet_field, listed}
+use Rattle.bac_field_parts.specs.declared.names.Name.TheVariants as name
+use Rattle.bac_field_parts.specs.Fields.{next, octet_field, listed}
 use Rattle.bac_fields.specs.ReadPropertyMultipleFields.{access_result_steps}
-use Rattle.bac_fields.proofs.FieldLemmas.{writes_same, listed-map}
+use Rattle.bac_field_parts.proofs.FieldLemmas.{writes_same, listed-map}
 use Rattle.bac_fields.proofs.services.read_property_multiple.ReadPropertyMultipleAckHasFields.tell.Goals as goal
 
 pub returns : goal.returns

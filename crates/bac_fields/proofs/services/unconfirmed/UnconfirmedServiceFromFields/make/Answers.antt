@@ -2,11 +2,11 @@ use Rattle.std.proofs.Common.{refl, ◌≡◌, sym, ◌∙◌, ap, lit<}
 use Rattle.std.specs.Prelude.{Some, None, Option, ℕ, ◌∷◌, [], IsTrue}
 use Rattle.std.proofs.Common.{subst}
 use Rattle.bac_fields.specs.ServiceSymbols.{service_leads}
-use Rattle.bac_fields.specs.Symbols.{has, lead_in}
+use Rattle.bac_field_parts.specs.Symbols.{has, lead_in}
 use Rattle.std.proofs.lemmas.Result.{IfOk-weaker, IfErr-weaker}
 use Rattle.bac_service.specs.ServiceTable.{who_is, i_am, cov_notification}
 use Rattle.bac_service.specs.declared.kind.Kind.TheVariants.{Unconfirmed}
-use Rattle.bac_fields.specs.Laws.Making.{stop_then}
+use Rattle.bac_field_parts.specs.Laws.Making.{stop_then}
 use Rattle.bac_fields.specs.Laws.Services.{row_made, row_stopped_at, opaque_made, opaque_stopped_at, other_stopped_at, not_first}
 use Rattle.bac_fields.proofs.services.unconfirmed.UnconfirmedServiceFromFields.make.Goals.{in_default-via-in-Some+in_default, in_default-via-in_default}
 use Rattle.bac_fields.proofs.services.unconfirmed.UnconfirmedServiceFromFields.make.Goals as goal

@@ -1,0 +1,172 @@
+-- Fields that are all of what a value says, and fields that are not.
+use Rattle.std.specs.Prelude.{◌≡◌, ◌≢◌, ℕ, ◌+◌, ◌*◌, ◌<◌, ◌≤◌, Bool, true, List, [], ◌∷◌, ◌++◌, length, take, drop, refl}
+use Rattle.std.proofs.Common.{sym, ◌∙◌, ap, subst, arith, inl, inr, zero, suc, append_assoc}
+use Rattle.std.proofs.Math.Seq.{take-append-add, take-length}
+use Rattle.std.proofs.lemmas.Bool.{cases_lt}
+use Rattle.std.proofs.lemmas.List.{take-take, take-append-drop, length-take-le, append-nil, length-drop}
+use Rattle.bac_tag.specs.Spelling.{IsViable}
+use Rattle.bac_field_parts.specs.declared.field.Field.{Field}
+use Rattle.bac_field_parts.specs.declared.field_refusal.FieldWhy.TheVariants.{Short, Trailing, OutOfMemory}
+use Rattle.bac_field_parts.specs.declared.making.Part.{Part}
+use Rattle.bac_field_parts.specs.declared.making.Part.TheVariants as part
+use Rattle.bac_field_parts.specs.declared.making.Stop.{Stop}
+use Rattle.bac_field_parts.specs.Refused.{EndsWithThem, AreAllOfOne, BeginOne, field_symbols, MadeOfAll, IsRefusalOf, why_of}
+use Rattle.bac_field_parts.specs.Symbols.{Symbol, named, numbered, containing, contents_in, finished, symbols_in, taken_symbols, part_place, place_of, Made, Language, IsStop}
+use Rattle.bac_field_parts.specs.Laws.Making.{symbols_after, symbols_length}
+
+-- ---- the symbol after the last field comes last
+
+last_same : (a b : List Symbol) (x y : Symbol) → a ++ x ∷ [] ≡ b ++ y ∷ [] → x ≡ y
+last_same [] [] x y e = cc
+last_same [] (k ∷ b) x y e = absurd (no_more b e)
+  where
+    no_more : (b : List Symbol) → x ∷ [] ≡ k ∷ (b ++ y ∷ []) → ⊥
+    no_more [] e = absurd (cc)
+    no_more (j ∷ b) e = absurd (cc)
+last_same (k ∷ a) [] x y e = absurd (no_more a e)
+  where
+    no_more : (a : List Symbol) → k ∷ (a ++ x ∷ []) ≡ y ∷ [] → ⊥
+    no_more [] e = absurd (cc)
+    no_more (j ∷ a) e = absurd (cc)
+last_same (k ∷ a) (j ∷ b) x y e = last_same a b x y (tail_same k j (a ++ x ∷ []) (b ++ y ∷ []) e)
+  where
+    tail_same : (k j : Symbol) (r s : List Symbol) → k ∷ r ≡ j ∷ s → r ≡ s
+    tail_same k j r s e = cc
+
+module _ (octets : List ℕ) (fields : List Field) (n : ℕ) (within : n ≤ length fields) (front : List Symbol) (said : take (3 * n + 1) (symbols_in octets fields) ≡ front ++ finished ∷ []) where
+  one_after : (rest : List Field) → symbols_in octets (drop n fields) ≡ symbols_in octets rest → take (3 * n + 1) (symbols_in octets fields) ≡ take (3 * n) (symbols_in octets fields) ++ take 1 (symbols_in octets rest)
+  one_after rest same =
+      let es = symbols_in octets fields in
+      let long : length (take (3 * n) es) ≡ 3 * n = length-take-le (3 * n) es (omega (arith, within, symbols_length octets fields)) in
+      ap (λ (l : List Symbol). take (3 * n + 1) l) (sym (take-append-drop (3 * n) es)) ∙ ap (λ (k : ℕ). take (k + 1) (take (3 * n) es ++ drop (3 * n) es)) (sym long)
+      ∙ take-append-add (take (3 * n) es) (drop (3 * n) es) 1 ∙ ap (λ (l : List Symbol). take (3 * n) es ++ take 1 l) (symbols_after octets fields n within ∙ same)
+
+  -- so they are all
+  all_taken : n ≡ length fields
+  all_taken = by (drop n fields) refl
+    where
+      by : (rest : List Field) → drop n fields ≡ rest → n ≡ length fields
+      by [] e = omega (arith, within, ap length e, length-drop n fields)
+      by (field ∷ rest) e =
+          let clash : named field.name ≡ finished = last_same (take (3 * n) (symbols_in octets fields)) front (named field.name) finished (sym (one_after (field ∷ rest) (ap (symbols_in octets) e)) ∙ said) in
+          absurd (cc)
+
+  pub whole_said : symbols_in octets fields ≡ front ++ finished ∷ []
+  whole_said =
+      let all : 3 * n + 1 ≡ length (symbols_in octets fields) = omega (arith, all_taken, symbols_length octets fields) in
+      sym (take-length (symbols_in octets fields)) ∙ ap (λ (k : ℕ). take k (symbols_in octets fields)) (sym all) ∙ said
+
+-- ---- what was made
+
+module _ {V : Type 0} (f : V → List Symbol) (S : V → List ℕ → Type 0) (at_end : Bool) (to : EndsWithThem at_end f) (octets : List ℕ) (fields : List Field) (n : ℕ) (within : n ≤ length fields) (old new : List ℕ) (made : Made f S (symbols_in octets fields) (taken_symbols at_end n) old new) where
+  all_said : symbols_in octets fields ≡ f made.value
+  all_said =
+      let last = to.last made.value in
+      let taken : take (3 * n + 1) (symbols_in octets fields) ≡ f made.value = ap (λ (b : Bool). take (taken_symbols b n) (symbols_in octets fields)) (sym to.is_at_end) ∙ made.is_said in
+      whole_said octets fields n within last.0 (taken ∙ last.1) ∙ sym last.1
+
+  pub made_of_all : MadeOfAll f S octets fields old new
+  made_of_all = record { value = made.value; is_said = all_said; appended = made.appended }
+
+  pub are_all_of_one : AreAllOfOne f S octets fields
+  are_all_of_one = (made.value, record { octets = made.appended.more; spelled = made.appended.is_least.member; is_said = all_said })
+
+-- fields that stop somewhere are not all of one
+pub are_of_none : {V : Type 0} (f : V → List Symbol) (S : V → List ℕ → Type 0) (octets : List ℕ) (fields : List Field) (p : ℕ) → IsStop (Language f S) (symbols_in octets fields) p → AreAllOfOne f S octets fields → ⊥
+are_of_none f S octets fields p stop l = stop.none tt (symbols_in octets fields) [] (sym (append-nil (symbols_in octets fields))) l
+
+-- ---- refusals
+
+-- a front of what begins a list of the language begins it too
+viable_front : (L : Unit {0} → List Symbol → Type 0) (es : List Symbol) (n m : ℕ) → n ≤ m → IsViable L (take m es) → IsViable L (take n es)
+viable_front L es n m le v = record {
+  value = tt;
+  rest = drop n (take m es) ++ v.rest;
+  spelled = subst (λ (l : List Symbol). L tt l) (ap (λ (l : List Symbol). l ++ v.rest) (sym (take-append-drop n (take m es)) ∙ ap (λ (l : List Symbol). l ++ drop n (take m es)) (take-take n m es le)) ∙ append_assoc (take n es) (drop n (take m es)) v.rest) v.spelled;
+}
+
+take_fields : (octets : List ℕ) (fields : List Field) (n : ℕ) → n ≤ length fields → take (3 * n) (symbols_in octets fields) ≡ field_symbols octets (take n fields)
+take_fields octets fields zero le = refl
+take_fields octets [] (suc n) le = absurd (omega (arith, le))
+take_fields octets (f ∷ fields) (suc n) le =
+    let e : 3 * suc n ≡ suc (suc (suc (3 * n))) = omega arith in
+    rw e (ap (λ (l : List Symbol). named f.name ∷ numbered f.number ∷ containing (contents_in octets f) ∷ l) (take_fields octets fields n (omega (arith, le))))
+
+module _ {V : Type 0} (f : V → List Symbol) (S : V → List ℕ → Type 0) (octets : List ℕ) (fields : List Field) (s : Stop) (stop : IsStop (Language f S) (symbols_in octets fields) (place_of s)) (near : place_of s ≤ 3 * length fields) where
+  index_within : s.index ≤ length fields
+  index_within = omega (arith, near)
+
+  part_few : (p : Part) → part_place p ≤ 2
+  part_few part.Name = omega arith
+  part_few part.Number = omega arith
+  part_few part.Contents = omega arith
+
+  begins : BeginOne f S octets (take s.index fields)
+  begins =
+      subst (λ (l : List Symbol). IsViable (Language f S) l) (take_fields octets fields s.index index_within)
+      (viable_front (Language f S) (symbols_in octets fields) (3 * s.index) (place_of s) (omega arith) stop.furthest.begins)
+
+  ends : s.index < length fields → BeginOne f S octets (take (s.index + 1) fields) → ⊥
+  ends earlier more =
+      let there = subst (λ (l : List Symbol). IsViable (Language f S) l) (sym (take_fields octets fields (s.index + 1) (omega (arith, earlier)))) more in
+      stop.furthest.ends (omega (arith, near, symbols_length octets fields)) (viable_front (Language f S) (symbols_in octets fields) (place_of s + 1) (3 * (s.index + 1)) (omega (arith, part_few s.part)) there)
+
+  pub short_refused : s.index ≡ length fields → IsRefusalOf f S octets fields (record { index = s.index; why = Short })
+  short_refused last = record {
+    stopped = λ other. record {
+      within = index_within;
+      begins = begins;
+      ends = ends;
+      hopeless = s.part;
+      stop = stop;
+      short = (λ e. last, λ e. refl);
+      trailing = (λ e. absurd (cc), λ t. absurd (omega (arith, t.0, last)));
+      others = λ no. absurd (no refl);
+    };
+    memory = λ e. absurd (cc);
+  }
+
+  module _ (before : s.index ≢ length fields) where
+    earlier : s.index < length fields
+    earlier = elim (cases_lt s.index (length fields)) [
+      | inl lt ↦ lt
+      | inr le ↦ (let same : s.index ≡ length fields = omega (arith, index_within, le) in absurd (before same))
+    ]
+
+    pub trailing_refused : AreAllOfOne f S octets (take s.index fields) → IsRefusalOf f S octets fields (record { index = s.index; why = Trailing })
+    trailing_refused whole = record {
+      stopped = λ other. record {
+        within = index_within;
+        begins = begins;
+        ends = ends;
+        hopeless = s.part;
+        stop = stop;
+        short = (λ e. absurd (cc), λ e. absurd (before e));
+        trailing = (λ e. (earlier, whole), λ t. refl);
+        others = λ no never. absurd (never refl);
+      };
+      memory = λ e. absurd (cc);
+    }
+
+    -- the reasons that are none of the others
+    other_why : (p : Part) → (why_of p ≡ Short → ⊥) × ((why_of p ≡ Trailing → ⊥) × (why_of p ≡ OutOfMemory → ⊥))
+    other_why part.Name = (λ e. absurd (cc), (λ e. absurd (cc), λ e. absurd (cc)))
+    other_why part.Number = (λ e. absurd (cc), (λ e. absurd (cc), λ e. absurd (cc)))
+    other_why part.Contents = (λ e. absurd (cc), (λ e. absurd (cc), λ e. absurd (cc)))
+
+    pub part_refused : (AreAllOfOne f S octets (take s.index fields) → ⊥) → IsRefusalOf f S octets fields (record { index = s.index; why = why_of s.part })
+    part_refused none =
+        let other = other_why s.part in
+        record {
+          stopped = λ no_memory. record {
+            within = index_within;
+            begins = begins;
+            ends = ends;
+            hopeless = s.part;
+            stop = stop;
+            short = (λ e. absurd (other.0 e), λ e. absurd (before e));
+            trailing = (λ e. absurd (other.1.0 e), λ t. absurd (none t.1));
+            others = λ no never. refl;
+          };
+          memory = λ e. absurd (other.1.1 e);
+        }

@@ -1,0 +1,15 @@
+use Rattle.bac_field_parts.proofs.WholeLemmas.{short_refused, trailing_refused, part_refused}
+use Rattle.bac_field_parts.proofs.refusing.why_stopped.Goals as goal
+
+pub returns-then-index-fields-clause-refused : goal.returns-then-index-fields-clause-refused
+returns-then-index-fields-clause-refused g c =
+    short_refused (g.P.FromFields.said c.args.part.now) (g.P.FromFields.spells c.args.part.now) c.args.octets.now c.args.fields.now c.args.stop c.requires.stop c.requires.within c.if-index-fields.true
+
+pub returns-in-Some-true-clause-refused : goal.returns-in-Some-true-clause-refused
+returns-in-Some-true-clause-refused g c =
+    trailing_refused (g.P.FromFields.said c.args.part.now) (g.P.FromFields.spells c.args.part.now) c.args.octets.now c.args.fields.now c.args.stop c.requires.stop c.requires.within c.if-index-fields.false (c.in-Some-true.ensures.yes c.in-Some-true.field-0-test)
+
+pub returns-in-Some-false-clause-refused : goal.returns-in-Some-false-clause-refused
+returns-in-Some-false-clause-refused g c =
+    rw c.of_part-why.ensures
+    (part_refused (g.P.FromFields.said c.args.part.now) (g.P.FromFields.spells c.args.part.now) c.args.octets.now c.args.fields.now c.args.stop c.requires.stop c.requires.within c.if-index-fields.false (c.in-Some-false.ensures.no c.in-Some-false.field-0-test))

@@ -1,0 +1,11 @@
+pub mod Names
+pub mod Fields
+pub mod PrimitiveFields
+pub mod OpenValueFields
+pub mod OpaqueFields
+pub mod Symbols
+pub mod Opaques
+pub mod OctetForms
+pub mod Tables
+pub mod Refused
+pub mod Laws

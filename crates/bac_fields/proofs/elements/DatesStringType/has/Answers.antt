@@ -1,7 +1,0 @@
-use Rattle.std.proofs.lemmas.Bool.{eqb-true}
-use Rattle.bac_value.specs.declared.prim.PrimitiveValue.TheVariants.{Date}
-use Rattle.bac_fields.specs.Laws.Strings.{zero_is, string_inhabited, date_element}
-use Rattle.bac_fields.proofs.elements.DatesStringType.has.Goals as goal
-
-pub returns-clause-some : goal.returns-clause-some
-returns-clause-some c none = zero_is (λ v. Date v) (string_inhabited date_element) c.args.given (eqb-true c.args.given 0 none)
