@@ -7,7 +7,7 @@ use Rattle.bac_field_parts.specs.declared.field.Field.{Field}
 use Rattle.bac_field_parts.specs.Names.{number_of}
 use Rattle.bac_field_parts.specs.Fields.{FieldValue}
 use Rattle.bac_fields.specs.Line.{form_of, lead, shown, begins, printed, printed_from}
-use Rattle.bac_fields.specs.Making.{field_symbols}
+use Rattle.bac_field_parts.specs.Refused.{field_symbols}
 use Rattle.bac_field_parts.specs.Symbols.{Symbol, named, numbered, containing, finished, field_said, contents_in, symbols_in}
 use Rattle.bac_lines.specs.declared.closing.Closing.{Closing}
 use Rattle.bac_lines.specs.declared.said.Said.{Said}
