@@ -9,52 +9,20 @@ ghost use Rattle.bac_service.specs.Productions.{Grouped, IsWellSpelled};
 ghost use Rattle.bac_service.specs.Contents.{ApplicationEnumerated};
 ghost use Rattle.bac_service.specs.ErrorCause.{SpellsErrorCause};
 ghost use Rattle.bac_service.specs.PropertyResult.{SpellsReadResult};
-ghost use Rattle.bac_service.specs.ServiceTable.{ServiceProduction, IsUnchanged};
+ghost use Rattle.bac_service.specs.ServiceTable.{IsUnchanged};
 ghost use Rattle.bac_service.specs.ServiceValues.{ServiceValue, opaque, value_of};
-ghost use Rattle.bac_service.specs.Services.{SpellsBy, SpellsService, IsPlaced};
+ghost use Rattle.bac_service.specs.Services.{SpellsService, IsPlaced};
 
 use crate::production::Production;
 use crate::production::field::ApplicationField;
-use crate::production::record::Fields;
-use crate::service::Service;
-use crate::services::cov_notification::CovNotification;
-use crate::services::error_cause::ErrorCause;
-use crate::services::i_am::IAm;
-use crate::services::read_property::ReadProperty;
-use crate::services::read_property_ack::ReadPropertyAck;
-use crate::services::read_property_multiple::ReadAccessSpecification;
-use crate::services::read_property_multiple_ack::ReadAccessResult;
-use crate::services::subscribe_cov::SubscribeCov;
-use crate::services::who_is::WhoIs;
-use crate::services::write_property::WriteProperty;
-use crate::services::write_property_multiple::WriteAccessSpecification;
-use crate::services::write_property_multiple_error::WritePropertyMultipleError;
+use crate::service::{Service, productions_are_well_spelled};
 use bac_value::Enumerated;
 
 /// Some value of a part is spelled, no list spells two, and each value that is spelled has a least spelling.
-fn parts_are_well_spelled<P: Production>()
+pub(crate) fn parts_are_well_spelled<P: Production>()
     requires { IsTrue P.is_sound }
     ensures { IsWellSpelled P.spells }
 {}
-
-/// The same holds for each production of the table: some value is spelled, no list spells two, and each value that is
-/// spelled has a least spelling.
-fn productions_are_well_spelled()
-    ensures { (production : ServiceProduction) → IsWellSpelled (SpellsBy 32 production) }
-{
-    parts_are_well_spelled::<Fields<ReadProperty>>();
-    parts_are_well_spelled::<Fields<ReadPropertyAck>>();
-    parts_are_well_spelled::<Fields<WriteProperty>>();
-    parts_are_well_spelled::<Vec<ReadAccessSpecification>>();
-    parts_are_well_spelled::<Vec<ReadAccessResult>>();
-    parts_are_well_spelled::<Fields<WhoIs>>();
-    parts_are_well_spelled::<Fields<IAm>>();
-    parts_are_well_spelled::<Fields<SubscribeCov>>();
-    parts_are_well_spelled::<Fields<CovNotification>>();
-    parts_are_well_spelled::<Fields<ErrorCause>>();
-    parts_are_well_spelled::<Vec<WriteAccessSpecification>>();
-    parts_are_well_spelled::<Fields<WritePropertyMultipleError>>();
-}
 
 /// Each service that is spelled has canonical octets.
 pub fn services_have_canonical_octets()

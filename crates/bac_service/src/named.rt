@@ -1,6 +1,6 @@
-//! Decoding the services that have a production.
+//! Decoding the services, by the way in which a kind and a choice name them.
 
-ghost use Rattle.std.specs.Prelude.{◌≡◌, ◌↔◌, ◌&&◌, not, map, ℕ, List, true, false, IsTrue, Some};
+ghost use Rattle.std.specs.Prelude.{◌≡◌, ◌↔◌, ◌&&◌, not, map, ℕ, List, true, false, IsTrue, IsNone, Some};
 ghost use Rattle.bac_service.specs.declared.kind.Kind.{Kind};
 ghost use Rattle.bac_service.specs.declared.kind.Kind.TheVariants.{Error};
 ghost use Rattle.bac_service.specs.Leads.{disjoint};
@@ -11,12 +11,14 @@ ghost use Rattle.bac_service.specs.Services.{SpellsService, IsServiceOf};
 ghost use Rattle.bac_service.specs.Decoded.{IsDecoded};
 ghost use Rattle.bac_tag.specs.Spelling.{IsCanonical};
 
+use crate::kind::Kind;
 use crate::production::Production;
 use crate::production::decoding::{are_canonical, decode};
 use crate::production::record::{Fields, Record};
 use crate::service::Service;
 use crate::services::cov_notification::CovNotification;
 use crate::services::error_cause::ErrorCause;
+use crate::services::opaque::Opaque;
 use crate::services::service_error::ServiceError;
 use bac_tag::Refusal;
 use std::alloc::Global;
@@ -134,4 +136,20 @@ pub(crate) fn decode_error(alloc: Global, choice: u8, octets: &[u8]) -> Result<M
         Service::ServiceError(ServiceError::of(choice, cause.0)),
         mark,
     ))
+}
+
+/// Takes the octets of a service without a production as they are.
+pub(crate) fn decode_opaque(
+    alloc: Global,
+    kind: Kind,
+    choice: u8,
+    octets: &[u8],
+) -> Result<Marked, Refusal>
+    requires { IsNone (production_of true kind choice) }
+    ensures { IsDecoded kind choice octets.now result }
+{
+    match Opaque::new(alloc, kind, choice, octets) {
+        Ok(service) => Ok((Service::Opaque(service), None)),
+        Err(_) => Err(Refusal::out_of_memory()),
+    }
 }

@@ -1,22 +1,42 @@
-//! Services (clause 21).
+//! Services (clause 21), and everything that goes through all of them: a new service has its line in each match here,
+//! and in none elsewhere.
 
-ghost use Rattle.std.specs.Prelude.{◌≡◌};
+ghost use Rattle.std.specs.Prelude.{◌≡◌, ◌↔◌, true, Some, IsTrue, OnOk};
+ghost use Rattle.std.specs.Map.{keys_of};
+ghost use Rattle.std.specs.Option.{is_some};
+ghost use Rattle.bac_tag.specs.Octets.{Extends};
+ghost use Rattle.bac_tag.specs.Spelling.{AppendsLeast, IsCanonical};
+ghost use Rattle.bac_service.specs.declared.kind.Kind.TheVariants.{Confirmed, Unconfirmed, ComplexAck, Error};
+ghost use Rattle.bac_service.specs.Decoded.{IsDecoded};
+ghost use Rattle.bac_service.specs.Productions.{IsWellSpelled};
+ghost use Rattle.bac_service.specs.ServiceTable.{ServiceProduction, service_error, rows, production_of};
 ghost use Rattle.bac_service.specs.ServiceValues.{value_of};
+ghost use Rattle.bac_service.specs.Services.{SpellsBy, SpellsSaid, SpellsService, IsPlaced};
 
 use crate::kind::Kind;
+use crate::laws::parts_are_well_spelled;
+use crate::named::{
+    Marked, decode_error, decode_list, decode_named, decode_notification, decode_opaque,
+    is_canonical_list, is_canonical_named, is_canonical_notification,
+};
+use crate::production::Production;
+use crate::production::record::{Fields, Record};
 use crate::services::cov_notification::CovNotification;
+use crate::services::error_cause::ErrorCause;
 use crate::services::i_am::IAm;
 use crate::services::opaque::Opaque;
 use crate::services::read_property::ReadProperty;
 use crate::services::read_property_ack::ReadPropertyAck;
-use crate::services::read_property_multiple::ReadPropertyMultiple;
-use crate::services::read_property_multiple_ack::ReadPropertyMultipleAck;
+use crate::services::read_property_multiple::{ReadAccessSpecification, ReadPropertyMultiple};
+use crate::services::read_property_multiple_ack::{ReadAccessResult, ReadPropertyMultipleAck};
 use crate::services::service_error::ServiceError;
 use crate::services::subscribe_cov::SubscribeCov;
 use crate::services::who_is::WhoIs;
 use crate::services::write_property::WriteProperty;
-use crate::services::write_property_multiple::WritePropertyMultiple;
+use crate::services::write_property_multiple::{WriteAccessSpecification, WritePropertyMultiple};
 use crate::services::write_property_multiple_error::WritePropertyMultipleError;
+use bac_tag::{OutOfMemory, Refusal};
+use std::alloc::Global;
 
 /// A service: a typed one, whose kind and choice have a production, or an opaque one, which is its octets.
 #[derive(Clone, Debug, PartialEq, Eq, Drop)]
@@ -88,4 +108,173 @@ impl Service {
             Service::Opaque(service) => service.choice(),
         }
     }
+}
+
+/// Returns the service choices of this kind that have a production.
+fn typed_choices(kind: Kind) -> &'static [u8]
+    ensures { result.now ≡ keys_of (rows true kind) }
+{
+    match kind {
+        Kind::Confirmed | Kind::Error => &[1, 5, 12, 14, 15, 16],
+        Kind::Unconfirmed => &[0, 2, 8],
+        Kind::ComplexAck => &[12, 14],
+    }
+}
+
+/// Returns true if this kind and service choice have a production. Services of any other kind and choice are opaque.
+pub(crate) fn has_production(kind: Kind, choice: u8) -> bool
+    ensures { result ≡ is_some (production_of true kind choice) }
+{
+    typed_choices(kind).contains(&choice)
+}
+
+/// Returns true if the errors of this service choice are a class and a code, and no more.
+pub(crate) fn has_cause(choice: u8) -> bool
+    ensures { IsTrue result ↔ (production_of true Error choice ≡ Some service_error) }
+{
+    [1, 5, 12, 14, 15].contains(&choice)
+}
+
+/// Decodes a confirmed request.
+#[inline(always)]
+pub(crate) fn decode_confirmed(
+    alloc: Global,
+    choice: u8,
+    octets: &[u8],
+) -> Result<Marked, Refusal>
+    ensures { IsDecoded Confirmed choice octets.now result }
+{
+    match choice {
+        1 => decode_notification(alloc, true, octets),
+        5 => decode_named::<SubscribeCov>(alloc, octets),
+        12 => decode_named::<ReadProperty>(alloc, octets),
+        14 => decode_list::<ReadPropertyMultiple>(alloc, octets),
+        15 => decode_named::<WriteProperty>(alloc, octets),
+        16 => decode_list::<WritePropertyMultiple>(alloc, octets),
+        _ => decode_opaque(alloc, Kind::Confirmed, choice, octets),
+    }
+}
+
+/// Decodes an unconfirmed request.
+#[inline(always)]
+pub(crate) fn decode_unconfirmed(
+    alloc: Global,
+    choice: u8,
+    octets: &[u8],
+) -> Result<Marked, Refusal>
+    ensures { IsDecoded Unconfirmed choice octets.now result }
+{
+    match choice {
+        0 => decode_named::<IAm>(alloc, octets),
+        2 => decode_notification(alloc, false, octets),
+        8 => decode_named::<WhoIs>(alloc, octets),
+        _ => decode_opaque(alloc, Kind::Unconfirmed, choice, octets),
+    }
+}
+
+/// Decodes an answer with contents.
+#[inline(always)]
+pub(crate) fn decode_complex_ack(
+    alloc: Global,
+    choice: u8,
+    octets: &[u8],
+) -> Result<Marked, Refusal>
+    ensures { IsDecoded ComplexAck choice octets.now result }
+{
+    match choice {
+        12 => decode_named::<ReadPropertyAck>(alloc, octets),
+        14 => decode_list::<ReadPropertyMultipleAck>(alloc, octets),
+        _ => decode_opaque(alloc, Kind::ComplexAck, choice, octets),
+    }
+}
+
+/// Decodes the answer to a request that failed.
+#[inline(always)]
+pub(crate) fn decode_failure(alloc: Global, choice: u8, octets: &[u8]) -> Result<Marked, Refusal>
+    ensures { IsDecoded Error choice octets.now result }
+{
+    match choice {
+        1 | 5 | 12 | 14 | 15 => decode_error(alloc, choice, octets),
+        16 => decode_named::<WritePropertyMultipleError>(alloc, octets),
+        _ => decode_opaque(alloc, Kind::Error, choice, octets),
+    }
+}
+
+/// Returns true if the octets are found at once to be the canonical ones of a confirmed request. False says nothing
+/// about the octets.
+pub(crate) fn is_canonical_confirmed(alloc: Global, choice: u8, octets: &[u8]) -> bool
+    ensures { IsTrue result → IsCanonical (SpellsService true 32 Confirmed choice) octets.now }
+{
+    match choice {
+        1 => is_canonical_notification(alloc, true, octets),
+        14 => is_canonical_list::<ReadPropertyMultiple>(alloc, octets),
+        15 => is_canonical_named::<WriteProperty>(alloc, octets),
+        16 => is_canonical_list::<WritePropertyMultiple>(alloc, octets),
+        _ => false,
+    }
+}
+
+/// Returns true if the octets are found at once to be the canonical ones of an unconfirmed request. False says nothing
+/// about the octets.
+pub(crate) fn is_canonical_unconfirmed(alloc: Global, choice: u8, octets: &[u8]) -> bool
+    ensures { IsTrue result → IsCanonical (SpellsService true 32 Unconfirmed choice) octets.now }
+{
+    match choice {
+        2 => is_canonical_notification(alloc, false, octets),
+        _ => false,
+    }
+}
+
+/// Returns true if the octets are found at once to be the canonical ones of an answer with contents. False says nothing
+/// about the octets.
+pub(crate) fn is_canonical_complex_ack(alloc: Global, choice: u8, octets: &[u8]) -> bool
+    ensures { IsTrue result → IsCanonical (SpellsService true 32 ComplexAck choice) octets.now }
+{
+    match choice {
+        12 => is_canonical_named::<ReadPropertyAck>(alloc, octets),
+        14 => is_canonical_list::<ReadPropertyMultipleAck>(alloc, octets),
+        _ => false,
+    }
+}
+
+/// Appends the least spelling of a service. If memory is refused, `out` may hold some of the octets.
+pub(crate) fn append_production(service: &Service, out: &mut Vec<u8>) -> Result<(), OutOfMemory>
+    ensures placed { IsPlaced (value_of service.now) }
+    ensures ok { OnOk result (AppendsLeast (SpellsSaid 32 (value_of service.now).production (value_of service.now).said) out.old.items out.new.items) }
+    ensures kept { Extends out.old.items out.new.items }
+{
+    match service {
+        Service::ReadProperty(request) => request.write_fields(out),
+        Service::ReadPropertyAck(ack) => ack.write_fields(out),
+        Service::WriteProperty(request) => request.write_fields(out),
+        Service::ReadPropertyMultiple(request) => request.specs.write(out),
+        Service::ReadPropertyMultipleAck(ack) => ack.results.write(out),
+        Service::WritePropertyMultiple(request) => request.specs.write(out),
+        Service::WhoIs(request) => request.write_fields(out),
+        Service::IAm(request) => request.write_fields(out),
+        Service::SubscribeCov(request) => request.write_fields(out),
+        Service::CovNotification(notification) => notification.write_fields(out),
+        Service::ServiceError(error) => error.write_cause(out),
+        Service::WritePropertyMultipleError(error) => error.write_fields(out),
+        Service::Opaque(service) => service.write_octets(out),
+    }
+}
+
+/// A law of the productions of the table: some value is spelled, no list spells two, and each value that is spelled has
+/// a least spelling.
+pub(crate) fn productions_are_well_spelled()
+    ensures { (production : ServiceProduction) → IsWellSpelled (SpellsBy 32 production) }
+{
+    parts_are_well_spelled::<Fields<ReadProperty>>();
+    parts_are_well_spelled::<Fields<ReadPropertyAck>>();
+    parts_are_well_spelled::<Fields<WriteProperty>>();
+    parts_are_well_spelled::<Vec<ReadAccessSpecification>>();
+    parts_are_well_spelled::<Vec<ReadAccessResult>>();
+    parts_are_well_spelled::<Fields<WhoIs>>();
+    parts_are_well_spelled::<Fields<IAm>>();
+    parts_are_well_spelled::<Fields<SubscribeCov>>();
+    parts_are_well_spelled::<Fields<CovNotification>>();
+    parts_are_well_spelled::<Fields<ErrorCause>>();
+    parts_are_well_spelled::<Vec<WriteAccessSpecification>>();
+    parts_are_well_spelled::<Fields<WritePropertyMultipleError>>();
 }

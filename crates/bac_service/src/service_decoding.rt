@@ -1,94 +1,20 @@
 //! Decoding a service.
 
-ghost use Rattle.std.specs.Prelude.{◌≡◌, ◌≢◌, true, false, IsNone, IfOk, IfErr};
+ghost use Rattle.std.specs.Prelude.{◌≡◌, ◌≢◌, true, false, IfOk, IfErr};
 ghost use Rattle.bac_tag.specs.Spelling.{HasMark, IsWholeRefusal};
-ghost use Rattle.bac_service.specs.declared.kind.Kind.TheVariants.{Confirmed, Unconfirmed, ComplexAck, Error};
 ghost use Rattle.bac_service.specs.Reasons.{IsServiceReason};
-ghost use Rattle.bac_service.specs.ServiceTable.{production_of, is_small};
+ghost use Rattle.bac_service.specs.ServiceTable.{is_small};
 ghost use Rattle.bac_service.specs.ServiceValues.{value_of};
 ghost use Rattle.bac_service.specs.Services.{SpellsService};
 ghost use Rattle.bac_service.specs.Decoded.{IsDecoded};
 
 use crate::kind::Kind;
-use crate::named::{Marked, decode_error, decode_list, decode_named, decode_notification};
-use crate::service::Service;
-use crate::services::i_am::IAm;
-use crate::services::opaque::Opaque;
-use crate::services::read_property::ReadProperty;
-use crate::services::read_property_ack::ReadPropertyAck;
-use crate::services::read_property_multiple::ReadPropertyMultiple;
-use crate::services::read_property_multiple_ack::ReadPropertyMultipleAck;
-use crate::services::subscribe_cov::SubscribeCov;
-use crate::services::who_is::WhoIs;
-use crate::services::write_property::WriteProperty;
-use crate::services::write_property_multiple::WritePropertyMultiple;
-use crate::services::write_property_multiple_error::WritePropertyMultipleError;
+use crate::named::Marked;
+use crate::service::{
+    Service, decode_complex_ack, decode_confirmed, decode_failure, decode_unconfirmed,
+};
 use bac_tag::{Refusal, Why};
 use std::alloc::Global;
-
-/// Takes the octets of a service without a production as they are.
-fn decode_opaque(alloc: Global, kind: Kind, choice: u8, octets: &[u8]) -> Result<Marked, Refusal>
-    requires { IsNone (production_of true kind choice) }
-    ensures { IsDecoded kind choice octets.now result }
-{
-    match Opaque::new(alloc, kind, choice, octets) {
-        Ok(service) => Ok((Service::Opaque(service), None)),
-        Err(_) => Err(Refusal::out_of_memory()),
-    }
-}
-
-/// Decodes a confirmed request.
-#[inline(always)]
-fn decode_confirmed(alloc: Global, choice: u8, octets: &[u8]) -> Result<Marked, Refusal>
-    ensures { IsDecoded Confirmed choice octets.now result }
-{
-    match choice {
-        1 => decode_notification(alloc, true, octets),
-        5 => decode_named::<SubscribeCov>(alloc, octets),
-        12 => decode_named::<ReadProperty>(alloc, octets),
-        14 => decode_list::<ReadPropertyMultiple>(alloc, octets),
-        15 => decode_named::<WriteProperty>(alloc, octets),
-        16 => decode_list::<WritePropertyMultiple>(alloc, octets),
-        _ => decode_opaque(alloc, Kind::Confirmed, choice, octets),
-    }
-}
-
-/// Decodes an unconfirmed request.
-#[inline(always)]
-fn decode_unconfirmed(alloc: Global, choice: u8, octets: &[u8]) -> Result<Marked, Refusal>
-    ensures { IsDecoded Unconfirmed choice octets.now result }
-{
-    match choice {
-        0 => decode_named::<IAm>(alloc, octets),
-        2 => decode_notification(alloc, false, octets),
-        8 => decode_named::<WhoIs>(alloc, octets),
-        _ => decode_opaque(alloc, Kind::Unconfirmed, choice, octets),
-    }
-}
-
-/// Decodes an answer with contents.
-#[inline(always)]
-fn decode_complex_ack(alloc: Global, choice: u8, octets: &[u8]) -> Result<Marked, Refusal>
-    ensures { IsDecoded ComplexAck choice octets.now result }
-{
-    match choice {
-        12 => decode_named::<ReadPropertyAck>(alloc, octets),
-        14 => decode_list::<ReadPropertyMultipleAck>(alloc, octets),
-        _ => decode_opaque(alloc, Kind::ComplexAck, choice, octets),
-    }
-}
-
-/// Decodes the answer to a request that failed.
-#[inline(always)]
-fn decode_failure(alloc: Global, choice: u8, octets: &[u8]) -> Result<Marked, Refusal>
-    ensures { IsDecoded Error choice octets.now result }
-{
-    match choice {
-        1 | 5 | 12 | 14 | 15 => decode_error(alloc, choice, octets),
-        16 => decode_named::<WritePropertyMultipleError>(alloc, octets),
-        _ => decode_opaque(alloc, Kind::Error, choice, octets),
-    }
-}
 
 /// Decodes a service of any kind.
 #[inline(always)]

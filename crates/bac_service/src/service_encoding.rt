@@ -2,42 +2,16 @@
 
 ghost use Rattle.std.specs.Prelude.{◌≡◌, ℕ, List, true, IfOk, OnOk, OnErr};
 ghost use Rattle.bac_tag.specs.Spelling.{IsLeast, AppendsLeast};
-ghost use Rattle.bac_tag.specs.Octets.{Extends};
 ghost use Rattle.bac_service.specs.ServiceValues.{value_of};
-ghost use Rattle.bac_service.specs.Services.{SpellsSaid, SpellsService, IsPlaced};
+ghost use Rattle.bac_service.specs.Services.{SpellsService};
 
 use crate::laws::held_services_have_canonical_octets;
-use crate::production::Production;
-use crate::production::record::Record;
-use crate::service::Service;
+use crate::service::{Service, append_production};
 use bac_tag::OutOfMemory;
 use std::alloc::Global;
 
 /// How many octets there is room for at first: as many as most services need.
 const FIRST_ROOM: usize = 64;
-
-/// Appends the least spelling of a service. If memory is refused, `out` may hold some of the octets.
-fn append_production(service: &Service, out: &mut Vec<u8>) -> Result<(), OutOfMemory>
-    ensures placed { IsPlaced (value_of service.now) }
-    ensures ok { OnOk result (AppendsLeast (SpellsSaid 32 (value_of service.now).production (value_of service.now).said) out.old.items out.new.items) }
-    ensures kept { Extends out.old.items out.new.items }
-{
-    match service {
-        Service::ReadProperty(request) => request.write_fields(out),
-        Service::ReadPropertyAck(ack) => ack.write_fields(out),
-        Service::WriteProperty(request) => request.write_fields(out),
-        Service::ReadPropertyMultiple(request) => request.specs.write(out),
-        Service::ReadPropertyMultipleAck(ack) => ack.results.write(out),
-        Service::WritePropertyMultiple(request) => request.specs.write(out),
-        Service::WhoIs(request) => request.write_fields(out),
-        Service::IAm(request) => request.write_fields(out),
-        Service::SubscribeCov(request) => request.write_fields(out),
-        Service::CovNotification(notification) => notification.write_fields(out),
-        Service::ServiceError(error) => error.write_cause(out),
-        Service::WritePropertyMultipleError(error) => error.write_fields(out),
-        Service::Opaque(service) => service.write_octets(out),
-    }
-}
 
 /// Appends the canonical octets of a service, the least that spell it, to what is in `out`. Its type lists them in
 /// their order (clause 21).

@@ -10,7 +10,8 @@ ghost use Rattle.bac_service.specs.ServiceTable.{production_of};
 ghost use Rattle.bac_service.specs.ServiceValues.{opaque};
 ghost use Rattle.bac_service.specs.Services.{SpellsSaid, IsPlaced};
 
-use crate::kind::{Kind, has_production};
+use crate::kind::Kind;
+use crate::service::has_production;
 use bac_tag::OutOfMemory;
 use std::alloc::{AllocError, Global};
 use std::error::Error;

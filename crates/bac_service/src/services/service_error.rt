@@ -7,8 +7,8 @@ ghost use Rattle.bac_service.specs.ErrorCause.{SpellsErrorCause};
 ghost use Rattle.bac_service.specs.ServiceTable.{service_error, production_of};
 ghost use Rattle.bac_service.specs.declared.kind.Kind.TheVariants.{Error};
 
-use crate::kind::has_cause;
 use crate::production::record::Record;
+use crate::service::has_cause;
 use crate::services::error_cause::ErrorCause;
 use bac_tag::OutOfMemory;
 use std::marker::Model;

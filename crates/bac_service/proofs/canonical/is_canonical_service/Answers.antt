@@ -11,7 +11,7 @@ pub returns-in-Confirmed : goal.returns-in-Confirmed
 returns-in-Confirmed c = rw c.in-Confirmed.is c.is_canonical_confirmed.ensures
 
 pub returns-in-Unconfirmed : goal.returns-in-Unconfirmed
-returns-in-Unconfirmed c = rw (c.in-Unconfirmed.is, c.if-choice-eq2.true) c.is_canonical_notification.ensures
+returns-in-Unconfirmed c = rw c.in-Unconfirmed.is c.is_canonical_unconfirmed.ensures
 
 pub returns-in-ComplexAck : goal.returns-in-ComplexAck
 returns-in-ComplexAck c = rw c.in-ComplexAck.is c.is_canonical_complex_ack.ensures

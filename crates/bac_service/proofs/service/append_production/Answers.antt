@@ -1,4 +1,4 @@
-use Rattle.bac_service.proofs.service_encoding.append_production.Goals as goal
+use Rattle.bac_service.proofs.service.append_production.Goals as goal
 
 pub returns-in-ReadProperty-clause-ok : goal.returns-in-ReadProperty-clause-ok
 returns-in-ReadProperty-clause-ok c = rw c.in-ReadProperty.is c.write_fields.ensures.ok

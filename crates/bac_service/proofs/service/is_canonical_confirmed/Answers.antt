@@ -1,4 +1,4 @@
-use Rattle.bac_service.proofs.canonical.is_canonical_confirmed.Goals as goal
+use Rattle.bac_service.proofs.service.is_canonical_confirmed.Goals as goal
 
 pub returns-in-1 : goal.returns-in-1
 returns-in-1 c = rw c.in-1.is c.is_canonical_notification.ensures

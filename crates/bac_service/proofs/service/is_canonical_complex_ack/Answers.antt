@@ -1,4 +1,4 @@
-use Rattle.bac_service.proofs.canonical.is_canonical_complex_ack.Goals as goal
+use Rattle.bac_service.proofs.service.is_canonical_complex_ack.Goals as goal
 
 pub returns-in-12 : goal.returns-in-12
 returns-in-12 c = rw c.in-12.is c.is_canonical_named.ensures
