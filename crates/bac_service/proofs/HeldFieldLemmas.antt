@@ -24,7 +24,7 @@ use Rattle.bac_service.specs.Productions.{Optional, Items, Grouped}
 use Rattle.bac_service.specs.Laws.Field.{heading_least}
 use Rattle.bac_value.specs.declared.types.enumeration.Enumerated.{Enumerated}
 use Rattle.bac_value.specs.contracts.types.priority.Priority as priority_row
-use Rattle.bac_service.proofs.Held.{some_known, object_known, instance_known, priority_known, any_known, index_known}
+use Rattle.bac_service.proofs.HeldParts.{some_known, object_known, instance_known, priority_known, any_known, index_known}
 use Rattle.bac_service.proofs.HeldValueLemmas.{held_value}
 
 -- some list is in the set

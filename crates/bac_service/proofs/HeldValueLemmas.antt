@@ -6,7 +6,7 @@ use Rattle.bac_data.specs.OpenValue.{Element, primitive, context, group, Element
 use Rattle.bac_data.specs.Spells.{SpellsPrimitive}
 use Rattle.bac_data.specs.Events.{Event, application, contextual, opening, closing, Opens, SpellsEvents, levels, first_of, others_of}
 use Rattle.bac_data.proofs.ValueLemmas.{elements_value}
-use Rattle.bac_service.proofs.Held.{any_known}
+use Rattle.bac_service.proofs.HeldParts.{any_known}
 
 -- These elements, and those after the end of each open group, are in their ranges. They fit within the limit, inside the groups that are open.
 abbrev Kept : ℕ → Elements → List Elements → List ℕ → Type 0

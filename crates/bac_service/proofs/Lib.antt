@@ -1,9 +1,7 @@
 mod WideningLemmas
 pub mod LongHeadLemmas
-pub mod Same
 pub mod SameLemmas
-pub mod DerivedLemmas
-pub mod Held
+pub mod HeldParts
 pub mod HeldValueLemmas
 pub mod HeldFieldLemmas
 pub mod SpellingLemmas

@@ -1,9 +1,12 @@
--- Services are equal exactly where they are the same service.
+-- What `==` answers for services: a test, field by field. The derives make it, and it says whether two services that
+-- are spelled are the same service.
 use Rattle.std.proofs.Common.{◌≡◌, ℕ, Bool, true, false, ◌&&◌, nat_eq, Option, None, Some, List, [], ◌∷◌, map, refl, sym, ◌∙◌, ap, subst}
 use Rattle.std.specs.Bool.{Decides, beq}
 use Rattle.std.specs.Option.{option_eq, option_map}
 use Rattle.std.specs.Cmp.{unsigned_Decides, booleans_Decides}
 use Rattle.std.specs.Cmp.Lexicographic.{pointwise, bytes_decides}
+use mathlib.Core.Path.{subst_refl}
+use mathlib.Core.Sum.{⊎_set}
 use Rattle.bac_tag.specs.Spelling.{Joined}
 use Rattle.bac_value.specs.Identifier.{Identifier}
 use Rattle.bac_value.specs.declared.types.enumeration.Enumerated.{Enumerated}
@@ -12,7 +15,6 @@ use Rattle.bac_data.specs.Spells.{SpellsOpen}
 use Rattle.bac_data.specs.Same.{same_values}
 use Rattle.bac_data.specs.Laws.Same.{same_values_tell}
 use Rattle.bac_service.specs.declared.kind.Kind.{Kind}
-use Rattle.bac_service.specs.declared.kind.Kind.TheVariants as kind
 use Rattle.bac_service.specs.declared.services.property_result.ReadResult.TheVariants.{Value, Error}
 use Rattle.bac_service.specs.declared.services.read_property_multiple.ReadAccessSpecification.{ReadAccessSpecification}
 use Rattle.bac_service.specs.declared.services.read_property_multiple_ack.ReadAccessResult.{ReadAccessResult}
@@ -20,7 +22,6 @@ use Rattle.bac_service.specs.declared.services.write_property_multiple.WriteAcce
 use Rattle.bac_service.specs.declared.services.cov_notification.CovNotification.{CovNotification}
 use Rattle.bac_service.specs.ErrorValues.{ErrorValue}
 use Rattle.bac_service.specs.declared.service.Service.{Service}
-use Rattle.bac_service.specs.declared.service.Service.TheVariants as held
 use Rattle.bac_service.specs.Productions.{Optional, Items, Grouped, IsRecordOf}
 use Rattle.bac_service.specs.Contents.{EnumeratedField, UnsignedField}
 use Rattle.bac_service.specs.PropertyValue.{SpellsPropertyValue}
@@ -31,12 +32,146 @@ use Rattle.bac_service.specs.ReadAccessSpecification.{Specification, specificati
 use Rattle.bac_service.specs.ReadAccessResult.{AccessResult, access_result_of, SpellsAccessResult}
 use Rattle.bac_service.specs.WriteAccessSpecification.{WriteSpecification, write_specification_of, SpellsWriteSpecification}
 use Rattle.bac_service.specs.CovNotification.{notification_of, SpellsNotification}
-use Rattle.bac_service.specs.Opaques.{OpaqueValue, kind_number, opaque_key}
+use Rattle.bac_service.specs.Opaques.{OpaqueValue, kind_number, opaque_key, same_opaque}
 use Rattle.bac_service.specs.ServiceTable.{ServiceProduction, read_property, read_property_ack, read_property_multiple, read_property_multiple_ack, write_property, write_property_multiple, write_property_multiple_error, who_is, i_am, subscribe_cov, cov_notification, service_error}
 use Rattle.bac_service.specs.ServiceValues.{SaidBy, Said, ServiceValue, typed, opaque, notification_kind, notification_choice, value_of}
 use Rattle.bac_service.specs.Services.{SpellsService}
-use Rattle.bac_service.proofs.Same.{same_object, same_index, same_object_property, same_cause, same_reference, same_property_value, same_read_result, same_property_result, same_read_property, same_specification, same_access_result, same_write_specification, same_write_error, same_who_is, same_i_am, same_subscribe_cov, same_notification, same_service}
 use Rattle.bac_service.specs.Laws.Parts.{property_value_parts, read_property_ack_parts, write_property_parts, specification_parts, access_result_parts, write_specification_parts, notification_parts}
+use Rattle.bac_service.specs.declared.services.error_cause.ErrorCause.{ErrorCause}
+use Rattle.bac_service.specs.declared.services.property_reference.PropertyReference.{PropertyReference}
+use Rattle.bac_service.specs.declared.services.property_value.PropertyValue.{PropertyValue}
+use Rattle.bac_service.specs.declared.services.property_result.ReadResult.{ReadResult}
+use Rattle.bac_service.specs.declared.services.property_result.PropertyResult.{PropertyResult}
+use Rattle.bac_service.specs.declared.services.read_property.ReadProperty.{ReadProperty}
+use Rattle.bac_service.specs.declared.services.read_property_ack.ReadPropertyAck.{ReadPropertyAck}
+use Rattle.bac_service.specs.declared.services.write_property.WriteProperty.{WriteProperty}
+use Rattle.bac_service.specs.declared.services.write_property_multiple_error.WritePropertyMultipleError.{WritePropertyMultipleError}
+use Rattle.bac_service.specs.declared.services.who_is.WhoIs.{WhoIs}
+use Rattle.bac_service.specs.declared.services.i_am.IAm.{IAm}
+use Rattle.bac_service.specs.declared.services.subscribe_cov.SubscribeCov.{SubscribeCov}
+use Rattle.bac_service.specs.ObjectProperty.{ObjectProperty}
+use Rattle.bac_service.specs.declared.kind.Kind.TheVariants as kind
+use Rattle.bac_service.specs.declared.service.Service.TheVariants as held
+use Rattle.bac_service.specs.contracts.service.ServicePartialEq.TheImpl as derived
+use Rattle.bac_service.specs.contracts.services.property_result.ReadResultPartialEq.TheImpl as of_result
+
+-- ---- the tests: of parts
+
+abbrev pub same_object : Identifier → Identifier → Bool
+same_object a b = nat_eq a.kind b.kind && nat_eq a.instance b.instance
+
+abbrev pub same_index : Option ℕ → Option ℕ → Bool
+same_index = option_eq nat_eq
+
+abbrev pub same_object_property : ObjectProperty → ObjectProperty → Bool
+same_object_property a b = same_object a.0 b.0 && (nat_eq a.1.0 b.1.0 && same_index a.1.1 b.1.1)
+
+abbrev pub same_cause : ErrorCause → ErrorCause → Bool
+same_cause a b = nat_eq a.class b.class && nat_eq a.code b.code
+
+abbrev pub same_reference : PropertyReference → PropertyReference → Bool
+same_reference a b = nat_eq a.property b.property && same_index a.index b.index
+
+abbrev pub same_property_value : PropertyValue → PropertyValue → Bool
+same_property_value a b = nat_eq a.property b.property && (same_index a.index b.index && (same_values a.value b.value && option_eq nat_eq a.priority b.priority))
+
+abbrev pub same_read_result : ReadResult → ReadResult → Bool
+same_read_result (Value a) (Value b) = same_values a b
+same_read_result (Error a) (Error b) = same_cause a b
+same_read_result _ _ = false
+
+abbrev pub same_property_result : PropertyResult → PropertyResult → Bool
+same_property_result a b = nat_eq a.property b.property && (same_index a.index b.index && same_read_result a.result b.result)
+
+-- ---- the tests: of services
+
+abbrev pub same_read_property : ReadProperty → ReadProperty → Bool
+same_read_property a b = same_object_property (a.object, (a.property, a.index)) (b.object, (b.property, b.index))
+
+abbrev pub same_read_property_ack : ReadPropertyAck → ReadPropertyAck → Bool
+same_read_property_ack a b = same_object_property (a.object, (a.property, a.index)) (b.object, (b.property, b.index)) && same_values a.value b.value
+
+abbrev pub same_write_property : WriteProperty → WriteProperty → Bool
+same_write_property a b =
+    same_object_property (a.object, (a.property, a.index)) (b.object, (b.property, b.index)) && (same_values a.value b.value && option_eq nat_eq a.priority b.priority)
+
+abbrev pub same_specification : ReadAccessSpecification → ReadAccessSpecification → Bool
+same_specification a b = same_object a.object b.object && pointwise same_reference a.properties.items b.properties.items
+
+abbrev pub same_access_result : ReadAccessResult → ReadAccessResult → Bool
+same_access_result a b = same_object a.object b.object && option_eq (λ x y. pointwise same_property_result x.items y.items) a.results b.results
+
+abbrev pub same_write_specification : WriteAccessSpecification → WriteAccessSpecification → Bool
+same_write_specification a b = same_object a.object b.object && pointwise same_property_value a.values.items b.values.items
+
+abbrev pub same_write_error : WritePropertyMultipleError → WritePropertyMultipleError → Bool
+same_write_error a b = nat_eq a.class b.class && (nat_eq a.code b.code && same_object_property (a.object, (a.property, a.index)) (b.object, (b.property, b.index)))
+
+abbrev pub same_who_is : WhoIs → WhoIs → Bool
+same_who_is a b = option_eq (λ x y. nat_eq x.0 y.0 && nat_eq x.1 y.1) a.limits b.limits
+
+abbrev pub same_i_am : IAm → IAm → Bool
+same_i_am a b = same_object a.object b.object && (nat_eq a.apdu b.apdu && (nat_eq a.segmentation b.segmentation && nat_eq a.vendor b.vendor))
+
+abbrev pub same_subscribe_cov : SubscribeCov → SubscribeCov → Bool
+same_subscribe_cov a b =
+    nat_eq a.process b.process && (same_object a.object b.object && (option_eq beq a.confirmed b.confirmed && same_index a.lifetime b.lifetime))
+
+abbrev pub same_notification : CovNotification → CovNotification → Bool
+same_notification a b =
+    beq a.confirmed b.confirmed && ((nat_eq a.process b.process && (same_object a.device b.device && same_object a.object b.object)) && (nat_eq a.remaining b.remaining && pointwise same_property_value a.values.items b.values.items))
+
+abbrev pub same_service : Service → Service → Bool
+same_service (held.ReadProperty a) (held.ReadProperty b) = same_read_property a b
+same_service (held.ReadPropertyAck a) (held.ReadPropertyAck b) = same_read_property_ack a b
+same_service (held.WriteProperty a) (held.WriteProperty b) = same_write_property a b
+same_service (held.ReadPropertyMultiple a) (held.ReadPropertyMultiple b) = pointwise same_specification a.specs.items b.specs.items
+same_service (held.ReadPropertyMultipleAck a) (held.ReadPropertyMultipleAck b) = pointwise same_access_result a.results.items b.results.items
+same_service (held.WritePropertyMultiple a) (held.WritePropertyMultiple b) = pointwise same_write_specification a.specs.items b.specs.items
+same_service (held.WhoIs a) (held.WhoIs b) = same_who_is a b
+same_service (held.IAm a) (held.IAm b) = same_i_am a b
+same_service (held.SubscribeCov a) (held.SubscribeCov b) = same_subscribe_cov a b
+same_service (held.CovNotification a) (held.CovNotification b) = same_notification a b
+same_service (held.ServiceError a) (held.ServiceError b) = nat_eq a.choice b.choice && same_cause a.cause b.cause
+same_service (held.WritePropertyMultipleError a) (held.WritePropertyMultipleError b) = same_write_error a b
+same_service (held.Opaque a) (held.Opaque b) = same_opaque a b
+same_service _ _ = false
+
+-- ---- what the derives of `==` make
+
+-- what the derive says of an enum, variant by variant
+result_is : (a b : ReadResult) → of_result.eq-value.it a b ≡ same_read_result a b
+result_is (Value a) (Value b) = refl
+result_is (Error a) (Error b) = refl
+result_is (Value a) (Error b) = refl
+result_is (Error a) (Value b) = refl
+
+access_results_are : (test other : ReadResult → ReadResult → Bool) → test ≡ other → (a b : ReadAccessResult)
+    → (same_object a.object b.object && option_eq (λ v w. pointwise (λ (p q : PropertyResult). nat_eq p.property q.property && (same_index p.index q.index && test p.result q.result)) v.items w.items) a.results b.results)
+    ≡ (same_object a.object b.object && option_eq (λ v w. pointwise (λ (p q : PropertyResult). nat_eq p.property q.property && (same_index p.index q.index && other p.result q.result)) v.items w.items) a.results b.results)
+access_results_are test other e a b =
+    ap (λ (f : ReadResult → ReadResult → Bool). same_object a.object b.object && option_eq (λ v w. pointwise (λ (p q : PropertyResult). nat_eq p.property q.property && (same_index p.index q.index && f p.result q.result)) v.items w.items) a.results b.results) e
+
+-- the derive goes field by field, the definition first by the first three: those of a reference to a property of an object,
+-- or those that name the subscription of a notification
+first_three : (a b c rest : Bool) → (a && (b && (c && rest))) ≡ ((a && (b && c)) && rest)
+first_three true true c rest = refl
+first_three true false c rest = refl
+first_three false b c rest = refl
+
+-- where nothing else is said, the derive and the test are one: the line of Opaque splits those by the second service too
+pub service_is : (a b : Service) → derived.eq-value.it a b ≡ same_service a b
+service_is (held.ReadPropertyMultipleAck a) (held.ReadPropertyMultipleAck b) =
+    ap (λ (test : ReadAccessResult → ReadAccessResult → Bool). pointwise test a.results.items b.results.items) (λ i. λ v w. access_results_are of_result.eq-value.it same_read_result (λ j. λ p q. result_is p q j) v w i)
+service_is (held.ReadPropertyAck a) (held.ReadPropertyAck b) =
+    first_three (same_object a.object b.object) (nat_eq a.property b.property) (same_index a.index b.index) (same_values a.value b.value)
+service_is (held.WriteProperty a) (held.WriteProperty b) =
+    first_three (same_object a.object b.object) (nat_eq a.property b.property) (same_index a.index b.index) (same_values a.value b.value && option_eq nat_eq a.priority b.priority)
+service_is (held.CovNotification a) (held.CovNotification b) =
+    ap (λ fields. beq a.confirmed b.confirmed && fields)
+    (first_three (nat_eq a.process b.process) (same_object a.device b.device) (same_object a.object b.object) (nat_eq a.remaining b.remaining && pointwise same_property_value a.values.items b.values.items))
+service_is _ (held.Opaque b) = refl
+service_is _ _ = refl
 
 -- ---- tests that decide whether any two values are the same
 
@@ -160,36 +295,33 @@ mapped_option f test None (Some y) = refl
 mapped_option f test (Some x) None = refl
 mapped_option f test (Some x) (Some y) = refl
 
+-- a list of what is held is the same where each item is seen as the same
+tells_list : {X V : Type 0} {S : V → List ℕ → Type 0} {test : V → V → Bool} (view : X → V) (same : X → X → Bool) → ((x y : X) → test (view x) (view y) ≡ same x y) → Tells S test
+    → (xs ys : List X) (b c : List ℕ) → Items S (map view xs) b → Items S (map view ys) c → Decides (pointwise same xs ys) (map view xs ≡ map view ys)
+tells_list {X} {test = test} view same alike d xs ys b c s t =
+    subst (λ r. Decides r (map view xs ≡ map view ys)) (mapped view test xs ys ∙ ap (λ (f : X → X → Bool). pointwise f xs ys) (λ i. λ x y. alike x y i))
+    (tells_items d (map view xs) (map view ys) b c s t)
+
 -- ---- what a service says
-
-abbrev picked : (p : ServiceProduction) (q : Option ServiceProduction) → Said q → Option (SaidBy p)
-picked read_property (Some read_property) said = Some said
-picked read_property_ack (Some read_property_ack) said = Some said
-picked read_property_multiple (Some read_property_multiple) said = Some said
-picked read_property_multiple_ack (Some read_property_multiple_ack) said = Some said
-picked write_property (Some write_property) said = Some said
-picked write_property_multiple (Some write_property_multiple) said = Some said
-picked write_property_multiple_error (Some write_property_multiple_error) said = Some said
-picked who_is (Some who_is) said = Some said
-picked i_am (Some i_am) said = Some said
-picked subscribe_cov (Some subscribe_cov) said = Some said
-picked cov_notification (Some cov_notification) said = Some said
-picked service_error (Some service_error) said = Some said
-picked p q said = None
-
-abbrev said_by : (p : ServiceProduction) → ServiceValue → Option (SaidBy p)
-said_by p service = picked p service.production service.said
 
 abbrev octets_of : (q : Option ServiceProduction) → Said q → List ℕ
 octets_of None said = said
 octets_of (Some p) said = []
 
-some_is : {V : Type 0} {v w : V} → Some v ≡ Some w → v ≡ w
-some_is e = cc
+production_set : IsSet (Option ServiceProduction)
+production_set = hlevel ⊎_set
 
-typed_tells : (k : Kind) (c : ℕ) (p : ServiceProduction) (v w : SaidBy p) (r : Bool) → said_by p (typed k c p v) ≡ Some v → said_by p (typed k c p w) ≡ Some w → Decides r (v ≡ w)
-    → Decides r (typed k c p v ≡ typed k c p w)
-typed_tells k c p v w r e f d = by_parts r d (λ h. ap (typed k c p) h) (λ h. some_is (sym e ∙ ap (said_by p) h ∙ f))
+-- two services of one production that are the same say the same
+said_is : (k l : Kind) (c d : ℕ) (p : ServiceProduction) (v w : SaidBy p) → typed k c p v ≡ typed l d p w → v ≡ w
+said_is k l c d p v w e =
+    let same : Some p ≡ Some p → SaidBy p → SaidBy p = λ h s. subst Said h s in
+    let kept : (h : Some p ≡ Some p) → same h v ≡ v = λ h. ap (λ h. same h v) (production_set (Some p) (Some p) h refl) ∙ subst_refl Said {x = Some p} v in
+    sym (kept refl)
+    ∙ subst (λ (x : ServiceValue). (h : x.production ≡ Some p) → same refl v ≡ subst Said h x.said) e (λ h. subst_refl Said {x = Some p} v ∙ sym (kept h)) refl
+    ∙ subst_refl Said {x = Some p} w
+
+typed_tells : (k : Kind) (c : ℕ) (p : ServiceProduction) (v w : SaidBy p) (r : Bool) → Decides r (v ≡ w) → Decides r (typed k c p v ≡ typed k c p w)
+typed_tells k c p v w r d = by_parts r d (λ h. ap (typed k c p) h) (said_is k k c c p v w)
 
 confirmed_tells : (x y : Bool) → notification_choice x ≡ notification_choice y → x ≡ y
 confirmed_tells true true e = refl
@@ -288,57 +420,34 @@ module _ (open_only : (number : ℕ) (v : Elements) (b : List ℕ) → SpellsOpe
       tells_record (notification_parts 32)
       (tells_joined (tells_joined (tells_plain _ unsigned_Decides) (tells_joined (tells_plain _ objects) (tells_plain _ objects))) (tells_joined (tells_plain _ unsigned_Decides) (tells_grouped 4 (tells_items tells_property_value))))
 
-  tells_specifications : (v w : List ReadAccessSpecification) (s t : List ℕ) → Items SpellsSpecification (map specification_of v) s → Items SpellsSpecification (map specification_of w) t
-      → Decides (pointwise same_specification v w) (typed kind.Confirmed 14 read_property_multiple (map specification_of v) ≡ typed kind.Confirmed 14 read_property_multiple (map specification_of w))
-  tells_specifications v w s t x y =
-      let vs = map specification_of v in
-      let ws = map specification_of w in
-      let told = typed_tells kind.Confirmed 14 read_property_multiple vs ws (pointwise specification_test vs ws) refl refl (tells_items tells_specification vs ws s t x y) in
-      subst (λ r. Decides r (typed kind.Confirmed 14 read_property_multiple vs ≡ typed kind.Confirmed 14 read_property_multiple ws)) (mapped specification_of specification_test v w) told
-
-  tells_access_results : (v w : List ReadAccessResult) (s t : List ℕ) → Items (SpellsAccessResult 32) (map access_result_of v) s → Items (SpellsAccessResult 32) (map access_result_of w) t
-      → Decides (pointwise same_access_result v w) (typed kind.ComplexAck 14 read_property_multiple_ack (map access_result_of v) ≡ typed kind.ComplexAck 14 read_property_multiple_ack (map access_result_of w))
-  tells_access_results v w s t x y =
-      let vs = map access_result_of v in
-      let ws = map access_result_of w in
-      let told = typed_tells kind.ComplexAck 14 read_property_multiple_ack vs ws (pointwise access_result_test vs ws) refl refl (tells_items tells_access_result vs ws s t x y) in
-      let alike : pointwise access_result_test vs ws ≡ pointwise same_access_result v w =
-      mapped access_result_of access_result_test v w ∙ ap (λ (test : ReadAccessResult → ReadAccessResult → Bool). pointwise test v w) (λ i. λ p q. access_result_is p q i) in
-      subst (λ r. Decides r (typed kind.ComplexAck 14 read_property_multiple_ack vs ≡ typed kind.ComplexAck 14 read_property_multiple_ack ws)) alike told
-
-  tells_write_specifications : (v w : List WriteAccessSpecification) (s t : List ℕ) → Items (SpellsWriteSpecification 32) (map write_specification_of v) s → Items (SpellsWriteSpecification 32) (map write_specification_of w) t
-      → Decides (pointwise same_write_specification v w) (typed kind.Confirmed 16 write_property_multiple (map write_specification_of v) ≡ typed kind.Confirmed 16 write_property_multiple (map write_specification_of w))
-  tells_write_specifications v w s t x y =
-      let vs = map write_specification_of v in
-      let ws = map write_specification_of w in
-      let told = typed_tells kind.Confirmed 16 write_property_multiple vs ws (pointwise write_specification_test vs ws) refl refl (tells_items tells_write_specification vs ws s t x y) in
-      subst (λ r. Decides r (typed kind.Confirmed 16 write_property_multiple vs ≡ typed kind.Confirmed 16 write_property_multiple ws)) (mapped write_specification_of write_specification_test v w) told
-
   tells_cov : (v w : CovNotification) (s t : List ℕ) → SpellsNotification 32 (notification_of v) s → SpellsNotification 32 (notification_of w) t
       → Decides (same_notification v w) (value_of (held.CovNotification v) ≡ value_of (held.CovNotification w))
   tells_cov v w s t x y =
       by_parts (same_notification v w) (both (beq v.confirmed w.confirmed) _ (booleans_Decides v.confirmed w.confirmed) (tells_notification (notification_of v) (notification_of w) s t x y))
       (λ e. λ i. typed (notification_kind (e.0 i)) (notification_choice (e.0 i)) cov_notification (e.1 i))
-      (λ h. (confirmed_tells v.confirmed w.confirmed (ap (λ (z : ServiceValue). z.choice) h), some_is (ap (said_by cov_notification) h)))
+      (λ h. (confirmed_tells v.confirmed w.confirmed (ap (λ (z : ServiceValue). z.choice) h), said_is _ _ _ _ cov_notification _ _ h))
 
   tells_error : (v w : ErrorValue) → Decides (nat_eq v.choice w.choice && same_cause v.cause w.cause) (typed kind.Error v.choice service_error v.cause ≡ typed kind.Error w.choice service_error w.cause)
   tells_error v w =
       by_parts (nat_eq v.choice w.choice && same_cause v.cause w.cause) (both (nat_eq v.choice w.choice) (same_cause v.cause w.cause) (unsigned_Decides v.choice w.choice) (causes v.cause w.cause))
       (λ e. λ i. typed kind.Error (e.0 i) service_error (e.1 i))
-      (λ h. (ap (λ (z : ServiceValue). z.choice) h, some_is (ap (said_by service_error) h)))
+      (λ h. (ap (λ (z : ServiceValue). z.choice) h, said_is _ _ _ _ service_error _ _ h))
 
   pub services_tell : (a b : Service) (k l : Kind) (c d : ℕ) (s t : List ℕ) → SpellsService true 32 k c (value_of a) s → SpellsService true 32 l d (value_of b) t → Decides (same_service a b) (value_of a ≡ value_of b)
-  services_tell (held.ReadProperty v) (held.ReadProperty w) k l c d s t x y = typed_tells kind.Confirmed 12 read_property v w (same_read_property v w) refl refl (reads v w)
-  services_tell (held.ReadPropertyAck v) (held.ReadPropertyAck w) k l c d s t x y = typed_tells kind.ComplexAck 12 read_property_ack v w _ refl refl (tells_read_property_ack v w s t x.spelled y.spelled)
-  services_tell (held.WriteProperty v) (held.WriteProperty w) k l c d s t x y = typed_tells kind.Confirmed 15 write_property v w _ refl refl (tells_write_property v w s t x.spelled y.spelled)
-  services_tell (held.ReadPropertyMultiple v) (held.ReadPropertyMultiple w) k l c d s t x y = tells_specifications v.specs.items w.specs.items s t x.spelled y.spelled
-  services_tell (held.ReadPropertyMultipleAck v) (held.ReadPropertyMultipleAck w) k l c d s t x y = tells_access_results v.results.items w.results.items s t x.spelled y.spelled
-  services_tell (held.WritePropertyMultiple v) (held.WritePropertyMultiple w) k l c d s t x y = tells_write_specifications v.specs.items w.specs.items s t x.spelled y.spelled
-  services_tell (held.WhoIs v) (held.WhoIs w) k l c d s t x y = typed_tells kind.Unconfirmed 8 who_is v w (same_who_is v w) refl refl (who_ises v w)
-  services_tell (held.IAm v) (held.IAm w) k l c d s t x y = typed_tells kind.Unconfirmed 0 i_am v w (same_i_am v w) refl refl (i_ams v w)
-  services_tell (held.SubscribeCov v) (held.SubscribeCov w) k l c d s t x y = typed_tells kind.Confirmed 5 subscribe_cov v w (same_subscribe_cov v w) refl refl (subscriptions v w)
+  services_tell (held.ReadProperty v) (held.ReadProperty w) k l c d s t x y = typed_tells _ _ read_property v w _ (reads v w)
+  services_tell (held.ReadPropertyAck v) (held.ReadPropertyAck w) k l c d s t x y = typed_tells _ _ read_property_ack v w _ (tells_read_property_ack v w s t x.spelled y.spelled)
+  services_tell (held.WriteProperty v) (held.WriteProperty w) k l c d s t x y = typed_tells _ _ write_property v w _ (tells_write_property v w s t x.spelled y.spelled)
+  services_tell (held.ReadPropertyMultiple v) (held.ReadPropertyMultiple w) k l c d s t x y =
+      typed_tells _ _ read_property_multiple _ _ _ (tells_list specification_of same_specification (λ p q. refl) tells_specification v.specs.items w.specs.items s t x.spelled y.spelled)
+  services_tell (held.ReadPropertyMultipleAck v) (held.ReadPropertyMultipleAck w) k l c d s t x y =
+      typed_tells _ _ read_property_multiple_ack _ _ _ (tells_list access_result_of same_access_result access_result_is tells_access_result v.results.items w.results.items s t x.spelled y.spelled)
+  services_tell (held.WritePropertyMultiple v) (held.WritePropertyMultiple w) k l c d s t x y =
+      typed_tells _ _ write_property_multiple _ _ _ (tells_list write_specification_of same_write_specification (λ p q. refl) tells_write_specification v.specs.items w.specs.items s t x.spelled y.spelled)
+  services_tell (held.WhoIs v) (held.WhoIs w) k l c d s t x y = typed_tells _ _ who_is v w _ (who_ises v w)
+  services_tell (held.IAm v) (held.IAm w) k l c d s t x y = typed_tells _ _ i_am v w _ (i_ams v w)
+  services_tell (held.SubscribeCov v) (held.SubscribeCov w) k l c d s t x y = typed_tells _ _ subscribe_cov v w _ (subscriptions v w)
   services_tell (held.CovNotification v) (held.CovNotification w) k l c d s t x y = tells_cov v w s t x.spelled y.spelled
   services_tell (held.ServiceError v) (held.ServiceError w) k l c d s t x y = tells_error v w
-  services_tell (held.WritePropertyMultipleError v) (held.WritePropertyMultipleError w) k l c d s t x y = typed_tells kind.Error 16 write_property_multiple_error v w (same_write_error v w) refl refl (write_errors v w)
+  services_tell (held.WritePropertyMultipleError v) (held.WritePropertyMultipleError w) k l c d s t x y = typed_tells _ _ write_property_multiple_error v w _ (write_errors v w)
   services_tell (held.Opaque v) (held.Opaque w) k l c d s t x y = opaque_tells v w
   services_tell a b k l c d s t x y = (λ h. absurd (cc h), λ e. let productions = ap (λ (z : ServiceValue). z.production) e in absurd (cc productions))

@@ -1,11 +1,10 @@
 -- Services that were spelled in the former setting are spelled alike.
-use Rattle.std.specs.Prelude.{◌≡◌, ◌≢◌, ◌↔◌, ℕ, true, false, nat_eq, Option, None, Some, List, [], ◌∷◌, refl}
-use Rattle.std.proofs.Common.{◌∙◌, arith}
-use Rattle.std.proofs.lemmas.Bool.Decides.{nat_tests}
+use Rattle.std.specs.Prelude.{◌≡◌, ◌↔◌, ℕ, true, false, cond, nat_eq, Option, None, Some, IsNone, List, [], ◌∷◌, ◌++◌}
+use Rattle.std.specs.Map.{lookup}
+use Rattle.std.proofs.Common.{◌∙◌, ap, arith}
 use Rattle.bac_tag.specs.Spelling.{IsLeast, Joined}
 use Rattle.bac_data.specs.Spells.{SpellsOpen}
 use Rattle.bac_service.specs.declared.kind.Kind.{Kind}
-use Rattle.bac_service.specs.declared.kind.Kind.TheVariants.{Confirmed, Unconfirmed, ComplexAck, Error}
 use Rattle.bac_service.specs.declared.services.read_property_ack.ReadPropertyAck.{ReadPropertyAck}
 use Rattle.bac_service.specs.declared.services.write_property.WriteProperty.{WriteProperty}
 use Rattle.bac_service.specs.declared.services.property_value.PropertyValue.{PropertyValue}
@@ -22,9 +21,10 @@ use Rattle.bac_service.specs.PropertyResult.{SpellsReadResult, SpellsPropertyRes
 use Rattle.bac_service.specs.ReadAccessResult.{AccessResult, SpellsAccessResult}
 use Rattle.bac_service.specs.WriteAccessSpecification.{WriteSpecification, SpellsWriteSpecification}
 use Rattle.bac_service.specs.CovNotification.{Notification, SpellsNotification}
-use Rattle.bac_service.specs.ServiceTable.{ServiceProduction, read_property, read_property_ack, read_property_multiple, read_property_multiple_ack, write_property, write_property_multiple, write_property_multiple_error, who_is, i_am, subscribe_cov, cov_notification, service_error, production_of, IsUnchanged}
+use Rattle.bac_service.specs.ServiceTable.{ServiceProduction, read_property_ack, read_property_multiple_ack, write_property, write_property_multiple, cov_notification, former_rows, later_rows, production_of, IsUnchanged}
 use Rattle.bac_service.specs.ServiceValues.{ServiceValue}
 use Rattle.bac_service.specs.Services.{SpellsBy, SpellsSaid, SpellsService}
+use Rattle.bac_service.specs.Laws.Service.{no_row}
 
 -- ---- the parts
 
@@ -135,32 +135,27 @@ notification = by_fields (λ (n : Notification). ((n.process, (n.device, n.objec
 
 -- ---- services
 
+-- where nothing is said, the production has no open value
 by : (p : ServiceProduction) → Widens (SpellsBy 16 p) (SpellsBy 32 p)
-by read_property = same (SpellsBy 16 read_property)
 by read_property_ack = ack
-by read_property_multiple = same (SpellsBy 16 read_property_multiple)
 by read_property_multiple_ack = items access_result
 by write_property = write
 by write_property_multiple = items write_specification
-by write_property_multiple_error = same (SpellsBy 16 write_property_multiple_error)
-by who_is = same (SpellsBy 16 who_is)
-by i_am = same (SpellsBy 16 i_am)
-by subscribe_cov = same (SpellsBy 16 subscribe_cov)
 by cov_notification = notification
-by service_error = same (SpellsBy 16 service_error)
+by p = same (SpellsBy 16 p)
 
 said : (p : Option ServiceProduction) → Widens (SpellsSaid 16 p) (SpellsSaid 32 p)
 said (Some p) = record { wider = (by p).wider; back = (by p).back }
 said None = record { wider = λ v b s. s; back = λ v b c s t. t }
 
-not_multiple : (choice : ℕ) → choice ≢ 16 → nat_eq 16 choice ≡ false
-not_multiple choice other = grind (arith, nat_tests)
+-- a choice without a row behind is found in front or nowhere
+found_in_front : (choice : ℕ) (front behind : List (ℕ × ServiceProduction)) → IsNone (lookup (λ c. nat_eq c choice) behind)
+    → lookup (λ c. nat_eq c choice) front ≡ lookup (λ c. nat_eq c choice) (front ++ behind)
+found_in_front choice [] behind none = no_row (lookup (λ c. nat_eq c choice) behind) none
+found_in_front choice (row ∷ front) behind none = ap (λ r. cond (nat_eq row.0 choice) (Some row.1) r) (found_in_front choice front behind none)
 
 same_production : (kind : Kind) (choice : ℕ) → IsUnchanged kind choice → production_of false kind choice ≡ production_of true kind choice
-same_production Confirmed choice other = rw (not_multiple choice other) refl
-same_production Unconfirmed choice other = refl
-same_production ComplexAck choice other = refl
-same_production Error choice other = rw (not_multiple choice other) refl
+same_production kind choice other = found_in_front choice (former_rows kind) (later_rows kind) other
 
 former_spelled : (kind : Kind) (choice : ℕ) (v : ServiceValue) (b : List ℕ) → IsUnchanged kind choice → SpellsService false 16 kind choice v b → SpellsService true 32 kind choice v b
 former_spelled kind choice v b other s = record {

@@ -1,6 +1,7 @@
 -- What only proofs need: laws of the definitions, which no contract cites.
 pub mod Faults
 pub mod Lead
+pub mod Collisions
 pub mod Production
 pub mod Longest
 pub mod Reach

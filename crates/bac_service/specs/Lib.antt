@@ -1,4 +1,5 @@
 pub mod Leads
+pub mod Collisions
 pub mod Productions
 pub mod ReadFaults
 pub mod Reasons

@@ -20,7 +20,7 @@ use bac_value::Enumerated;
 
 /// Some value of a part is spelled, no list spells two, and each value that is spelled has a least spelling.
 pub(crate) fn parts_are_well_spelled<P: Production>()
-    requires { IsTrue P.is_sound }
+    requires { P.collisions ≡ [] }
     ensures { IsWellSpelled P.spells }
 {}
 

@@ -1,9 +1,9 @@
 //! Decoding the services, by the way in which a kind and a choice name them.
 
-ghost use Rattle.std.specs.Prelude.{◌≡◌, ◌↔◌, ◌&&◌, not, map, ℕ, List, true, false, IsTrue, IsNone, Some};
+ghost use Rattle.std.specs.Prelude.{◌≡◌, ◌↔◌, map, ℕ, List, [], true, false, IsTrue, IsNone, Some};
 ghost use Rattle.bac_service.specs.declared.kind.Kind.{Kind};
 ghost use Rattle.bac_service.specs.declared.kind.Kind.TheVariants.{Error};
-ghost use Rattle.bac_service.specs.Leads.{disjoint};
+ghost use Rattle.bac_service.specs.Collisions.{of_list};
 ghost use Rattle.bac_service.specs.Productions.{Items};
 ghost use Rattle.bac_service.specs.ServiceTable.{service_error, production_of, is_small};
 ghost use Rattle.bac_service.specs.ServiceValues.{value_of, notification_kind, notification_choice};
@@ -47,7 +47,7 @@ pub(crate) trait Named: Drop {
 /// Decodes a service of type `S`.
 #[inline(always)]
 pub(crate) fn decode_named<S: Named>(alloc: Global, octets: &[u8]) -> Result<Marked, Refusal>
-    requires { IsTrue S.Part.is_sound }
+    requires { S.Part.collisions ≡ [] }
     ensures { IsDecoded S.kind S.choice octets.now result }
 {
     let (part, mark) = decode::<S::Part>(alloc, octets)?;
@@ -57,7 +57,7 @@ pub(crate) fn decode_named<S: Named>(alloc: Global, octets: &[u8]) -> Result<Mar
 /// Returns true if the octets are found at once to be the canonical ones of a service of type `S`. False says nothing
 /// about the octets.
 pub(crate) fn is_canonical_named<S: Named>(alloc: Global, octets: &[u8]) -> bool
-    requires { IsTrue S.Part.is_sound }
+    requires { S.Part.collisions ≡ [] }
     ensures { IsTrue result → IsCanonical (SpellsService true 32 S.kind S.choice) octets.now }
 {
     are_canonical::<S::Part>(alloc, octets)
@@ -84,7 +84,7 @@ pub(crate) trait NamedList: Drop {
 /// Decodes a service of type `S`.
 #[inline(always)]
 pub(crate) fn decode_list<S: NamedList>(alloc: Global, octets: &[u8]) -> Result<Marked, Refusal>
-    requires { IsTrue (S.Item.Parts.is_sound && (not S.Item.Parts.may_be_empty && disjoint S.Item.Parts.openers S.Item.Parts.continuers)) }
+    requires { of_list S.Item.Parts.collisions S.Item.Parts.may_be_empty S.Item.Parts.openers S.Item.Parts.continuers ≡ [] }
     ensures { IsDecoded S.kind S.choice octets.now result }
 {
     let (items, mark) = decode::<Vec<S::Item>>(alloc, octets)?;
@@ -94,7 +94,7 @@ pub(crate) fn decode_list<S: NamedList>(alloc: Global, octets: &[u8]) -> Result<
 /// Returns true if the octets are found at once to be the canonical ones of a service of type `S`. False says nothing
 /// about the octets.
 pub(crate) fn is_canonical_list<S: NamedList>(alloc: Global, octets: &[u8]) -> bool
-    requires { IsTrue (S.Item.Parts.is_sound && (not S.Item.Parts.may_be_empty && disjoint S.Item.Parts.openers S.Item.Parts.continuers)) }
+    requires { of_list S.Item.Parts.collisions S.Item.Parts.may_be_empty S.Item.Parts.openers S.Item.Parts.continuers ≡ [] }
     ensures { IsTrue result → IsCanonical (SpellsService true 32 S.kind S.choice) octets.now }
 {
     are_canonical::<Vec<S::Item>>(alloc, octets)

@@ -1,9 +1,10 @@
 //! The parts of a production (clause 21): what each is spelled by, how it is read and how it is written.
 
-ghost use Rattle.std.specs.Prelude.{◌≡◌, ◌↔◌, ℕ, ◌+◌, ◌^◌, ◌<◌, ◌≤◌, Bool, List, take, length, IsTrue, IfSome, IfNone, IfOk, IfErr, OnOk, Err};
+ghost use Rattle.std.specs.Prelude.{◌≡◌, ◌↔◌, ℕ, ◌+◌, ◌^◌, ◌<◌, ◌≤◌, Bool, List, [], take, length, IsTrue, IfSome, IfNone, IfOk, IfErr, OnOk, Err};
 ghost use Rattle.bac_tag.specs.Spelling.{IsRefusal, Takes, HasMark, AppendsLeast, TakesLeast};
 ghost use Rattle.bac_tag.specs.Octets.{Extends};
 ghost use Rattle.bac_service.specs.Leads.{Lead};
+ghost use Rattle.bac_service.specs.Collisions.{Collision};
 ghost use Rattle.bac_service.specs.Productions.{Lawful, IsInhabited, HasLeast, IsLongest, IsReach, mark_within};
 ghost use Rattle.bac_service.specs.Reasons.{IsPartReason, IsReachReason};
 ghost use Rattle.bac_service.specs.ReadFaults.{IfRefused, EndsOrGoesOn};
@@ -229,7 +230,10 @@ pub(crate) trait Production: Drop {
     /// Whether some value is spelled by no octets.
     ghost may_be_empty: { Bool };
 
-    /// Whether the next head says what comes next.
+    /// Where the next head does not say what comes next.
+    ghost collisions: { List Collision };
+
+    /// Whether it always does: nothing collides.
     ghost is_sound: { Bool };
 
     /// Whether reading may need memory.
@@ -268,6 +272,8 @@ pub(crate) trait Production: Drop {
         requires { IsTrue is_sound }
         ensures ok { OnOk result (AppendsLeast (spells (view self.now)) out.old.items out.new.items) }
         ensures kept { Extends out.old.items out.new.items };
+
+    ghost decided: { collisions ≡ [] → IsTrue is_sound };
 
     ghost lawful: { IsTrue is_sound → Lawful spells openers continuers may_be_empty };
 

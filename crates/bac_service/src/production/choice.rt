@@ -7,6 +7,8 @@ ghost use Rattle.bac_service.specs.Laws.Longest.{either_lawful};
 ghost use Rattle.bac_service.specs.Productions.{either_of};
 ghost use Rattle.bac_service.specs.Laws.Choice.{either_inhabited};
 ghost use Rattle.bac_service.specs.Laws.HasLeast.{choice_least};
+ghost use Rattle.bac_service.specs.Collisions.{begins_both, may_be_nothing, common, unless};
+ghost use Rattle.bac_service.specs.Laws.Collisions.{unless_none, common_none, none_of_two, none_of_three};
 
 use crate::production::{Front, Production, ReadFault, Spelling};
 use bac_tag::OutOfMemory;
@@ -33,6 +35,8 @@ impl<A: Production, B: Production> Production for Choice<A, B> {
     ghost continuers = { A.continuers ++ B.continuers };
 
     ghost may_be_empty = { false };
+
+    ghost collisions = { (A.collisions ++ unless (not A.may_be_empty) may_be_nothing) ++ ((B.collisions ++ unless (not B.may_be_empty) may_be_nothing) ++ common begins_both A.openers B.openers) };
 
     ghost is_sound = { (A.is_sound && not A.may_be_empty) && ((B.is_sound && not B.may_be_empty) && disjoint A.openers B.openers) };
 
@@ -82,6 +86,8 @@ impl<A: Production, B: Production> Production for Choice<A, B> {
             Choice::Second(part) => part.write(out),
         }
     }
+
+    ghost decided = { none_of_three (A.collisions ++ unless (not A.may_be_empty) may_be_nothing) (B.collisions ++ unless (not B.may_be_empty) may_be_nothing) (common begins_both A.openers B.openers) (A.is_sound && not A.may_be_empty) (B.is_sound && not B.may_be_empty) (disjoint A.openers B.openers) (none_of_two A.collisions (unless (not A.may_be_empty) may_be_nothing) A.is_sound (not A.may_be_empty) A.decided (unless_none (not A.may_be_empty) may_be_nothing)) (none_of_two B.collisions (unless (not B.may_be_empty) may_be_nothing) B.is_sound (not B.may_be_empty) B.decided (unless_none (not B.may_be_empty) may_be_nothing)) (common_none begins_both A.openers B.openers) };
 
     ghost lawful = { λ sound. either_lawful A.is_sound B.is_sound A.lawful B.lawful sound };
 

@@ -1,6 +1,6 @@
 //! Decoding a value that takes all the octets.
 
-ghost use Rattle.std.specs.Prelude.{◌≡◌, ◌≢◌, IsTrue, IfOk, IfErr};
+ghost use Rattle.std.specs.Prelude.{◌≡◌, ◌≢◌, [], IsTrue, IfOk, IfErr};
 ghost use Rattle.bac_tag.specs.Spelling.{HasMark, IsWholeRefusal, IsCanonical};
 ghost use Rattle.bac_service.specs.Reasons.{IsServiceReason};
 
@@ -52,7 +52,7 @@ pub(crate) fn decode<P: Production>(
     alloc: Global,
     octets: &[u8],
 ) -> Result<(P, Option<usize>), Refusal>
-    requires { IsTrue P.is_sound }
+    requires { P.collisions ≡ [] }
     ensures found { IfOk result (λ found. P.spells (P.view found.0) octets.now) }
     ensures mark { IfOk result (λ found. HasMark (P.spells (P.view found.0)) octets.now found.1) }
     ensures refused { IfErr result (λ refusal. refusal.why ≢ Why.OutOfMemory → IsWholeRefusal P.spells octets.now refusal) }
@@ -71,7 +71,7 @@ pub(crate) fn decode<P: Production>(
 /// Returns true if all the octets are found at once to be the canonical ones of a value. False says nothing about the
 /// octets.
 pub(crate) fn are_canonical<P: Production>(alloc: Global, octets: &[u8]) -> bool
-    requires { IsTrue P.is_sound }
+    requires { P.collisions ≡ [] }
     ensures { IsTrue result → IsCanonical P.spells octets.now }
 {
     P::canonical_len(alloc, octets) == Some(octets.len())

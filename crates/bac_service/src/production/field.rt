@@ -14,6 +14,8 @@ ghost use Rattle.bac_service.specs.Productions.{mark_within};
 ghost use Rattle.bac_service.specs.Reasons.{IsPartReason};
 ghost use Rattle.bac_service.specs.ReadFaults.{IfRefused, EndsOrGoesOn};
 ghost use Rattle.bac_service.specs.Laws.HasLeast.{field_least};
+ghost use Rattle.bac_service.specs.Collisions.{no_such_number, unless};
+ghost use Rattle.bac_service.specs.Laws.Collisions.{unless_none};
 
 use crate::production::long_head::{FoundHead, long_head};
 use crate::production::{Front, Production, ReadFault, Spelling, complete_at, same_octets};
@@ -372,6 +374,8 @@ impl<T: Primitive, const N: u8> Production for Field<T, N> {
 
     ghost may_be_empty = { false };
 
+    ghost collisions = { unless (nat_le N 254) (no_such_number N) };
+
     ghost is_sound = { nat_le N 254 };
 
     ghost wants_memory = { T.wants_memory };
@@ -399,6 +403,8 @@ impl<T: Primitive, const N: u8> Production for Field<T, N> {
         write_field(&self.0, Some(N), out)
     }
 
+    ghost decided = { unless_none (nat_le N 254) (no_such_number N) };
+
     ghost lawful = { λ sound. field_lawful T.contents (Some N) T.APP T.one_value };
 
     ghost inhabited = { λ sound. field_inhabited T.contents (Some N) T.APP T.SHORTEST T.LONGEST (record { lengths = T.lengths; each_length = T.each_length }) T.within_limit (number_within N sound) };
@@ -418,6 +424,8 @@ impl<T: Primitive> Production for ApplicationField<T> {
     ghost continuers = { [] };
 
     ghost may_be_empty = { false };
+
+    ghost collisions = { unless (nat_le T.APP 12 && not (nat_eq T.APP 1)) (no_such_number T.APP) };
 
     ghost is_sound = { nat_le T.APP 12 && not (nat_eq T.APP 1) };
 
@@ -449,6 +457,8 @@ impl<T: Primitive> Production for ApplicationField<T> {
     fn write(&self, out: &mut Vec<u8>) -> Result<(), OutOfMemory> {
         write_field(&self.0, None, out)
     }
+
+    ghost decided = { unless_none (nat_le T.APP 12 && not (nat_eq T.APP 1)) (no_such_number T.APP) };
 
     ghost lawful = { λ sound. field_lawful T.contents None T.APP T.one_value };
 

@@ -1,6 +1,6 @@
 //! A group (clause 20.2.1.3.2).
 
-ghost use Rattle.std.specs.Prelude.{◌&&◌, ◌∷◌, [], false, nat_le, IsTrue, OnOk};
+ghost use Rattle.std.specs.Prelude.{◌&&◌, ◌++◌, ◌∷◌, [], false, nat_le, IsTrue, OnOk};
 ghost use Rattle.bac_tag.specs.Spelling.{AppendsLeast};
 ghost use Rattle.bac_tag.specs.Octets.{Extends};
 ghost use Rattle.bac_service.specs.Leads.{opening, closing, disjoint};
@@ -8,6 +8,8 @@ ghost use Rattle.bac_service.specs.Productions.{Grouped};
 ghost use Rattle.bac_service.specs.Laws.Production.{group_lawful_sound};
 ghost use Rattle.bac_service.specs.Laws.Group.{group_inhabited};
 ghost use Rattle.bac_service.specs.Laws.HasLeast.{group_least};
+ghost use Rattle.bac_service.specs.Collisions.{closes_early, no_such_number, common, unless};
+ghost use Rattle.bac_service.specs.Laws.Collisions.{unless_none, common_none, none_of_three};
 
 use crate::production::tag::{Closing, Opening};
 use crate::production::{Front, Production, ReadFault, Spelling};
@@ -47,6 +49,8 @@ impl<P: Production, const N: u8> Production for Group<P, N> {
 
     ghost may_be_empty = { false };
 
+    ghost collisions = { unless (nat_le N 254) (no_such_number N) ++ (P.collisions ++ common closes_early (closing N ∷ []) P.continuers) };
+
     ghost is_sound = { nat_le N 254 && (P.is_sound && disjoint (closing N ∷ []) P.continuers) };
 
     ghost wants_memory = { P.wants_memory };
@@ -73,6 +77,8 @@ impl<P: Production, const N: u8> Production for Group<P, N> {
     fn write(&self, out: &mut Vec<u8>) -> Result<(), OutOfMemory> {
         write_group::<P, N>(&self.0, out)
     }
+
+    ghost decided = { none_of_three (unless (nat_le N 254) (no_such_number N)) P.collisions (common closes_early (closing N ∷ []) P.continuers) (nat_le N 254) P.is_sound (disjoint (closing N ∷ []) P.continuers) (unless_none (nat_le N 254) (no_such_number N)) P.decided (common_none closes_early (closing N ∷ []) P.continuers) };
 
     ghost lawful = { group_lawful_sound N P.is_sound P.lawful };
 

@@ -6,6 +6,8 @@ ghost use Rattle.bac_service.specs.Productions.{Items};
 ghost use Rattle.bac_service.specs.Laws.Production.{list_lawful, record_lawful};
 ghost use Rattle.bac_service.specs.Laws.List.{items_inhabited};
 ghost use Rattle.bac_service.specs.Laws.HasLeast.{items_least, record_least};
+ghost use Rattle.bac_service.specs.Collisions.{of_list};
+ghost use Rattle.bac_service.specs.Laws.Collisions.{of_list_none};
 
 use crate::production::record::{Fields, Record};
 use crate::production::{
@@ -31,6 +33,8 @@ impl<R: Record> Production for Vec<R> {
     ghost continuers = { R.Parts.openers ++ R.Parts.continuers };
 
     ghost may_be_empty = { true };
+
+    ghost collisions = { of_list R.Parts.collisions R.Parts.may_be_empty R.Parts.openers R.Parts.continuers };
 
     ghost is_sound = { R.Parts.is_sound && (not R.Parts.may_be_empty && disjoint R.Parts.openers R.Parts.continuers) };
 
@@ -102,6 +106,8 @@ impl<R: Record> Production for Vec<R> {
         }
         Ok(())
     }
+
+    ghost decided = { of_list_none R.Parts.collisions R.Parts.may_be_empty R.Parts.openers R.Parts.continuers R.Parts.is_sound R.Parts.decided };
 
     ghost lawful = { list_lawful R.Parts.is_sound (λ sound. record_lawful R.of_parts (R.Parts.lawful sound)) };
 

@@ -8,6 +8,8 @@ ghost use Rattle.bac_tag.specs.Octets.{Extends};
 ghost use Rattle.bac_service.specs.Leads.{opening};
 ghost use Rattle.bac_service.specs.Laws.OpenValue.{open_lawful, open_inhabited};
 ghost use Rattle.bac_service.specs.Laws.HasLeast.{open_value_least};
+ghost use Rattle.bac_service.specs.Collisions.{no_such_number, unless};
+ghost use Rattle.bac_service.specs.Laws.Collisions.{unless_none};
 
 use crate::production::{Front, Production, ReadFault, Spelling, complete_at, same_octets};
 use bac_data::layers::canonical_any_len;
@@ -42,6 +44,8 @@ impl<const N: u8> Production for OpenValue<N> {
     ghost continuers = { [] };
 
     ghost may_be_empty = { false };
+
+    ghost collisions = { unless (nat_le N 254) (no_such_number N) };
 
     ghost is_sound = { nat_le N 254 };
 
@@ -87,6 +91,8 @@ impl<const N: u8> Production for OpenValue<N> {
     fn write(&self, out: &mut Vec<u8>) -> Result<(), OutOfMemory> {
         write_open::<N>(&self.0, out)
     }
+
+    ghost decided = { unless_none (nat_le N 254) (no_such_number N) };
 
     ghost lawful = { λ sound. open_lawful 32 N };
 

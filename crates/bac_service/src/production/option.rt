@@ -6,6 +6,8 @@ ghost use Rattle.bac_service.specs.Productions.{Optional};
 ghost use Rattle.bac_service.specs.Laws.Production.{option_lawful};
 ghost use Rattle.bac_service.specs.Laws.Reach.{option_inhabited};
 ghost use Rattle.bac_service.specs.Laws.HasLeast.{option_least};
+ghost use Rattle.bac_service.specs.Collisions.{may_be_nothing, unless};
+ghost use Rattle.bac_service.specs.Laws.Collisions.{unless_none, none_of_two};
 
 use crate::production::field::Field;
 use crate::production::{Front, Production, ReadFault, Spelling};
@@ -27,6 +29,8 @@ impl<P: Production> Production for Option<P> {
     ghost continuers = { P.openers ++ P.continuers };
 
     ghost may_be_empty = { true };
+
+    ghost collisions = { P.collisions ++ unless (not P.may_be_empty) may_be_nothing };
 
     ghost is_sound = { P.is_sound && not P.may_be_empty };
 
@@ -73,6 +77,8 @@ impl<P: Production> Production for Option<P> {
             None => Ok(()),
         }
     }
+
+    ghost decided = { none_of_two P.collisions (unless (not P.may_be_empty) may_be_nothing) P.is_sound (not P.may_be_empty) P.decided (unless_none (not P.may_be_empty) may_be_nothing) };
 
     ghost lawful = { option_lawful P.is_sound P.lawful };
 

@@ -1,11 +1,13 @@
 //! One part after the other.
 
-ghost use Rattle.std.specs.Prelude.{◌&&◌, ◌||◌};
+ghost use Rattle.std.specs.Prelude.{◌&&◌, ◌||◌, ◌++◌};
 ghost use Rattle.bac_tag.specs.Spelling.{Joined};
 ghost use Rattle.bac_service.specs.Leads.{and_where, disjoint};
 ghost use Rattle.bac_service.specs.Laws.Production.{pair_lawful};
 ghost use Rattle.bac_service.specs.Laws.Refusal.{sound_inhabited};
 ghost use Rattle.bac_service.specs.Laws.HasLeast.{pair_least};
+ghost use Rattle.bac_service.specs.Collisions.{goes_on, common};
+ghost use Rattle.bac_service.specs.Laws.Collisions.{common_none, none_of_three};
 
 use crate::production::{Front, Production, ReadFault, Spelling, is_wanted_behind, joined_same};
 use bac_tag::OutOfMemory;
@@ -24,6 +26,8 @@ impl<A: Production, B: Production> Production for (A, B) {
     ghost continuers = { and_where B.may_be_empty B.continuers A.continuers };
 
     ghost may_be_empty = { A.may_be_empty && B.may_be_empty };
+
+    ghost collisions = { A.collisions ++ (B.collisions ++ common goes_on B.openers A.continuers) };
 
     ghost is_sound = { A.is_sound && (B.is_sound && disjoint B.openers A.continuers) };
 
@@ -71,6 +75,8 @@ impl<A: Production, B: Production> Production for (A, B) {
         self.0.write(out)?;
         self.1.write(out)
     }
+
+    ghost decided = { none_of_three A.collisions B.collisions (common goes_on B.openers A.continuers) A.is_sound B.is_sound (disjoint B.openers A.continuers) A.decided B.decided (common_none goes_on B.openers A.continuers) };
 
     ghost lawful = { pair_lawful A.is_sound B.is_sound A.lawful B.lawful };
 

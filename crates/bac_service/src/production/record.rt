@@ -56,6 +56,8 @@ impl<R: Record> Production for Fields<R> {
 
     ghost may_be_empty = { R.Parts.may_be_empty };
 
+    ghost collisions = { R.Parts.collisions };
+
     ghost is_sound = { R.Parts.is_sound };
 
     ghost wants_memory = { R.Parts.wants_memory };
@@ -79,6 +81,8 @@ impl<R: Record> Production for Fields<R> {
     fn write(&self, out: &mut Vec<u8>) -> Result<(), OutOfMemory> {
         self.0.write_fields(out)
     }
+
+    ghost decided = { R.Parts.decided };
 
     ghost lawful = { λ sound. record_lawful R.of_parts (R.Parts.lawful sound) };
 

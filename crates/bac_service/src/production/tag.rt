@@ -7,6 +7,8 @@ ghost use Rattle.bac_service.specs.Productions.{Head};
 ghost use Rattle.bac_service.specs.Laws.Production.{head_lawful};
 ghost use Rattle.bac_service.specs.Laws.Tag.{opening_inhabited, closing_inhabited};
 ghost use Rattle.bac_service.specs.Laws.HasLeast.{tag_least};
+ghost use Rattle.bac_service.specs.Collisions.{no_such_number, unless};
+ghost use Rattle.bac_service.specs.Laws.Collisions.{unless_none};
 
 use crate::production::{Front, Production, ReadFault, Spelling, complete_at};
 use bac_tag::layers::{
@@ -35,6 +37,8 @@ impl<const N: u8> Production for Opening<N> {
     ghost continuers = { [] };
 
     ghost may_be_empty = { false };
+
+    ghost collisions = { unless (nat_le N 254) (no_such_number N) };
 
     ghost is_sound = { nat_le N 254 };
 
@@ -79,6 +83,8 @@ impl<const N: u8> Production for Opening<N> {
         append_head(TagHead::Open(N), out)
     }
 
+    ghost decided = { unless_none (nat_le N 254) (no_such_number N) };
+
     ghost lawful = { λ sound. head_lawful (Open N) };
 
     ghost inhabited = { opening_inhabited N };
@@ -98,6 +104,8 @@ impl<const N: u8> Production for Closing<N> {
     ghost continuers = { [] };
 
     ghost may_be_empty = { false };
+
+    ghost collisions = { unless (nat_le N 254) (no_such_number N) };
 
     ghost is_sound = { nat_le N 254 };
 
@@ -141,6 +149,8 @@ impl<const N: u8> Production for Closing<N> {
     fn write(&self, out: &mut Vec<u8>) -> Result<(), OutOfMemory> {
         append_head(TagHead::Close(N), out)
     }
+
+    ghost decided = { unless_none (nat_le N 254) (no_such_number N) };
 
     ghost lawful = { λ sound. head_lawful (Close N) };
 

@@ -1,9 +1,7 @@
 use Rattle.std.proofs.Common.{◌≡◌, sym, subst, ◌∙◌}
 use Rattle.std.specs.Bool.{Decides}
 use Rattle.bac_service.specs.ServiceValues.{value_of}
-use Rattle.bac_service.proofs.Same.{same_service}
-use Rattle.bac_service.proofs.SameLemmas.{services_tell}
-use Rattle.bac_service.proofs.DerivedLemmas.{service_is}
+use Rattle.bac_service.proofs.SameLemmas.{same_service, service_is, services_tell}
 use Rattle.bac_service.proofs.laws.equal_services_are_the_same.Goals as goal
 
 pub returns : goal.returns

@@ -19,8 +19,7 @@ use denote.Triple.Walked.{Stays, says, stay_dropped, Goes-dropped, ends_at}
 use Rattle.std.proofs.raw_atomic.Walks.{proved}
 use Rattle.bac_service.specs.contracts.service.Service.{the_row}
 use Rattle.bac_service.specs.contracts.laws.held_services_are_spelled as f
-use Rattle.bac_service.proofs.Held.{service_known}
-use Rattle.bac_service.proofs.SpellingLemmas.{held_service}
+use Rattle.bac_service.proofs.SpellingLemmas.{service_known, held_service}
 use Rattle.bac_service.proofs.laws.held_services_are_spelled.Statement.{statement}
 use Rattle.bac_service.proofs.laws.held_services_are_spelled.Code as code
 
