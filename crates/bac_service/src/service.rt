@@ -137,11 +137,7 @@ pub(crate) fn has_cause(choice: u8) -> bool
 
 /// Decodes a confirmed request.
 #[inline(always)]
-pub(crate) fn decode_confirmed(
-    alloc: Global,
-    choice: u8,
-    octets: &[u8],
-) -> Result<Marked, Refusal>
+pub(crate) fn decode_confirmed(alloc: Global, choice: u8, octets: &[u8]) -> Result<Marked, Refusal>
     ensures { IsDecoded Confirmed choice octets.now result }
 {
     match choice {
