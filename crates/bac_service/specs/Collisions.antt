@@ -1,6 +1,6 @@
 -- Where the next head does not say what comes next: what a production must not have.
-use Rattle.std.specs.Prelude.{ℕ, Bool, true, false, cond, not, List, [], ◌∷◌, ◌++◌}
-use Rattle.bac_service.specs.Leads.{Lead, has}
+use Rattle.std.specs.Prelude.{ℕ, ◌+◌, Bool, true, false, cond, not, List, [], ◌∷◌, ◌++◌}
+use Rattle.bac_service.specs.Leads.{Lead, application, context, opening, closing, has}
 
 pub data Collision : Type 0 where
   -- this head begins the second of two parts, and may go on with the first
@@ -16,10 +16,17 @@ pub data Collision : Type 0 where
   -- no head has this number
   no_such_number : ℕ → Collision
 
+-- the same head with its number computed, so that a goal shows it
+abbrev pub plain : Lead → Lead
+plain (application number) = application (number + 0)
+plain (context number) = context (number + 0)
+plain (opening number) = opening (number + 0)
+plain (closing number) = closing (number + 0)
+
 -- a collision by each of these heads that is among the others
 abbrev pub common : (Lead → Collision) → List Lead → List Lead → List Collision
 common why [] others = []
-common why (t ∷ leads) others = cond (has others t) (why t ∷ common why leads others) (common why leads others)
+common why (t ∷ leads) others = cond (has others t) (why (plain t) ∷ common why leads others) (common why leads others)
 
 -- the collision, unless the test holds
 abbrev pub unless : Bool → Collision → List Collision

@@ -1,7 +1,10 @@
 -- The parts of a production (clause 21), and what a reader tells of them.
-use Rattle.std.specs.Prelude.{◌≡◌, ◌↔◌, ℕ, ◌≤◌, List, [], ◌∷◌, ◌++◌, length, take, Bool, ◌⊎◌, cond, nat_lt, IsTrue, Option, Some, None}
+use Rattle.std.specs.Prelude.{◌≡◌, ◌↔◌, ℕ, ◌≤◌, List, [], ◌∷◌, ◌++◌, length, take, Bool, true, false, ◌⊎◌, cond, nat_lt, IsTrue, Option, Some, None}
 use Rattle.std.proofs.Common.{inl, inr}
+use Rattle.bac_tag.specs.declared.expecting.Expected.{Expected}
+use Rattle.bac_tag.specs.declared.expecting.Expected.TheVariants as expected
 use Rattle.bac_tag.specs.declared.heads.TagHead.{TagHead}
+use Rattle.bac_tag.specs.declared.heads.TagHead.TheVariants.{Open, Close}
 use Rattle.bac_tag.specs.Heads.{Heads}
 use Rattle.bac_tag.specs.declared.refusals.Refusal.{Refusal}
 use Rattle.bac_tag.specs.declared.refusals.Why.TheVariants.{Short}
@@ -16,6 +19,16 @@ use Rattle.bac_service.specs.Leads.{Lead, BeginsIn}
 -- one head, which has no value
 abbrev pub Head : TagHead → Unit {0} → List ℕ → Type 0
 Head head u b = Heads head b
+
+-- the head at an edge of a group: the opening tag if it opens, and otherwise the closing one
+abbrev pub edge : Bool → ℕ → TagHead
+edge true number = Open number
+edge false number = Close number
+
+-- the heads that are expected there
+abbrev pub expected_edge : Bool → ℕ → Expected
+expected_edge true number = expected.Open (Some number)
+expected_edge false number = expected.Close (Some number)
 
 -- an optional part: no octets where it is absent
 abbrev pub Optional : {V : Type 0} → (V → List ℕ → Type 0) → Option V → List ℕ → Type 0

@@ -48,7 +48,8 @@
 //! adds to a shorter one. Of two joined parts no opener of the second may be a continuer of the first; in a choice no
 //! opener of one part may be an opener of the other; in a list no opener of its structs may be one of their continuers;
 //! in a group the closing tag may be no continuer of what it encloses; and what is optional, listed or chosen may not
-//! be empty.
+//! be empty. What breaks one of these is listed in `collisions`, which a call of `decode` requires to be empty: if it
+//! is not, the open goal shows it.
 //!
 //! Joining keeps the order of lists, so the whole is the least spelling if each part is. A part that runs out of memory
 //! leaves what was there before (`kept`), so that [`append_service`] can cut off the rest.
@@ -56,13 +57,13 @@
 //! Where it is, in `src`, and after the semicolon in `specs`:
 //!
 //! - what spells a part, and what its reader reports: `production.rt`; `Productions.antt`, `Leads.antt`,
-//!   `ReadFaults.antt`
+//!   `Collisions.antt`, `ReadFaults.antt`
 //! - fields by the types of their contents: `production/field.rt`; `Fields.antt`, `Contents.antt`
 //! - each struct of a production: a file in `services`, that of a list beside its element; a file by its name, and none
 //!   for a service that is one list
-//! - kinds, choices, and which have a production: `kind.rt`; `ServiceTable.antt`
-//! - services: `service.rt`, `services/opaque.rt`, `services/service_error.rt`; `ServiceValues.antt`, `Services.antt`,
-//!   `Opaques.antt`, `ErrorValues.antt`
+//! - which kinds and choices have a production: `kind.rt`, `service.rt`; `ServiceTable.antt`
+//! - services: `service.rt`, which has each match over all of them, `services/opaque.rt`,
+//!   `services/service_error.rt`; `ServiceValues.antt`, `Services.antt`, `Opaques.antt`, `ErrorValues.antt`
 //! - decoding and encoding: `service_decoding.rt`, `service_encoding.rt`, `named.rt`, `production/decoding.rt`;
 //!   `Decoded.antt`
 #![tactic(auto)]

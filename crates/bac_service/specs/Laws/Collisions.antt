@@ -2,7 +2,7 @@
 use Rattle.std.specs.Prelude.{◌≡◌, Bool, true, false, cond, not, ◌&&◌, List, [], ◌∷◌, ◌++◌, IsTrue}
 use Rattle.std.proofs.Common.{refl}
 use Rattle.bac_service.specs.Leads.{Lead, has, disjoint}
-use Rattle.bac_service.specs.Collisions.{Collision, begins_again, may_be_nothing, common, unless, of_list}
+use Rattle.bac_service.specs.Collisions.{Collision, begins_again, may_be_nothing, plain, common, unless, of_list}
 
 front_none : (xs ys : List Collision) → xs ++ ys ≡ [] → xs ≡ []
 front_none [] ys e = refl
@@ -20,7 +20,7 @@ pub common_none : (why : Lead → Collision) (leads others : List Lead) → comm
 common_none why [] others e = refl
 common_none why (t ∷ leads) others e = by (has others t) (common_none why leads others) e
   where
-    by : (test : Bool) → (common why leads others ≡ [] → IsTrue (disjoint leads others)) → cond test (why t ∷ common why leads others) (common why leads others) ≡ [] → IsTrue (not test && disjoint leads others)
+    by : (test : Bool) → (common why leads others ≡ [] → IsTrue (disjoint leads others)) → cond test (why (plain t) ∷ common why leads others) (common why leads others) ≡ [] → IsTrue (not test && disjoint leads others)
     by true rest e = absurd (cc e)
     by false rest e = rest e
 

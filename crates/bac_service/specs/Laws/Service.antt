@@ -1,17 +1,12 @@
 -- Which services a kind and a choice have, and that no list spells two of them.
-use Rattle.std.specs.Prelude.{◌≡◌, ◌↔◌, ℕ, ◌<◌, Bool, true, false, cond, ◌||◌, IsTrue, IsNone, nat_eq, Option, None, Some, List, [], ◌∷◌, ◌++◌, refl}
-use Rattle.std.specs.List.{list_any}
-use Rattle.std.specs.Map.{keys_of, lookup}
-use Rattle.std.specs.Option.{is_some}
+use Rattle.std.specs.Prelude.{◌≡◌, ◌↔◌, ℕ, ◌<◌, Bool, true, false, IsTrue, IsNone, Option, None, Some, List, [], ◌++◌, refl}
 use Rattle.std.proofs.Common.{length, get_or, sym, ◌∙◌, ap, subst, lit<}
 use Rattle.std.proofs.lemmas.List.Elements.{recursion_from_All, All-from_get_or}
-use Rattle.std.proofs.lemmas.Map.Made.{is_some-lookup}
 use Rattle.bac_tag.specs.Octets.{IsOctets}
 use Rattle.bac_tag.specs.Laws.Octets.{NoGreater-same}
 use Rattle.bac_tag.specs.Spelling.{IsLeast, AppendsLeast}
 use Rattle.bac_service.specs.declared.kind.Kind.{Kind}
-use Rattle.bac_service.specs.declared.kind.Kind.TheVariants.{Error}
-use Rattle.bac_service.specs.ServiceTable.{ServiceProduction, write_property_multiple_error, cov_notification, service_error, production_of, is_small}
+use Rattle.bac_service.specs.ServiceTable.{ServiceProduction, cov_notification, production_of, is_small}
 use Rattle.bac_service.specs.ServiceValues.{SaidBy, Said, ServiceValue, typed, opaque, notification_kind, notification_choice}
 use Rattle.bac_service.specs.Services.{SpellsBy, SpellsSaid, SpellsService, IsPlaced, IsServiceOf}
 use Rattle.bac_service.specs.Laws.Least.{least_alike}
@@ -19,27 +14,9 @@ use Rattle.bac_service.specs.Productions.{HasLeast}
 
 -- ---- the rows
 
--- the choices of the table are those that have a row
-pub some_row : (choice : ℕ) (rows : List (ℕ × ServiceProduction)) → list_any (λ c. nat_eq c choice) (keys_of rows) ≡ is_some (lookup (λ c. nat_eq c choice) rows)
-some_row choice rows = sym (is_some-lookup (λ c. nat_eq c choice) rows)
-
 pub no_row : (p : Option ServiceProduction) → IsNone p → None ≡ p
 no_row None e = refl
 no_row (Some p) e = cc
-
--- the choices whose errors are a class and a code, by the test of each row
-cause_tests : (a b c d e f : Bool)
-    → ((a || (b || (c || (d || (e || false))))) ≡ true) ↔ (cond a (Some service_error) (cond b (Some service_error) (cond c (Some service_error) (cond d (Some service_error) (cond e (Some service_error) (cond f (Some write_property_multiple_error) None))))) ≡ Some service_error)
-cause_tests true b c d e f = (λ h. refl, λ h. refl)
-cause_tests false true c d e f = (λ h. refl, λ h. refl)
-cause_tests false false true d e f = (λ h. refl, λ h. refl)
-cause_tests false false false true e f = (λ h. refl, λ h. refl)
-cause_tests false false false false true f = (λ h. refl, λ h. refl)
-cause_tests false false false false false true = (λ h. cc, λ h. cc)
-cause_tests false false false false false false = (λ h. cc, λ h. cc)
-
-pub cause_choices : (choice : ℕ) → (list_any (λ c. nat_eq c choice) (1 ∷ 5 ∷ 12 ∷ 14 ∷ 15 ∷ []) ≡ true) ↔ (production_of true Error choice ≡ Some service_error)
-cause_choices choice = cause_tests (nat_eq 1 choice) (nat_eq 5 choice) (nat_eq 12 choice) (nat_eq 14 choice) (nat_eq 15 choice) (nat_eq 16 choice)
 
 -- ---- what a kind and a choice name
 

@@ -1,5 +1,5 @@
 -- Opening and closing tags.
-use Rattle.std.specs.Prelude.{◌≡◌, ◌↔◌, ℕ, ◌≤◌, List, length, take, Option, Some, None, IsTrue, nat_le, refl}
+use Rattle.std.specs.Prelude.{◌≡◌, ◌↔◌, ℕ, ◌≤◌, Bool, true, false, List, length, take, Option, Some, None, IsTrue, nat_le, refl}
 use Rattle.std.proofs.Common.{sym, ◌∙◌, subst, arith}
 use Rattle.std.proofs.lemmas.Bool.{leb-true}
 use Rattle.bac_tag.specs.declared.refusals.Refusal.{Refusal}
@@ -15,7 +15,7 @@ use Rattle.bac_tag.specs.Heads.{Heads}
 use Rattle.bac_tag.specs.Short.{BeginsShort}
 use Rattle.bac_tag.specs.Expected.{ExpectedHeads}
 use Rattle.bac_tag.proofs.WritingLemmas.{some_least}
-use Rattle.bac_service.specs.Productions.{IsInhabited, IsLongest, IsReach, Head}
+use Rattle.bac_service.specs.Productions.{IsInhabited, HasLeast, IsLongest, IsReach, Head, edge, expected_edge}
 use Rattle.bac_service.specs.Laws.Longest.{leaf_longest}
 use Rattle.bac_service.specs.Laws.Refusal.{leaf_reach}
 
@@ -43,17 +43,36 @@ closing_is n (AppBool bit) b h = absurd h.fits
 closing_is n (Ctx m len) b h = absurd h.fits
 closing_is n (Open m) b h = absurd h.fits
 
-pub opening_taken : (n : ℕ) (input : List ℕ) (head : TagHead) (taken : ℕ) → Takes (ExpectedHeads (expected.Open (Some n))) input (head, taken) → Takes (Head (Open n)) input (tt, taken)
-opening_taken n input head taken t = record { within = t.within; spelled = opening_is n head (take taken input) t.spelled }
+-- ---- the tag at an edge of a group
 
-pub closing_taken : (n : ℕ) (input : List ℕ) (head : TagHead) (taken : ℕ) → Takes (ExpectedHeads (expected.Close (Some n))) input (head, taken) → Takes (Head (Close n)) input (tt, taken)
-closing_taken n input head taken t = record { within = t.within; spelled = closing_is n head (take taken input) t.spelled }
+pub edge_inhabited : (opens : Bool) (n : ℕ) → IsTrue (nat_le n 254) → IsInhabited (Head (edge opens n))
+edge_inhabited true n h = opening_inhabited n h
+edge_inhabited false n h = closing_inhabited n h
 
-pub opening_refused : (n : ℕ) (input : List ℕ) (r : Refusal) → IsRefusal (ExpectedHeads (expected.Open (Some n))) input r → IsRefusal (Head (Open n)) input r
-opening_refused n input r h = refused_alike (ExpectedHeads (expected.Open (Some n))) (Head (Open n)) input r (λ head b s. (tt, opening_is n head b s)) (λ u b s. (Open n, record { fits = refl; spelled = s })) h
+pub edge_some_least : (opens : Bool) (n : ℕ) → IsTrue (nat_le n 254) → (b : List ℕ) × IsLeast (Heads (edge opens n)) b
+edge_some_least true n h = some_least (Open n) (number_within n h) tt
+edge_some_least false n h = some_least (Close n) (number_within n h) tt
 
-pub closing_refused : (n : ℕ) (input : List ℕ) (r : Refusal) → IsRefusal (ExpectedHeads (expected.Close (Some n))) input r → IsRefusal (Head (Close n)) input r
-closing_refused n input r h = refused_alike (ExpectedHeads (expected.Close (Some n))) (Head (Close n)) input r (λ head b s. (tt, closing_is n head b s)) (λ u b s. (Close n, record { fits = refl; spelled = s })) h
+pub edge_least : (opens : Bool) (n : ℕ) → HasLeast (Head (edge opens n))
+edge_least true n v b p = some_least (Open n) p.valid tt
+edge_least false n v b p = some_least (Close n) p.valid tt
+
+edge_is : (opens : Bool) (n : ℕ) (head : TagHead) (b : List ℕ) → ExpectedHeads (expected_edge opens n) head b → Heads (edge opens n) b
+edge_is true n head b h = opening_is n head b h
+edge_is false n head b h = closing_is n head b h
+
+expects_edge : (opens : Bool) (n : ℕ) (b : List ℕ) → Heads (edge opens n) b → ExpectedHeads (expected_edge opens n) (edge opens n) b
+expects_edge true n b s = record { fits = refl; spelled = s }
+expects_edge false n b s = record { fits = refl; spelled = s }
+
+pub edge_taken : (opens : Bool) (n : ℕ) (input : List ℕ) (head : TagHead) (taken : ℕ) → Takes (ExpectedHeads (expected_edge opens n)) input (head, taken) → Takes (Head (edge opens n)) input (tt, taken)
+edge_taken opens n input head taken t = record { within = t.within; spelled = edge_is opens n head (take taken input) t.spelled }
+
+pub edge_refused : (opens : Bool) (n : ℕ) (input : List ℕ) (r : Refusal) → IsRefusal (ExpectedHeads (expected_edge opens n)) input r → IsRefusal (Head (edge opens n)) input r
+edge_refused opens n input r h =
+    refused_alike (ExpectedHeads (expected_edge opens n)) (Head (edge opens n)) input r (λ head b s. (tt, edge_is opens n head b s)) (λ u b s. (edge opens n, expects_edge opens n b s)) h
+
+-- ---- any tag
 
 pub head_mark : (head : TagHead) (l : List ℕ) (m : Option ℕ) → (b : List ℕ) → IsLeast (Heads head) b → IsMark l b m → HasMark (Heads head) l m
 head_mark head l m b p h = record { least = b; is_least = p; is_mark = h }

@@ -11,7 +11,7 @@ ghost use Rattle.bac_service.specs.Laws.HasLeast.{group_least};
 ghost use Rattle.bac_service.specs.Collisions.{closes_early, no_such_number, common, unless};
 ghost use Rattle.bac_service.specs.Laws.Collisions.{unless_none, common_none, none_of_three};
 
-use crate::production::tag::{Closing, Opening};
+use crate::production::tag::Edge;
 use crate::production::{Front, Production, ReadFault, Spelling};
 use bac_tag::OutOfMemory;
 use std::alloc::Global;
@@ -31,9 +31,9 @@ pub(crate) fn write_group<P: Production, const N: u8>(
     ensures ok { OnOk result (AppendsLeast (Grouped N P.spells (P.view part.now)) out.old.items out.new.items) }
     ensures kept { Extends out.old.items out.new.items }
 {
-    Opening::<N>.write(out)?;
+    Edge::<N, true>.write(out)?;
     part.write(out)?;
-    Closing::<N>.write(out)
+    Edge::<N, false>.write(out)
 }
 
 impl<P: Production, const N: u8> Production for Group<P, N> {
@@ -57,18 +57,18 @@ impl<P: Production, const N: u8> Production for Group<P, N> {
 
     #[inline(always)]
     fn read_spelling(alloc: Global, octets: &[u8], wanted: bool) -> Option<Spelling<Group<P, N>>> {
-        let found = <(Opening<N>, (P, Closing<N>))>::read_spelling(alloc, octets, wanted)?;
+        let found = <(Edge<N, true>, (P, Edge<N, false>))>::read_spelling(alloc, octets, wanted)?;
         let ((_, (part, _)), found) = found.split();
         Some(found.with(Group(part)))
     }
 
     fn canonical_len(alloc: Global, octets: &[u8]) -> Option<usize> {
-        <(Opening<N>, (P, Closing<N>))>::canonical_len(alloc, octets)
+        <(Edge<N, true>, (P, Edge<N, false>))>::canonical_len(alloc, octets)
     }
 
     #[inline(always)]
     fn read(alloc: Global, octets: &[u8]) -> Result<Front<Group<P, N>>, ReadFault> {
-        let front = <(Opening<N>, (P, Closing<N>))>::read(alloc, octets)?;
+        let front = <(Edge<N, true>, (P, Edge<N, false>))>::read(alloc, octets)?;
         let ((_, (part, _)), front) = front.split();
         Ok(front.with(Group(part)))
     }
