@@ -1,6 +1,11 @@
 //! The text of services.
 
-use crate::texts::{HasText, write_short};
+ghost use Rattle.std.specs.Prelude.{◌≡◌, ◌≤◌, ◌+◌, ◌++◌, IfOk, OnErr, length, take};
+ghost use Rattle.bac_tag.specs.Octets.{Extends};
+ghost use Rattle.bac_service.specs.ServiceValues.{value_of};
+ghost use Rattle.bac_text.specs.ServiceText.{service_text};
+
+use crate::texts::{HasShortText, HasText, write_short};
 use bac_service::Service;
 use bac_tag::OutOfMemory;
 
@@ -16,27 +21,60 @@ pub(crate) mod who_is;
 pub(crate) mod write_property;
 pub(crate) mod write_property_multiple;
 
-impl HasText for Service {
-    ghost use Rattle.bac_service.specs.ServiceValues.{value_of};
-    ghost use Rattle.bac_text.specs.ServiceText.{service_text};
+/// Writes the text of what this service says. That the one has the text of the other is all that is to be proved of
+/// each service.
+#[inline(always)]
+fn write_said<T: HasText>(
+    _service: &Service,
+    said: &T,
+    out: &mut Vec<u8>,
+    at: usize,
+) -> Result<usize, OutOfMemory>
+    requires place { at ≤ length out.old.items }
+    requires same { T.text said.now ≡ service_text (value_of _service.now) }
+    ensures text { IfOk result (λ end. take end out.new.items ≡ take at out.old.items ++ service_text (value_of _service.now)) }
+    ensures end { IfOk result (λ end. end ≤ length out.new.items) }
+    ensures err { OnErr result (Extends (take at out.old.items) out.new.items) }
+{
+    said.write_text(out, at)
+}
 
+/// Does what [`write_said`] does, for what has a short text.
+#[inline(always)]
+fn write_short_said<T: HasShortText>(
+    _service: &Service,
+    said: &T,
+    out: &mut Vec<u8>,
+    at: usize,
+) -> Result<usize, OutOfMemory>
+    requires place { at ≤ length out.old.items }
+    requires few { T.most + 10 ≤ 128 }
+    requires same { T.text said.now ≡ service_text (value_of _service.now) }
+    ensures text { IfOk result (λ end. take end out.new.items ≡ take at out.old.items ++ service_text (value_of _service.now)) }
+    ensures end { IfOk result (λ end. end ≤ length out.new.items) }
+    ensures err { OnErr result (Extends (take at out.old.items) out.new.items) }
+{
+    write_short(out, at, said)
+}
+
+impl HasText for Service {
     ghost text = { λ service. service_text (value_of service) };
 
     fn write_text(&self, out: &mut Vec<u8>, at: usize) -> Result<usize, OutOfMemory> {
         match self {
-            Service::ReadProperty(request) => write_short(out, at, request),
-            Service::ReadPropertyAck(ack) => ack.write_text(out, at),
-            Service::WriteProperty(request) => request.write_text(out, at),
-            Service::ReadPropertyMultiple(request) => request.write_text(out, at),
-            Service::ReadPropertyMultipleAck(ack) => ack.write_text(out, at),
-            Service::WritePropertyMultiple(request) => request.write_text(out, at),
-            Service::WhoIs(request) => write_short(out, at, request),
-            Service::IAm(request) => write_short(out, at, request),
-            Service::SubscribeCov(request) => write_short(out, at, request),
-            Service::CovNotification(notification) => notification.write_text(out, at),
-            Service::ServiceError(error) => write_short(out, at, error),
-            Service::WritePropertyMultipleError(error) => write_short(out, at, error),
-            Service::Opaque(service) => service.write_text(out, at),
+            Service::ReadProperty(request) => write_short_said(self, request, out, at),
+            Service::ReadPropertyAck(ack) => write_said(self, ack, out, at),
+            Service::WriteProperty(request) => write_said(self, request, out, at),
+            Service::ReadPropertyMultiple(request) => write_said(self, request, out, at),
+            Service::ReadPropertyMultipleAck(ack) => write_said(self, ack, out, at),
+            Service::WritePropertyMultiple(request) => write_said(self, request, out, at),
+            Service::WhoIs(request) => write_short_said(self, request, out, at),
+            Service::IAm(request) => write_short_said(self, request, out, at),
+            Service::SubscribeCov(request) => write_short_said(self, request, out, at),
+            Service::CovNotification(notification) => write_said(self, notification, out, at),
+            Service::ServiceError(error) => write_short_said(self, error, out, at),
+            Service::WritePropertyMultipleError(error) => write_short_said(self, error, out, at),
+            Service::Opaque(service) => write_said(self, service, out, at),
         }
     }
 }
