@@ -23,7 +23,7 @@ module _ (b : List ℕ) (small : (k : ℕ) → slice_index b k < 256) (h : HasTy
   good = windowless 7 (seg_at (slice_index b 0)) b h refl refl
 
   end : HasEnd b
-  end = (h.0, ap ends_at h.1)
+  end = (h.0, ap (λ (n : ℕ). ends_at n (seg_at (slice_index b 0))) h.1)
 
   pub abort_short : length b < 3 → IsRefused b (record { place = length b; why = Short })
   abort_short lt =

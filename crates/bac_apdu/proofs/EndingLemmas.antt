@@ -9,7 +9,7 @@ use Rattle.bac_tag.specs.Octets.{IsMark, joined_mark}
 use Rattle.bac_tag.specs.Laws.Octets.{NoGreater-same}
 use Rattle.bac_tag.specs.Spelling.{HasMark}
 use Rattle.bac_tag.specs.HeadOctets.{least_head}
-use Rattle.bac_apdu.specs.FirstOctet.{type_at, ends_at, HasEnd, HasGoodWindow}
+use Rattle.bac_apdu.specs.FirstOctet.{type_at, seg_at, ends_at, HasEnd, HasGoodWindow}
 use Rattle.bac_apdu.specs.Apdus.{ApduValue, head_of, SpellsBody, SpellsApdu}
 use Rattle.bac_apdu.specs.Decoded.{IsRefused, IsEnded}
 use Rattle.bac_tag.proofs.HeadOctetLemmas.{length-least, headed_body, headed_mark}
@@ -19,7 +19,7 @@ use Rattle.bac_apdu.proofs.TypeLemmas.{told, nothing_spells}
 use Rattle.bac_apdu.proofs.ReasonLemmas.{reasoned}
 
 -- nothing stands behind the head of a value that shares it
-nothing_follows : (v x : ApduValue) (o : ℕ) (front b : List ℕ) → length (o ∷ front) ≡ length (head_of v) → ends_at (type_at o) ≡ true → SpellsApdu v (o ∷ front) → SpellsApdu x (o ∷ front ++ b) → b ≡ []
+nothing_follows : (v x : ApduValue) (o : ℕ) (front b : List ℕ) → length (o ∷ front) ≡ length (head_of v) → ends_at (type_at o) (seg_at o) ≡ true → SpellsApdu v (o ∷ front) → SpellsApdu x (o ∷ front ++ b) → b ≡ []
 nothing_follows v x o front b long ends p q =
     let t = told v o front p in
     let u = told x o (front ++ b) q in

@@ -1,5 +1,5 @@
 -- The reasons for which octets are no APDU.
-use Rattle.std.specs.Prelude.{◌≡◌, ℕ, suc, ◌/◌, ◌%◌, ◌^◌, ◌<◌, ◌≤◌, nat_eq, cond, Bool, true, false, Option, Some, None, List, [], ◌∷◌, length, slice_index, refl}
+use Rattle.std.specs.Prelude.{◌≡◌, ℕ, suc, ◌/◌, ◌%◌, ◌^◌, ◌<◌, ◌≤◌, ◌&&◌, nat_eq, cond, Bool, true, false, Option, Some, None, List, [], ◌∷◌, length, slice_index, refl}
 use Rattle.std.proofs.Common.{inl, inr, sym, ◌∙◌, ap, subst, arith}
 use Rattle.std.proofs.lemmas.Nat.Bits.{bit_at-lt}
 use Rattle.bac_tag.specs.declared.refusals.Refusal.{Refusal}
@@ -9,7 +9,7 @@ use Rattle.bac_tag.specs.Spelling.{IsViable}
 use Rattle.bac_data.specs.Refusals.{IsItemReason}
 use Rattle.bac_service.specs.Reasons.{IsServiceReason}
 use Rattle.bac_tag.specs.HeadOctets.{bit_of, IsWindow}
-use Rattle.bac_apdu.specs.FirstOctet.{type_at, seg_at, head_size, window_place, HasType, HasSeg, HasGoodWindow}
+use Rattle.bac_apdu.specs.FirstOctet.{HeadRow, rows, row_among, has_seg, window_of, type_at, seg_at, head_size, window_place, HasType, HasSeg, HasGoodWindow}
 use Rattle.bac_apdu.specs.Apdus.{reject, SpellsApdu}
 use Rattle.bac_apdu.specs.Decoded.{small_of, begins_small, IsReasoned, IsRefused}
 use Rattle.bac_tag.proofs.BehindLemmas.{whole_short, whole_hopeless}
@@ -101,16 +101,26 @@ not_zero : (n : ℕ) → Some (suc n) ≡ Some 0 → ⊥
 not_zero n e = let i : suc n ≡ 0 = (let j : Some (suc n) ≡ Some 0 = e in cc) in omega (arith, i)
 
 -- a window is never the first octet
-first_is_none : (a b c g : Bool) → cond {A = Option ℕ} a (cond {A = Option ℕ} g None (Some 4)) (cond {A = Option ℕ} b (cond {A = Option ℕ} g None (Some 3)) (cond {A = Option ℕ} c (Some 3) None)) ≡ Some 0 → ⊥
-first_is_none true b c true e = not_none None 0 refl e
-first_is_none true b c false e = not_zero 3 e
-first_is_none false true c true e = not_none None 0 refl e
-first_is_none false true c false e = not_zero 2 e
-first_is_none false false true g e = not_zero 2 e
-first_is_none false false false g e = not_none None 0 refl e
+abbrev pub NotFirst : HeadRow → Type 0
+NotFirst r = r.window ≡ Some 0 → ⊥
+
+abbrev pub NoneFirst : List HeadRow → Type 0
+NoneFirst [] = Unit {0}
+NoneFirst (r ∷ heads) = NotFirst r × NoneFirst heads
+
+first_of : (is_it : Bool) (r : HeadRow) (others : Option HeadRow) → NotFirst r → (window_of others ≡ Some 0 → ⊥) → window_of (cond is_it (Some r) others) ≡ Some 0 → ⊥
+first_of true r others not_it none e = not_it e
+first_of false r others not_it none e = none e
+
+none_first : (heads : List HeadRow) → NoneFirst heads → (t g : ℕ) → window_of (row_among heads t g) ≡ Some 0 → ⊥
+none_first [] n t g e = not_none None 0 refl e
+none_first (r ∷ heads) n t g e = first_of (nat_eq r.type t && has_seg r.seg g) r (row_among heads t g) n.0 (none_first heads n.1 t g) e
+
+no_window : None ≡ Some 0 → ⊥
+no_window e = not_none None 0 refl e
 
 no_window_first : (t g : ℕ) → window_place t g ≡ Some 0 → ⊥
-no_window_first t g e = first_is_none (nat_eq t 0) (nat_eq t 3) (nat_eq t 4) (nat_eq g 0) e
+no_window_first = none_first rows (no_window, not_zero 3, no_window, no_window, no_window, not_zero 2, not_zero 2, no_window, no_window, no_window, tt)
 
 pub type_refused : (b : List ℕ) → 1 ≤ length b → 8 ≤ type_at (slice_index b 0) → IsRefused b (record { place = 0; why = PduType })
 type_refused [] le high = absurd (omega arith)

@@ -32,7 +32,7 @@ module _ (b : List ℕ) (small : (k : ℕ) → slice_index b k < 256) (h : HasTy
       subst IsWindow (sym s.1.1.1.0.0) s.1.1.1.0.1
 
   end : HasEnd b
-  end = (h.0, ap ends_at h.1)
+  end = (h.0, ap (λ (n : ℕ). ends_at n (seg_at (slice_index b 0))) h.1)
 
   good : (3 < length b → IsWindow (slice_index b 3)) → HasGoodWindow b
   good w = windowed 4 (seg_at (slice_index b 0)) 3 b h refl refl w

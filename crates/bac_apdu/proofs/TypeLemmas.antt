@@ -24,7 +24,7 @@ pub record IsTold (type seg : ℕ) (x : ApduValue) : Type 0 where
   pub low : type < 8
   pub sized : length (head_of x) ≡ head_size type seg
   pub named : IsNamed type seg x
-  pub ends : ends_at type ≡ true → (b : List ℕ) → SpellsBody x b → b ≡ []
+  pub ends : ends_at type seg ≡ true → (b : List ℕ) → SpellsBody x b → b ≡ []
 
 told_by_type : (x : ApduValue) (t u g : ℕ) → t ≡ u → IsTold u g x → IsTold t g x
 told_by_type x t u g e h = subst (λ (n : ℕ). IsTold n g x) (sym e) h

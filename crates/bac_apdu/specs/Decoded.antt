@@ -1,5 +1,5 @@
 -- What decoding an APDU gives.
-use Rattle.std.specs.Prelude.{◌≡◌, ◌≢◌, ◌↔◌, ◌⊎◌, ℕ, ◌<◌, Bool, true, false, cond, nat_eq, Option, List, length, take, drop, slice_index, Result, Ok, Err}
+use Rattle.std.specs.Prelude.{◌≡◌, ◌≢◌, ◌↔◌, ◌⊎◌, ℕ, ◌<◌, Bool, true, false, Option, Some, None, List, length, take, drop, slice_index, Result, Ok, Err}
 use Rattle.bac_tag.specs.declared.refusals.Refusal.{Refusal}
 use Rattle.bac_tag.specs.declared.refusals.Why.{Why}
 use Rattle.bac_tag.specs.declared.refusals.Why.TheVariants.{Trailing, PduType, Window, OutOfMemory}
@@ -13,7 +13,7 @@ use Rattle.bac_service.specs.Reasons.{IsServiceReason}
 use Rattle.bac_service.specs.ServiceTable.{is_small as is_small_service}
 use Rattle.bac_service.specs.ServiceValues.{ServiceValue, value_of as service_of}
 use Rattle.bac_service.specs.Services.{SpellsService}
-use Rattle.bac_apdu.specs.FirstOctet.{type_at, seg_at, IsTypePlace, IsWindowPlace}
+use Rattle.bac_apdu.specs.FirstOctet.{Behind, service, piece, nothing, HeadRow, row_of, type_at, seg_at, IsTypePlace, IsWindowPlace}
 use Rattle.bac_apdu.specs.Apdus.{ApduValue, confirmed_request, unconfirmed_request, simple_ack, complex_ack, segment_ack, error, reject, abort, segment, SpellsApdu}
 
 -- a small APDU: one that ends behind its head, or that carries a small service
@@ -28,13 +28,20 @@ is_small (reject invoke reason) = true
 is_small (abort invoke srv reason) = true
 is_small (segment head seq size more choice piece) = false
 
--- the same by the octets of a head, of a type and with this SEG
+-- the same by what stands behind a head that begins with these octets
+abbrev pub small_behind : Behind → List ℕ → Bool
+small_behind (service kind place) octets = is_small_service kind (slice_index octets place)
+small_behind piece octets = false
+small_behind nothing octets = true
+
+-- octets that begin no head are refused at once
+abbrev pub small_by : Option HeadRow → List ℕ → Bool
+small_by None octets = true
+small_by (Some r) octets = small_behind r.behind octets
+
+-- the same by the octets of a head, of a type and with this bit 3
 abbrev pub small_of : ℕ → ℕ → List ℕ → Bool
-small_of type seg octets =
-    cond (nat_eq type 0) (cond (nat_eq seg 0) (is_small_service Confirmed (slice_index octets 3)) false)
-    (cond (nat_eq type 1) (is_small_service Unconfirmed (slice_index octets 1))
-    (cond (nat_eq type 3) (cond (nat_eq seg 0) (is_small_service ComplexAck (slice_index octets 2)) false)
-    (cond (nat_eq type 5) (is_small_service Error (slice_index octets 2)) true)))
+small_of type bit octets = small_by (row_of type bit) octets
 
 abbrev pub begins_small : List ℕ → Bool
 begins_small octets = small_of (type_at (slice_index octets 0)) (seg_at (slice_index octets 0)) octets
