@@ -6,8 +6,7 @@ use Rattle.bac_tag.specs.Octets.{IsOctets}
 use Rattle.bac_tag.specs.Laws.Octets.{NoGreater-same, octets_front, octets_back}
 use Rattle.bac_tag.specs.Spelling.{AppendsLeast}
 use Rattle.bac_service.specs.declared.kind.Kind.{Kind}
-use Rattle.bac_service.specs.ServiceValues.{ServiceValue}
-use Rattle.bac_service.specs.Services.{SpellsService}
+use Rattle.bac_service.specs.Services.{ServiceValue, SpellsService}
 use Rattle.bac_service.specs.Laws.Service.{octets_held}
 use Rattle.bac_tag.specs.HeadOctets.{least_head, AreParts}
 use Rattle.bac_apdu.specs.Apdus.{ApduValue, head_of, SpellsServiceOf, SpellsBody, SpellsApdu}

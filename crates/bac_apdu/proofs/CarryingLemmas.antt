@@ -9,8 +9,7 @@ use Rattle.bac_tag.specs.Laws.Spelling.{unmarked_least}
 use Rattle.bac_tag.specs.Spelling.{HasMark, IsWholeRefusal, IsCanonical}
 use Rattle.bac_service.specs.declared.kind.Kind.{Kind}
 use Rattle.bac_service.specs.ServiceTable.{production_of, is_small as is_small_service}
-use Rattle.bac_service.specs.ServiceValues.{ServiceValue, opaque}
-use Rattle.bac_service.specs.Services.{SpellsService}
+use Rattle.bac_service.specs.Services.{ServiceValue, opaque, SpellsService}
 use Rattle.bac_tag.specs.HeadOctets.{least_head}
 use Rattle.bac_apdu.specs.FirstOctet.{HasType, HasSeg, HasGoodWindow}
 use Rattle.bac_apdu.specs.Apdus.{ApduValue, head_of, SpellsServiceOf, SpellsBody, SpellsApdu}

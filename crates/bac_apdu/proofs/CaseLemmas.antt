@@ -8,8 +8,7 @@ use Rattle.bac_tag.proofs.BehindLemmas.{viable_as}
 use Rattle.bac_tag.proofs.HeadOctetLemmas.{parts_are}
 use Rattle.bac_service.specs.declared.kind.Kind.{Kind}
 use Rattle.bac_service.specs.declared.kind.Kind.TheVariants.{Confirmed, Unconfirmed, ComplexAck, Error}
-use Rattle.bac_service.specs.ServiceValues.{ServiceValue}
-use Rattle.bac_service.specs.Services.{SpellsService}
+use Rattle.bac_service.specs.Services.{ServiceValue, SpellsService}
 use Rattle.bac_apdu.specs.declared.segment.SegHead.TheVariants.{Request, Ack}
 use Rattle.bac_apdu.specs.ConfirmedRequest.{confirmed_request_head}
 use Rattle.bac_apdu.specs.UnconfirmedRequest.{unconfirmed_request_head}

@@ -5,8 +5,7 @@ use Rattle.bac_tag.specs.declared.refusals.Refusal.{Refusal}
 use Rattle.bac_tag.specs.declared.refusals.Why.TheVariants.{Short}
 use Rattle.bac_tag.specs.Spelling.{IsViable, HasMark}
 use Rattle.bac_service.specs.declared.kind.Kind.TheVariants.{Confirmed}
-use Rattle.bac_service.specs.ServiceValues.{ServiceValue, opaque}
-use Rattle.bac_service.specs.Services.{SpellsService}
+use Rattle.bac_service.specs.Services.{ServiceValue, opaque, SpellsService}
 use Rattle.bac_apdu.specs.declared.confirmed_request.RequestHead.{RequestHead}
 use Rattle.bac_tag.specs.HeadOctets.{typed, bit_of, least_part, least_head}
 use Rattle.bac_apdu.specs.ConfirmedRequest.{confirmed_request_head}

@@ -5,8 +5,7 @@ use Rattle.bac_tag.specs.declared.refusals.Refusal.{Refusal}
 use Rattle.bac_tag.specs.declared.refusals.Why.TheVariants.{Short}
 use Rattle.bac_tag.specs.Spelling.{IsViable, HasMark}
 use Rattle.bac_service.specs.declared.kind.Kind.TheVariants.{Error}
-use Rattle.bac_service.specs.ServiceValues.{ServiceValue, opaque}
-use Rattle.bac_service.specs.Services.{SpellsService}
+use Rattle.bac_service.specs.Services.{ServiceValue, opaque, SpellsService}
 use Rattle.bac_apdu.specs.FirstOctet.{seg_at, HasType, HasGoodWindow}
 use Rattle.bac_apdu.specs.Apdus.{ApduValue, error, SpellsApdu}
 use Rattle.bac_apdu.specs.Decoded.{IsRefused, IsServiceBehind, IsRefusedBehind}

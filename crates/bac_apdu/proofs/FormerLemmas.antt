@@ -4,8 +4,7 @@ use Rattle.bac_tag.specs.HeadOctets.{Part, Headed}
 use Rattle.bac_service.specs.declared.kind.Kind.{Kind}
 use Rattle.bac_service.specs.declared.kind.Kind.TheVariants.{Confirmed, Unconfirmed, ComplexAck, Error}
 use Rattle.bac_service.specs.ServiceTable.{IsUnchanged}
-use Rattle.bac_service.specs.ServiceValues.{ServiceValue}
-use Rattle.bac_service.specs.Services.{SpellsService}
+use Rattle.bac_service.specs.Services.{ServiceValue, SpellsService}
 use Rattle.bac_apdu.specs.Apdus.{ApduValue, confirmed_request, unconfirmed_request, simple_ack, complex_ack, segment_ack, error, reject, abort, segment, head_of, SpellsBody, SpellsApdu}
 use Rattle.bac_apdu.specs.FormerApdus.{SpellsFormerBody, SpellsFormerApdu, IsKept}
 

@@ -8,8 +8,7 @@ use Rattle.bac_tag.specs.Laws.Spelling.{IsLeast-one}
 use Rattle.bac_service.specs.declared.kind.Kind.{Kind}
 use Rattle.bac_service.specs.declared.kind.Kind.TheVariants.{Confirmed, Unconfirmed, ComplexAck, Error}
 use Rattle.bac_service.specs.ServiceTable.{is_small as is_small_service}
-use Rattle.bac_service.specs.ServiceValues.{ServiceValue}
-use Rattle.bac_service.specs.Services.{SpellsService}
+use Rattle.bac_service.specs.Services.{ServiceValue, SpellsService}
 use Rattle.bac_apdu.specs.declared.segment.SegHead.{SegHead}
 use Rattle.bac_apdu.specs.declared.segment.SegHead.TheVariants.{Request, Ack}
 use Rattle.bac_tag.specs.HeadOctets.{least_head}

@@ -3,8 +3,7 @@ use Rattle.std.specs.Prelude.{◌≡◌, ℕ, Bool, true, List, [], ◌∷◌, l
 use Rattle.std.proofs.Common.{sym, ◌∙◌, ap, subst, arith}
 use Rattle.bac_service.specs.declared.kind.Kind.{Kind}
 use Rattle.bac_service.specs.declared.kind.Kind.TheVariants.{Confirmed, Unconfirmed, ComplexAck, Error}
-use Rattle.bac_service.specs.ServiceValues.{ServiceValue}
-use Rattle.bac_service.specs.Services.{SpellsService}
+use Rattle.bac_service.specs.Services.{ServiceValue, SpellsService}
 use Rattle.bac_apdu.specs.declared.confirmed_request.RequestHead.{RequestHead}
 use Rattle.bac_apdu.specs.declared.segment.SegHead.TheVariants.{Request, Ack}
 use Rattle.bac_tag.specs.HeadOctets.{Part, SpellsPart, Headed}

@@ -10,7 +10,7 @@ use Rattle.bac_service.specs.declared.kind.Kind.{Kind}
 use Rattle.bac_service.specs.declared.kind.Kind.TheVariants as kind
 use Rattle.bac_service.specs.declared.service.Service.{Service}
 use Rattle.bac_service.specs.contracts.service.ServicePartialEq.TheImpl as of_service
-use Rattle.bac_service.specs.ServiceValues.{ServiceValue, value_of as service_of}
+use Rattle.bac_service.specs.Services.{ServiceValue, value_of as service_of}
 use Rattle.bac_service.proofs.SameLemmas.{Decided, by_parts, both, pairs, service_is, services_tell}
 use Rattle.bac_apdu.specs.declared.confirmed_request.RequestHead.{RequestHead}
 use Rattle.bac_apdu.specs.declared.segment.SegHead.{SegHead}

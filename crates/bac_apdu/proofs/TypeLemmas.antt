@@ -1,7 +1,7 @@
 -- What the first octet tells of an APDU.
 use Rattle.std.specs.Prelude.{◌≡◌, ℕ, ◌<◌, cond, nat_eq, Bool, true, false, List, [], ◌∷◌, length, refl}
 use Rattle.std.proofs.Common.{sym, ◌∙◌, ap, subst, arith}
-use Rattle.bac_service.specs.ServiceValues.{ServiceValue}
+use Rattle.bac_service.specs.Services.{ServiceValue}
 use Rattle.bac_apdu.specs.declared.confirmed_request.RequestHead.{RequestHead}
 use Rattle.bac_apdu.specs.declared.segment.SegHead.TheVariants.{Request, Ack}
 use Rattle.bac_apdu.specs.FirstOctet.{type_at, seg_at, head_size, ends_at}

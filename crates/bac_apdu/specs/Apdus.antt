@@ -3,8 +3,7 @@ use Rattle.std.specs.Prelude.{◌≡◌, ℕ, Bool, true, List, []}
 use Rattle.bac_tag.specs.Octets.{IsOctets}
 use Rattle.bac_service.specs.declared.kind.Kind.{Kind}
 use Rattle.bac_service.specs.declared.kind.Kind.TheVariants as kind
-use Rattle.bac_service.specs.ServiceValues.{ServiceValue, value_of as service_of}
-use Rattle.bac_service.specs.Services.{SpellsService}
+use Rattle.bac_service.specs.Services.{ServiceValue, value_of as service_of, SpellsService}
 use Rattle.bac_apdu.specs.declared.confirmed_request.RequestHead.{RequestHead}
 use Rattle.bac_apdu.specs.declared.segment.SegHead.{SegHead}
 use Rattle.bac_apdu.specs.declared.apdu.Apdu.{Apdu}

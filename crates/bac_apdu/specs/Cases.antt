@@ -1,6 +1,6 @@
 -- An APDU by its type, and by its parts (clause 20.1).
 use Rattle.std.specs.Prelude.{◌≡◌, ℕ, Bool, List, []}
-use Rattle.bac_service.specs.ServiceValues.{ServiceValue}
+use Rattle.bac_service.specs.Services.{ServiceValue}
 use Rattle.bac_apdu.specs.declared.confirmed_request.RequestHead.{RequestHead}
 use Rattle.bac_apdu.specs.declared.segment.SegHead.{SegHead}
 use Rattle.bac_tag.specs.HeadOctets.{Headed}

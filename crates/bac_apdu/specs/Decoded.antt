@@ -11,8 +11,7 @@ use Rattle.bac_service.specs.declared.kind.Kind.TheVariants.{Confirmed, Unconfir
 use Rattle.bac_service.specs.declared.service.Service.{Service}
 use Rattle.bac_service.specs.Reasons.{IsServiceReason}
 use Rattle.bac_service.specs.ServiceTable.{is_small as is_small_service}
-use Rattle.bac_service.specs.ServiceValues.{ServiceValue, value_of as service_of}
-use Rattle.bac_service.specs.Services.{SpellsService}
+use Rattle.bac_service.specs.Services.{ServiceValue, value_of as service_of, SpellsService}
 use Rattle.bac_apdu.specs.FirstOctet.{Behind, service, piece, nothing, HeadRow, row_of, type_at, seg_at, IsTypePlace, IsWindowPlace}
 use Rattle.bac_apdu.specs.Apdus.{ApduValue, confirmed_request, unconfirmed_request, simple_ack, complex_ack, segment_ack, error, reject, abort, segment, SpellsApdu}
 

@@ -3,7 +3,7 @@
 ghost use Rattle.std.specs.Prelude.{◌≡◌, ◌↔◌, IsTrue, IsOk, IfOk, IfErr, OnOk, OnErr};
 ghost use Rattle.bac_tag.specs.Spelling.{AppendsLeast, IsCanonical};
 ghost use Rattle.bac_service.specs.declared.kind.Kind.TheVariants.{ComplexAck as of_complex_ack};
-ghost use Rattle.bac_service.specs.ServiceValues.{value_of as service_of};
+ghost use Rattle.bac_service.specs.Services.{value_of as service_of};
 ghost use Rattle.bac_apdu.specs.FirstOctet.{HasType, HasSeg};
 ghost use Rattle.bac_apdu.specs.Apdus.{complex_ack, SpellsApdu};
 ghost use Rattle.bac_apdu.specs.Decoded.{IsVisited};
@@ -40,7 +40,7 @@ impl Drop for ComplexAck {
 impl Model for ComplexAck {
     ghost use Rattle.std.specs.Prelude.{◌≡◌};
     ghost use Rattle.bac_service.specs.declared.kind.Kind.TheVariants.{ComplexAck as of_complex_ack};
-    ghost use Rattle.bac_service.specs.ServiceValues.{value_of as service_of};
+    ghost use Rattle.bac_service.specs.Services.{value_of as service_of};
     ghost use Rattle.bac_apdu.specs.Carriers.{AnswerCarrier, answer_code};
 
     ghost Value = { AnswerCarrier };

@@ -4,7 +4,7 @@ ghost use Rattle.std.specs.Prelude.{◌≡◌, ◌↔◌, ◌/◌, ◌%◌, ◌^
 ghost use Rattle.bac_tag.specs.HeadOctets.{bit_of, least_head};
 ghost use Rattle.bac_tag.specs.Spelling.{AppendsLeast, IsCanonical};
 ghost use Rattle.bac_service.specs.declared.kind.Kind.TheVariants.{Confirmed};
-ghost use Rattle.bac_service.specs.ServiceValues.{value_of as service_of};
+ghost use Rattle.bac_service.specs.Services.{value_of as service_of};
 ghost use Rattle.bac_apdu.specs.ConfirmedRequest.{confirmed_request_head};
 ghost use Rattle.bac_apdu.specs.FirstOctet.{HasType, HasSeg};
 ghost use Rattle.bac_apdu.specs.Apdus.{confirmed_request, SpellsApdu};
@@ -59,7 +59,7 @@ impl Drop for ConfirmedRequest {
 impl Model for ConfirmedRequest {
     ghost use Rattle.std.specs.Prelude.{◌≡◌};
     ghost use Rattle.bac_service.specs.declared.kind.Kind.TheVariants.{Confirmed};
-    ghost use Rattle.bac_service.specs.ServiceValues.{value_of as service_of};
+    ghost use Rattle.bac_service.specs.Services.{value_of as service_of};
     ghost use Rattle.bac_apdu.specs.Carriers.{RequestCarrier, request_code};
 
     ghost Value = { RequestCarrier };

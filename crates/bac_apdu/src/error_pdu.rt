@@ -3,7 +3,7 @@
 ghost use Rattle.std.specs.Prelude.{◌≡◌, ◌↔◌, IsOk, IfOk, IfErr, OnOk, OnErr};
 ghost use Rattle.bac_tag.specs.Spelling.{AppendsLeast};
 ghost use Rattle.bac_service.specs.declared.kind.Kind.TheVariants.{Error as of_error};
-ghost use Rattle.bac_service.specs.ServiceValues.{value_of as service_of};
+ghost use Rattle.bac_service.specs.Services.{value_of as service_of};
 ghost use Rattle.bac_apdu.specs.FirstOctet.{HasType};
 ghost use Rattle.bac_apdu.specs.Apdus.{error, SpellsApdu};
 ghost use Rattle.bac_apdu.specs.Decoded.{IsVisited};
@@ -40,7 +40,7 @@ impl Drop for ErrorPdu {
 impl Model for ErrorPdu {
     ghost use Rattle.std.specs.Prelude.{◌≡◌};
     ghost use Rattle.bac_service.specs.declared.kind.Kind.TheVariants.{Error as of_error};
-    ghost use Rattle.bac_service.specs.ServiceValues.{value_of as service_of};
+    ghost use Rattle.bac_service.specs.Services.{value_of as service_of};
     ghost use Rattle.bac_apdu.specs.Carriers.{AnswerCarrier, answer_code};
 
     ghost Value = { AnswerCarrier };

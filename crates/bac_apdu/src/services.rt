@@ -2,8 +2,7 @@
 
 ghost use Rattle.std.specs.Prelude.{◌≡◌, ◌≤◌, ◌++◌, length, true, None, IsTrue, OnOk, OnErr};
 ghost use Rattle.bac_tag.specs.Spelling.{AppendsLeast};
-ghost use Rattle.bac_service.specs.ServiceValues.{ServiceValue, value_of as service_of};
-ghost use Rattle.bac_service.specs.Services.{SpellsService};
+ghost use Rattle.bac_service.specs.Services.{ServiceValue, value_of as service_of, SpellsService};
 ghost use Rattle.bac_apdu.specs.Decoded.{IsBehind, IsServiceBehind};
 
 use bac_service::layers::is_canonical_service;

@@ -3,7 +3,7 @@
 ghost use Rattle.std.specs.Prelude.{◌≡◌, ◌↔◌, IsTrue, IsOk, IfOk, IfErr, OnOk, OnErr};
 ghost use Rattle.bac_tag.specs.Spelling.{AppendsLeast, IsCanonical};
 ghost use Rattle.bac_service.specs.declared.kind.Kind.TheVariants.{Unconfirmed};
-ghost use Rattle.bac_service.specs.ServiceValues.{value_of as service_of};
+ghost use Rattle.bac_service.specs.Services.{value_of as service_of};
 ghost use Rattle.bac_apdu.specs.FirstOctet.{HasType};
 ghost use Rattle.bac_apdu.specs.Apdus.{unconfirmed_request, SpellsApdu};
 ghost use Rattle.bac_apdu.specs.Decoded.{IsVisited};
@@ -38,7 +38,7 @@ impl Model for UnconfirmedRequest {
     ghost use Rattle.bac_service.specs.declared.kind.Kind.TheVariants.{Unconfirmed};
     ghost use Rattle.bac_service.specs.declared.service.Service.{Service as ServiceHeld};
     ghost use Rattle.bac_service.specs.contracts.service.Service.{the_row as service_row};
-    ghost use Rattle.bac_service.specs.ServiceValues.{value_of as service_of};
+    ghost use Rattle.bac_service.specs.Services.{value_of as service_of};
 
     ghost Value = { ServiceHeld };
 

@@ -13,7 +13,7 @@ use Rattle.bac_tag.specs.Spelling.{IsLeast}
 use Rattle.bac_tag.proofs.HeadOctetLemmas.{parts_are, headed_least, headed_rest}
 use Rattle.bac_service.specs.declared.kind.Kind.{Kind}
 use Rattle.bac_service.specs.declared.kind.Kind.TheVariants as kind
-use Rattle.bac_service.specs.ServiceValues.{ServiceValue}
+use Rattle.bac_service.specs.Services.{ServiceValue}
 use Rattle.bac_service.specs.Laws.Least.{least_nothing}
 use Rattle.bac_apdu.specs.declared.confirmed_request.RequestHead.{RequestHead}
 use Rattle.bac_apdu.specs.declared.segment.SegHead.{SegHead}

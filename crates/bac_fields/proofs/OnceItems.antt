@@ -8,7 +8,7 @@ use Rattle.bac_value.specs.declared.types.boolean_value.Boolean.{Boolean as Bool
 use Rattle.bac_value.specs.declared.types.enumeration.Enumerated.{Enumerated}
 use Rattle.bac_service.specs.ErrorCause.{SpellsErrorCause}
 use Rattle.bac_service.specs.Fields.{IsField}
-use Rattle.bac_service.specs.Laws.Parts.{of_number}
+use Rattle.bac_service.specs.Contents.{of_number}
 use Rattle.bac_service.specs.Productions.{Grouped}
 use Rattle.bac_service.specs.PropertyReference.{SpellsPropertyReference}
 use Rattle.bac_service.specs.PropertyResult.{SpellsPropertyResult}

@@ -9,8 +9,7 @@ use Rattle.bac_service.specs.ReadAccessSpecification.{SpellsSpecification}
 use Rattle.bac_service.specs.ReadProperty.{SpellsReadProperty}
 use Rattle.bac_service.specs.ReadPropertyAck.{SpellsReadPropertyAck}
 use Rattle.bac_service.specs.ServiceTable.{ServiceProduction, read_property, read_property_ack, read_property_multiple, read_property_multiple_ack, write_property, write_property_multiple, write_property_multiple_error, who_is, i_am, subscribe_cov, cov_notification, service_error, production_of}
-use Rattle.bac_service.specs.ServiceValues.{Said, ServiceValue}
-use Rattle.bac_service.specs.Services.{SpellsSaid}
+use Rattle.bac_service.specs.Services.{Said, ServiceValue, SpellsSaid}
 use Rattle.bac_service.specs.SubscribeCov.{SpellsSubscribeCov}
 use Rattle.bac_service.specs.WhoIs.{SpellsWhoIs}
 use Rattle.bac_service.specs.WriteAccessSpecification.{SpellsWriteSpecification}
@@ -18,15 +17,14 @@ use Rattle.bac_service.specs.WriteProperty.{SpellsWriteProperty}
 use Rattle.bac_service.specs.WritePropertyMultipleError.{SpellsWriteError}
 use Rattle.bac_service.specs.declared.kind.Kind.{Kind}
 use Rattle.bac_service.specs.declared.kind.Kind.TheVariants as kind
-use Rattle.bac_service.specs.declared.services.error_cause.ErrorCause.{ErrorCause}
+use Rattle.bac_service.specs.declared.service.error_cause.ErrorCause.{ErrorCause}
 use Rattle.bac_apdu.specs.Apdus.{SpellsServiceOf}
 use Rattle.bac_fields.specs.ServiceFields.{said_steps}
 use Rattle.bac_fields.specs.ServiceSymbols.{service_said}
 use Rattle.bac_field_parts.specs.Symbols.{Symbol, named, numbered, containing, finished, steps_said}
 use Rattle.bac_fields.specs.Laws.ErrorMessages.{write_error_said, write_error_message}
 use Rattle.bac_fields.specs.Laws.NotificationMessages.{notification_said, confirmed_message, unconfirmed_message}
-use Rattle.bac_fields.specs.Laws.ServiceMessages.{SpellsChosen, read_property_said, read_property_message, read_property_ack_said, read_property_ack_message, write_property_said, write_property_message, who_is_said, who_is_message, i_am_said, i_am_message, subscribe_cov_said, subscribe_cov_message}
-use Rattle.bac_fields.specs.Laws.ServiceMessages.{read_multiple_said, read_multiple_message, read_multiple_ack_said, read_multiple_ack_message, write_multiple_said, write_multiple_message}
+use Rattle.bac_fields.specs.Laws.ServiceMessages.{SpellsChosen, read_property_said, read_property_message, read_property_ack_said, read_property_ack_message, write_property_said, write_property_message, who_is_said, who_is_message, i_am_said, i_am_message, subscribe_cov_said, subscribe_cov_message, read_multiple_said, read_multiple_message, read_multiple_ack_said, read_multiple_ack_message, write_multiple_said, write_multiple_message}
 use Rattle.bac_fields.proofs.Once.{Telling, and_then, perhaps, each, after, end_tells, by_parts}
 use Rattle.bac_fields.proofs.OnceItems.{word, plain, enumerated, boolean_value, object, value_tells, specification_tells, access_tells, write_specification_tells}
 use Rattle.bac_fields.proofs.OnceValues.{open_tells}

@@ -7,10 +7,9 @@ use Rattle.bac_tag.specs.HeadOctets.{least_head}
 use Rattle.bac_value.specs.Identifier.{Identifier, IsIdentifier}
 use Rattle.bac_service.specs.declared.kind.Kind.{Kind}
 use Rattle.bac_service.specs.declared.kind.Kind.TheVariants as kind
-use Rattle.bac_service.specs.declared.services.write_property_multiple_error.WritePropertyMultipleError.{WritePropertyMultipleError}
+use Rattle.bac_service.specs.declared.service.write_property_multiple_error.WritePropertyMultipleError.{WritePropertyMultipleError}
 use Rattle.bac_service.specs.ServiceTable.{ServiceProduction, write_property_multiple_error, production_of}
-use Rattle.bac_service.specs.ServiceValues.{Said, ServiceValue}
-use Rattle.bac_service.specs.Services.{SpellsBy, SpellsSaid, SpellsService}
+use Rattle.bac_service.specs.Services.{Said, ServiceValue, SpellsBy, SpellsSaid, SpellsService}
 use Rattle.bac_apdu.specs.declared.confirmed_request.RequestHead.{RequestHead}
 use Rattle.bac_apdu.specs.declared.segment.SegHead.{SegHead}
 use Rattle.bac_apdu.specs.declared.segment.SegHead.TheVariants.{Request, Ack}

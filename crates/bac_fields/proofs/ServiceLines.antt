@@ -11,19 +11,19 @@ use Rattle.bac_data.specs.Spells.{SpellsOpen}
 use Rattle.bac_data.proofs.ValueLemmas.{open_value_only}
 use Rattle.bac_service.specs.declared.kind.Kind.{Kind}
 use Rattle.bac_service.specs.declared.kind.Kind.TheVariants as kind
-use Rattle.bac_service.specs.declared.services.error_cause.ErrorCause.{ErrorCause}
-use Rattle.bac_service.specs.declared.services.property_reference.PropertyReference.{PropertyReference}
-use Rattle.bac_service.specs.declared.services.property_value.PropertyValue.{PropertyValue}
-use Rattle.bac_service.specs.declared.services.property_result.ReadResult.{ReadResult}
-use Rattle.bac_service.specs.declared.services.property_result.ReadResult.TheVariants.{Value, Error}
-use Rattle.bac_service.specs.declared.services.property_result.PropertyResult.{PropertyResult}
-use Rattle.bac_service.specs.declared.services.read_property.ReadProperty.{ReadProperty}
-use Rattle.bac_service.specs.declared.services.read_property_ack.ReadPropertyAck.{ReadPropertyAck}
-use Rattle.bac_service.specs.declared.services.write_property.WriteProperty.{WriteProperty}
-use Rattle.bac_service.specs.declared.services.write_property_multiple_error.WritePropertyMultipleError.{WritePropertyMultipleError}
-use Rattle.bac_service.specs.declared.services.who_is.WhoIs.{WhoIs}
-use Rattle.bac_service.specs.declared.services.i_am.IAm.{IAm}
-use Rattle.bac_service.specs.declared.services.subscribe_cov.SubscribeCov.{SubscribeCov}
+use Rattle.bac_service.specs.declared.service.error_cause.ErrorCause.{ErrorCause}
+use Rattle.bac_service.specs.declared.service.property_reference.PropertyReference.{PropertyReference}
+use Rattle.bac_service.specs.declared.service.property_value.PropertyValue.{PropertyValue}
+use Rattle.bac_service.specs.declared.service.property_result.ReadResult.{ReadResult}
+use Rattle.bac_service.specs.declared.service.property_result.ReadResult.TheVariants.{Value, Error}
+use Rattle.bac_service.specs.declared.service.property_result.PropertyResult.{PropertyResult}
+use Rattle.bac_service.specs.declared.service.read_property.ReadProperty.{ReadProperty}
+use Rattle.bac_service.specs.declared.service.read_property_ack.ReadPropertyAck.{ReadPropertyAck}
+use Rattle.bac_service.specs.declared.service.write_property.WriteProperty.{WriteProperty}
+use Rattle.bac_service.specs.declared.service.write_property_multiple_error.WritePropertyMultipleError.{WritePropertyMultipleError}
+use Rattle.bac_service.specs.declared.service.who_is.WhoIs.{WhoIs}
+use Rattle.bac_service.specs.declared.service.i_am.IAm.{IAm}
+use Rattle.bac_service.specs.declared.service.subscribe_cov.SubscribeCov.{SubscribeCov}
 use Rattle.bac_service.specs.ReadAccessSpecification.{Specification, SpellsSpecification}
 use Rattle.bac_service.specs.ReadAccessResult.{AccessResult, SpellsAccessResult}
 use Rattle.bac_service.specs.WriteAccessSpecification.{WriteSpecification, SpellsWriteSpecification}
@@ -39,23 +39,12 @@ use Rattle.bac_service.specs.WritePropertyMultipleError.{SpellsWriteError}
 use Rattle.bac_service.specs.IAm.{SpellsIAm}
 use Rattle.bac_service.specs.SubscribeCov.{SpellsSubscribeCov}
 use Rattle.bac_service.specs.ServiceTable.{ServiceProduction, read_property, read_property_ack, read_property_multiple, read_property_multiple_ack, write_property, write_property_multiple, write_property_multiple_error, who_is, i_am, subscribe_cov, cov_notification, service_error}
-use Rattle.bac_service.specs.ServiceValues.{Said, ServiceValue}
-use Rattle.bac_service.specs.Services.{SpellsSaid, SpellsService}
+use Rattle.bac_service.specs.Services.{Said, ServiceValue, SpellsSaid, SpellsService}
 use Rattle.bac_text.specs.Words.{number, object_text, truth as truth_text, listed as listed_text, optional as optional_text}
 use Rattle.bac_text.specs.WalkText.{blank}
 use Rattle.bac_text.specs.OpenValueText.{open_text}
 use Rattle.bac_text.specs.PropertyText.{property_text, cause_text, reference_text, read_result_text, property_result_text, property_value_text}
-use Rattle.bac_text.specs.ReadPropertyText.{read_property_text, read_property_ack_text}
-use Rattle.bac_text.specs.ReadPropertyMultipleText.{specification_text, read_multiple_text, access_result_text, read_multiple_ack_text}
-use Rattle.bac_text.specs.WritePropertyText.{write_property_text}
-use Rattle.bac_text.specs.WritePropertyMultipleText.{write_specification_text, write_multiple_text, write_error_text}
-use Rattle.bac_text.specs.WhoIsText.{limits_text, who_is_text}
-use Rattle.bac_text.specs.IAmText.{i_am_text}
-use Rattle.bac_text.specs.SubscribeCovText.{subscribe_cov_text}
-use Rattle.bac_text.specs.CovNotificationText.{notification_name, notification_text}
-use Rattle.bac_text.specs.ServiceErrorText.{service_error_text}
-use Rattle.bac_text.specs.OpaqueText.{opaque_text}
-use Rattle.bac_text.specs.ServiceText.{said_text, service_text}
+use Rattle.bac_text.specs.ServiceText.{read_property_text, read_property_ack_text, specification_text, read_multiple_text, access_result_text, read_multiple_ack_text, write_property_text, write_specification_text, write_multiple_text, write_error_text, limits_text, who_is_text, i_am_text, subscribe_cov_text, notification_name, notification_text, service_error_text, opaque_text, said_text, service_text}
 use Rattle.bac_field_parts.specs.declared.names.Name.{Name}
 use Rattle.bac_field_parts.specs.declared.names.Name.TheVariants as name
 use Rattle.bac_field_parts.specs.Fields.{FieldValue, Step, next, word, octet_field, octets_field, optional, opening_field, closing_field, item_steps, listed_in}

@@ -11,13 +11,13 @@ use Rattle.bac_tag.proofs.WritingLemmas.{least_open as least_opening, least_clos
 use Rattle.bac_value.specs.Identifier.{Identifier}
 use Rattle.bac_service.specs.declared.kind.Kind.{Kind}
 use Rattle.bac_service.specs.declared.kind.Kind.TheVariants as kind
-use Rattle.bac_service.specs.declared.services.error_cause.ErrorCause.{ErrorCause}
-use Rattle.bac_service.specs.declared.services.property_reference.PropertyReference.{PropertyReference}
-use Rattle.bac_service.specs.declared.services.property_value.PropertyValue.{PropertyValue}
-use Rattle.bac_service.specs.declared.services.property_result.ReadResult.{ReadResult}
-use Rattle.bac_service.specs.declared.services.property_result.ReadResult.TheVariants.{Value, Error}
-use Rattle.bac_service.specs.declared.services.property_result.PropertyResult.{PropertyResult}
-use Rattle.bac_service.specs.declared.services.write_property_multiple_error.WritePropertyMultipleError.{WritePropertyMultipleError}
+use Rattle.bac_service.specs.declared.service.error_cause.ErrorCause.{ErrorCause}
+use Rattle.bac_service.specs.declared.service.property_reference.PropertyReference.{PropertyReference}
+use Rattle.bac_service.specs.declared.service.property_value.PropertyValue.{PropertyValue}
+use Rattle.bac_service.specs.declared.service.property_result.ReadResult.{ReadResult}
+use Rattle.bac_service.specs.declared.service.property_result.ReadResult.TheVariants.{Value, Error}
+use Rattle.bac_service.specs.declared.service.property_result.PropertyResult.{PropertyResult}
+use Rattle.bac_service.specs.declared.service.write_property_multiple_error.WritePropertyMultipleError.{WritePropertyMultipleError}
 use Rattle.bac_service.specs.ReadAccessSpecification.{Specification, SpellsSpecification}
 use Rattle.bac_service.specs.ReadAccessResult.{AccessResult, SpellsAccessResult}
 use Rattle.bac_service.specs.WriteAccessSpecification.{WriteSpecification, SpellsWriteSpecification}
@@ -29,8 +29,7 @@ use Rattle.bac_service.specs.PropertyReference.{SpellsPropertyReference}
 use Rattle.bac_service.specs.PropertyValue.{SpellsPropertyValue}
 use Rattle.bac_service.specs.PropertyResult.{SpellsReadResult, SpellsPropertyResult}
 use Rattle.bac_service.specs.ServiceTable.{ServiceProduction, read_property, read_property_ack, read_property_multiple, read_property_multiple_ack, write_property, write_property_multiple, write_property_multiple_error, who_is, i_am, subscribe_cov, cov_notification, service_error, rows, production_of}
-use Rattle.bac_service.specs.ServiceValues.{SaidBy, Said, ServiceValue}
-use Rattle.bac_service.specs.Services.{SpellsBy, SpellsSaid, SpellsService}
+use Rattle.bac_service.specs.Services.{SaidBy, Said, ServiceValue, SpellsBy, SpellsSaid, SpellsService}
 use Rattle.bac_service.specs.Laws.Least.{least_joined, least_nothing}
 use Rattle.bac_field_parts.specs.declared.names.Name.{Name}
 use Rattle.bac_field_parts.specs.declared.names.Name.TheVariants as name

@@ -2,7 +2,7 @@
 use Rattle.std.specs.Prelude.{ℕ, nat_eq, Bool, true, false, Option, None, Some, List, [], ◌∷◌, ◌++◌}
 use Rattle.std.specs.Map.{lookup}
 use Rattle.bac_tag.specs.HeadOctets.{Part, typed, limits, octet, window}
-use Rattle.bac_service.specs.ServiceValues.{ServiceValue}
+use Rattle.bac_service.specs.Services.{ServiceValue}
 use Rattle.bac_apdu.specs.declared.confirmed_request.RequestHead.{RequestHead}
 use Rattle.bac_apdu.specs.declared.segment.SegHead.TheVariants.{Request, Ack}
 use Rattle.bac_apdu.specs.Apdus.{ApduValue, SpellsApdu}

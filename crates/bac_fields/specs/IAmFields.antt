@@ -1,6 +1,6 @@
 -- The fields of I-Am (clause 16.10).
 use Rattle.std.specs.Prelude.{List, [], ◌∷◌}
-use Rattle.bac_service.specs.declared.services.i_am.IAm.{IAm}
+use Rattle.bac_service.specs.declared.service.i_am.IAm.{IAm}
 use Rattle.bac_field_parts.specs.declared.names.Name.TheVariants as name
 use Rattle.bac_field_parts.specs.Fields.{Step, next, octet_field}
 use Rattle.bac_field_parts.specs.PrimitiveFields.{object_field, unsigned_field, enumerated_field}

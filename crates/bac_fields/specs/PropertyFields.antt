@@ -1,11 +1,11 @@
 -- The fields of properties, their values, and why they have none (clause 21).
 use Rattle.std.specs.Prelude.{ℕ, Option, List, [], ◌∷◌, ◌++◌}
-use Rattle.bac_service.specs.declared.services.error_cause.ErrorCause.{ErrorCause}
-use Rattle.bac_service.specs.declared.services.property_reference.PropertyReference.{PropertyReference}
-use Rattle.bac_service.specs.declared.services.property_result.ReadResult.{ReadResult}
-use Rattle.bac_service.specs.declared.services.property_result.ReadResult.TheVariants.{Value, Error}
-use Rattle.bac_service.specs.declared.services.property_result.PropertyResult.{PropertyResult}
-use Rattle.bac_service.specs.declared.services.property_value.PropertyValue.{PropertyValue}
+use Rattle.bac_service.specs.declared.service.error_cause.ErrorCause.{ErrorCause}
+use Rattle.bac_service.specs.declared.service.property_reference.PropertyReference.{PropertyReference}
+use Rattle.bac_service.specs.declared.service.property_result.ReadResult.{ReadResult}
+use Rattle.bac_service.specs.declared.service.property_result.ReadResult.TheVariants.{Value, Error}
+use Rattle.bac_service.specs.declared.service.property_result.PropertyResult.{PropertyResult}
+use Rattle.bac_service.specs.declared.service.property_value.PropertyValue.{PropertyValue}
 use Rattle.bac_field_parts.specs.declared.names.Name.TheVariants as name
 use Rattle.bac_field_parts.specs.Fields.{Step, next, optional, opening_field, closing_field}
 use Rattle.bac_field_parts.specs.PrimitiveFields.{number_under, enumerated_field}

@@ -1,7 +1,7 @@
 -- The fields of ReadProperty and of its answer (clause 15.5).
 use Rattle.std.specs.Prelude.{List, ◌∷◌, ◌++◌}
-use Rattle.bac_service.specs.declared.services.read_property.ReadProperty.{ReadProperty}
-use Rattle.bac_service.specs.declared.services.read_property_ack.ReadPropertyAck.{ReadPropertyAck}
+use Rattle.bac_service.specs.declared.service.read_property.ReadProperty.{ReadProperty}
+use Rattle.bac_service.specs.declared.service.read_property_ack.ReadPropertyAck.{ReadPropertyAck}
 use Rattle.bac_field_parts.specs.declared.names.Name.TheVariants as name
 use Rattle.bac_field_parts.specs.Fields.{Step, next, octet_field}
 use Rattle.bac_field_parts.specs.PrimitiveFields.{object_under}

@@ -1,6 +1,6 @@
 -- The fields of errors of typed services (clause 18).
 use Rattle.std.specs.Prelude.{ℕ, List, ◌∷◌}
-use Rattle.bac_service.specs.declared.services.error_cause.ErrorCause.{ErrorCause}
+use Rattle.bac_service.specs.declared.service.error_cause.ErrorCause.{ErrorCause}
 use Rattle.bac_field_parts.specs.declared.names.Name.TheVariants as name
 use Rattle.bac_field_parts.specs.Fields.{Step, next, octet_field}
 use Rattle.bac_fields.specs.PropertyFields.{cause_steps}

@@ -2,7 +2,7 @@
 use Rattle.std.specs.Prelude.{ℕ, Option, None, Some, List}
 use Rattle.bac_service.specs.declared.kind.Kind.{Kind}
 use Rattle.bac_service.specs.ServiceTable.{ServiceProduction, read_property, read_property_ack, read_property_multiple, read_property_multiple_ack, write_property, write_property_multiple, write_property_multiple_error, who_is, i_am, subscribe_cov, cov_notification, service_error}
-use Rattle.bac_service.specs.ServiceValues.{SaidBy, Said, ServiceValue}
+use Rattle.bac_service.specs.Services.{SaidBy, Said, ServiceValue}
 use Rattle.bac_field_parts.specs.Fields.{Step}
 use Rattle.bac_fields.specs.ReadPropertyFields.{read_property_steps, read_property_ack_steps}
 use Rattle.bac_fields.specs.ReadPropertyMultipleFields.{read_multiple_steps, read_multiple_ack_steps}

@@ -3,8 +3,7 @@ use Rattle.std.specs.Prelude.{ℕ, nat_eq, true, Option, Some, List, [], ◌∷�
 use Rattle.std.specs.Map.{lookup}
 use Rattle.bac_tag.specs.Spelling.{Joins}
 use Rattle.bac_service.specs.ServiceTable.{ServiceProduction, read_property, read_property_ack, read_property_multiple, read_property_multiple_ack, write_property, write_property_multiple, write_property_multiple_error, who_is, i_am, subscribe_cov, cov_notification, service_error}
-use Rattle.bac_service.specs.ServiceValues.{ServiceValue}
-use Rattle.bac_service.specs.Services.{SpellsService}
+use Rattle.bac_service.specs.Services.{ServiceValue, SpellsService}
 use Rattle.bac_service.specs.declared.kind.Kind.{Kind}
 use Rattle.bac_service.specs.declared.kind.Kind.TheVariants.{Confirmed, Unconfirmed, ComplexAck, Error}
 use Rattle.bac_fields.specs.ServiceFields.{service_steps}

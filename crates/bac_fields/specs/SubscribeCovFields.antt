@@ -1,6 +1,6 @@
 -- The fields of SubscribeCOV (clause 13.14).
 use Rattle.std.specs.Prelude.{List, ◌∷◌, ◌++◌}
-use Rattle.bac_service.specs.declared.services.subscribe_cov.SubscribeCov.{SubscribeCov}
+use Rattle.bac_service.specs.declared.service.subscribe_cov.SubscribeCov.{SubscribeCov}
 use Rattle.bac_field_parts.specs.declared.names.Name.TheVariants as name
 use Rattle.bac_field_parts.specs.Fields.{Step, next, optional, octet_field}
 use Rattle.bac_field_parts.specs.PrimitiveFields.{object_under, number_under, truth_under}

@@ -1,6 +1,6 @@
 -- The fields of Who-Is (clause 16.10).
 use Rattle.std.specs.Prelude.{ℕ, Option, None, Some, List, [], ◌∷◌}
-use Rattle.bac_service.specs.declared.services.who_is.WhoIs.{WhoIs}
+use Rattle.bac_service.specs.declared.service.who_is.WhoIs.{WhoIs}
 use Rattle.bac_field_parts.specs.declared.names.Name.TheVariants as name
 use Rattle.bac_field_parts.specs.Fields.{Step, next, octet_field}
 use Rattle.bac_field_parts.specs.PrimitiveFields.{number_under}

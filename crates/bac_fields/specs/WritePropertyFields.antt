@@ -1,6 +1,6 @@
 -- The fields of WriteProperty (clause 15.9).
 use Rattle.std.specs.Prelude.{List, ◌∷◌, ◌++◌}
-use Rattle.bac_service.specs.declared.services.write_property.WriteProperty.{WriteProperty}
+use Rattle.bac_service.specs.declared.service.write_property.WriteProperty.{WriteProperty}
 use Rattle.bac_field_parts.specs.declared.names.Name.TheVariants as name
 use Rattle.bac_field_parts.specs.Fields.{Step, next, optional, octet_field}
 use Rattle.bac_field_parts.specs.PrimitiveFields.{object_under, number_under}

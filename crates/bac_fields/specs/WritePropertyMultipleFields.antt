@@ -1,7 +1,7 @@
 -- The fields of WritePropertyMultiple and of its error (clause 15.10).
 use Rattle.std.specs.Prelude.{List, [], ◌∷◌, ◌++◌}
 use Rattle.bac_service.specs.WriteAccessSpecification.{WriteSpecification}
-use Rattle.bac_service.specs.declared.services.write_property_multiple_error.WritePropertyMultipleError.{WritePropertyMultipleError}
+use Rattle.bac_service.specs.declared.service.write_property_multiple_error.WritePropertyMultipleError.{WritePropertyMultipleError}
 use Rattle.bac_field_parts.specs.declared.names.Name.TheVariants as name
 use Rattle.bac_field_parts.specs.Fields.{Step, next, pass, octet_field, listed, listed_in}
 use Rattle.bac_field_parts.specs.PrimitiveFields.{object_under}

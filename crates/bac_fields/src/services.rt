@@ -22,7 +22,7 @@ pub(crate) mod write_property;
 pub(crate) mod write_property_multiple;
 
 impl HasFields for Service {
-    ghost use Rattle.bac_service.specs.ServiceValues.{value_of};
+    ghost use Rattle.bac_service.specs.Services.{value_of};
     ghost use Rattle.bac_fields.specs.ServiceFields.{service_steps};
 
     ghost steps = { λ service. service_steps (value_of service) };

@@ -6,19 +6,19 @@ use Rattle.std.proofs.Common.{ℕ, ◌-◌, ◌<◌, ◌≤◌, ◌^◌, Bool, t
 use Rattle.bac_value.specs.Identifier.{Identifier}
 use Rattle.bac_service.specs.declared.kind.Kind.{Kind}
 use Rattle.bac_service.specs.declared.kind.Kind.TheVariants as kind
-use Rattle.bac_service.specs.declared.services.error_cause.ErrorCause.{ErrorCause}
-use Rattle.bac_service.specs.declared.services.property_reference.PropertyReference.{PropertyReference}
-use Rattle.bac_service.specs.declared.services.property_value.PropertyValue.{PropertyValue}
-use Rattle.bac_service.specs.declared.services.property_result.ReadResult.{ReadResult}
-use Rattle.bac_service.specs.declared.services.property_result.ReadResult.TheVariants.{Value, Error}
-use Rattle.bac_service.specs.declared.services.property_result.PropertyResult.{PropertyResult}
-use Rattle.bac_service.specs.declared.services.read_property.ReadProperty.{ReadProperty}
-use Rattle.bac_service.specs.declared.services.read_property_ack.ReadPropertyAck.{ReadPropertyAck}
-use Rattle.bac_service.specs.declared.services.write_property.WriteProperty.{WriteProperty}
-use Rattle.bac_service.specs.declared.services.write_property_multiple_error.WritePropertyMultipleError.{WritePropertyMultipleError}
-use Rattle.bac_service.specs.declared.services.who_is.WhoIs.{WhoIs}
-use Rattle.bac_service.specs.declared.services.i_am.IAm.{IAm}
-use Rattle.bac_service.specs.declared.services.subscribe_cov.SubscribeCov.{SubscribeCov}
+use Rattle.bac_service.specs.declared.service.error_cause.ErrorCause.{ErrorCause}
+use Rattle.bac_service.specs.declared.service.property_reference.PropertyReference.{PropertyReference}
+use Rattle.bac_service.specs.declared.service.property_value.PropertyValue.{PropertyValue}
+use Rattle.bac_service.specs.declared.service.property_result.ReadResult.{ReadResult}
+use Rattle.bac_service.specs.declared.service.property_result.ReadResult.TheVariants.{Value, Error}
+use Rattle.bac_service.specs.declared.service.property_result.PropertyResult.{PropertyResult}
+use Rattle.bac_service.specs.declared.service.read_property.ReadProperty.{ReadProperty}
+use Rattle.bac_service.specs.declared.service.read_property_ack.ReadPropertyAck.{ReadPropertyAck}
+use Rattle.bac_service.specs.declared.service.write_property.WriteProperty.{WriteProperty}
+use Rattle.bac_service.specs.declared.service.write_property_multiple_error.WritePropertyMultipleError.{WritePropertyMultipleError}
+use Rattle.bac_service.specs.declared.service.who_is.WhoIs.{WhoIs}
+use Rattle.bac_service.specs.declared.service.i_am.IAm.{IAm}
+use Rattle.bac_service.specs.declared.service.subscribe_cov.SubscribeCov.{SubscribeCov}
 use Rattle.bac_service.specs.ReadAccessSpecification.{Specification, SpellsSpecification}
 use Rattle.bac_service.specs.ReadAccessResult.{AccessResult, SpellsAccessResult}
 use Rattle.bac_service.specs.WriteAccessSpecification.{WriteSpecification, SpellsWriteSpecification}
@@ -38,8 +38,7 @@ use Rattle.bac_service.specs.WhoIs.{SpellsWhoIs}
 use Rattle.bac_service.specs.IAm.{SpellsIAm}
 use Rattle.bac_service.specs.SubscribeCov.{SpellsSubscribeCov}
 use Rattle.bac_service.specs.ServiceTable.{ServiceProduction, read_property, read_property_ack, read_property_multiple, read_property_multiple_ack, write_property, write_property_multiple, write_property_multiple_error, who_is, i_am, subscribe_cov, cov_notification, service_error}
-use Rattle.bac_service.specs.ServiceValues.{Said, ServiceValue}
-use Rattle.bac_service.specs.Services.{SpellsSaid, SpellsService}
+use Rattle.bac_service.specs.Services.{Said, ServiceValue, SpellsSaid, SpellsService}
 use Rattle.bac_field_parts.specs.declared.names.Name.TheVariants as name
 use Rattle.bac_field_parts.specs.Fields.{Step, next, word, octet_field, octets_field, optional, opening_field, closing_field, item_steps, listed_in}
 use Rattle.bac_field_parts.specs.PrimitiveFields.{number_under, truth_under, object_under, unsigned_field, enumerated_field, object_field}

@@ -15,45 +15,43 @@ use Rattle.bac_data.specs.Spells.{SpellsOpen}
 use Rattle.bac_data.specs.Same.{same_values}
 use Rattle.bac_data.specs.Laws.Same.{same_values_tell}
 use Rattle.bac_service.specs.declared.kind.Kind.{Kind}
-use Rattle.bac_service.specs.declared.services.property_result.ReadResult.TheVariants.{Value, Error}
-use Rattle.bac_service.specs.declared.services.read_property_multiple.ReadAccessSpecification.{ReadAccessSpecification}
-use Rattle.bac_service.specs.declared.services.read_property_multiple_ack.ReadAccessResult.{ReadAccessResult}
-use Rattle.bac_service.specs.declared.services.write_property_multiple.WriteAccessSpecification.{WriteAccessSpecification}
-use Rattle.bac_service.specs.declared.services.cov_notification.CovNotification.{CovNotification}
+use Rattle.bac_service.specs.declared.service.property_result.ReadResult.TheVariants.{Value, Error}
+use Rattle.bac_service.specs.declared.service.read_property_multiple.ReadAccessSpecification.{ReadAccessSpecification}
+use Rattle.bac_service.specs.declared.service.read_property_multiple_ack.ReadAccessResult.{ReadAccessResult}
+use Rattle.bac_service.specs.declared.service.write_property_multiple.WriteAccessSpecification.{WriteAccessSpecification}
+use Rattle.bac_service.specs.declared.service.cov_notification.CovNotification.{CovNotification}
 use Rattle.bac_service.specs.ErrorValues.{ErrorValue}
 use Rattle.bac_service.specs.declared.service.Service.{Service}
 use Rattle.bac_service.specs.Productions.{Optional, Items, Grouped, IsRecordOf}
 use Rattle.bac_service.specs.Contents.{EnumeratedField, UnsignedField}
-use Rattle.bac_service.specs.PropertyValue.{SpellsPropertyValue}
+use Rattle.bac_service.specs.PropertyValue.{SpellsPropertyValue, property_value_parts}
 use Rattle.bac_service.specs.PropertyResult.{SpellsReadResult, SpellsPropertyResult}
-use Rattle.bac_service.specs.ReadPropertyAck.{SpellsReadPropertyAck}
-use Rattle.bac_service.specs.WriteProperty.{SpellsWriteProperty}
-use Rattle.bac_service.specs.ReadAccessSpecification.{Specification, specification_of, SpellsSpecification}
-use Rattle.bac_service.specs.ReadAccessResult.{AccessResult, access_result_of, SpellsAccessResult}
-use Rattle.bac_service.specs.WriteAccessSpecification.{WriteSpecification, write_specification_of, SpellsWriteSpecification}
-use Rattle.bac_service.specs.CovNotification.{notification_of, SpellsNotification}
+use Rattle.bac_service.specs.ReadPropertyAck.{SpellsReadPropertyAck, read_property_ack_parts}
+use Rattle.bac_service.specs.WriteProperty.{SpellsWriteProperty, write_property_parts}
+use Rattle.bac_service.specs.ReadAccessSpecification.{Specification, specification_of, SpellsSpecification, specification_parts}
+use Rattle.bac_service.specs.ReadAccessResult.{AccessResult, access_result_of, SpellsAccessResult, access_result_parts}
+use Rattle.bac_service.specs.WriteAccessSpecification.{WriteSpecification, write_specification_of, SpellsWriteSpecification, write_specification_parts}
+use Rattle.bac_service.specs.CovNotification.{notification_of, SpellsNotification, notification_parts}
 use Rattle.bac_service.specs.Opaques.{OpaqueValue, kind_number, opaque_key, same_opaque}
 use Rattle.bac_service.specs.ServiceTable.{ServiceProduction, read_property, read_property_ack, read_property_multiple, read_property_multiple_ack, write_property, write_property_multiple, write_property_multiple_error, who_is, i_am, subscribe_cov, cov_notification, service_error}
-use Rattle.bac_service.specs.ServiceValues.{SaidBy, Said, ServiceValue, typed, opaque, notification_kind, notification_choice, value_of}
-use Rattle.bac_service.specs.Services.{SpellsService}
-use Rattle.bac_service.specs.Laws.Parts.{property_value_parts, read_property_ack_parts, write_property_parts, specification_parts, access_result_parts, write_specification_parts, notification_parts}
-use Rattle.bac_service.specs.declared.services.error_cause.ErrorCause.{ErrorCause}
-use Rattle.bac_service.specs.declared.services.property_reference.PropertyReference.{PropertyReference}
-use Rattle.bac_service.specs.declared.services.property_value.PropertyValue.{PropertyValue}
-use Rattle.bac_service.specs.declared.services.property_result.ReadResult.{ReadResult}
-use Rattle.bac_service.specs.declared.services.property_result.PropertyResult.{PropertyResult}
-use Rattle.bac_service.specs.declared.services.read_property.ReadProperty.{ReadProperty}
-use Rattle.bac_service.specs.declared.services.read_property_ack.ReadPropertyAck.{ReadPropertyAck}
-use Rattle.bac_service.specs.declared.services.write_property.WriteProperty.{WriteProperty}
-use Rattle.bac_service.specs.declared.services.write_property_multiple_error.WritePropertyMultipleError.{WritePropertyMultipleError}
-use Rattle.bac_service.specs.declared.services.who_is.WhoIs.{WhoIs}
-use Rattle.bac_service.specs.declared.services.i_am.IAm.{IAm}
-use Rattle.bac_service.specs.declared.services.subscribe_cov.SubscribeCov.{SubscribeCov}
+use Rattle.bac_service.specs.Services.{SaidBy, Said, ServiceValue, typed, opaque, notification_kind, notification_choice, value_of, SpellsService}
+use Rattle.bac_service.specs.declared.service.error_cause.ErrorCause.{ErrorCause}
+use Rattle.bac_service.specs.declared.service.property_reference.PropertyReference.{PropertyReference}
+use Rattle.bac_service.specs.declared.service.property_value.PropertyValue.{PropertyValue}
+use Rattle.bac_service.specs.declared.service.property_result.ReadResult.{ReadResult}
+use Rattle.bac_service.specs.declared.service.property_result.PropertyResult.{PropertyResult}
+use Rattle.bac_service.specs.declared.service.read_property.ReadProperty.{ReadProperty}
+use Rattle.bac_service.specs.declared.service.read_property_ack.ReadPropertyAck.{ReadPropertyAck}
+use Rattle.bac_service.specs.declared.service.write_property.WriteProperty.{WriteProperty}
+use Rattle.bac_service.specs.declared.service.write_property_multiple_error.WritePropertyMultipleError.{WritePropertyMultipleError}
+use Rattle.bac_service.specs.declared.service.who_is.WhoIs.{WhoIs}
+use Rattle.bac_service.specs.declared.service.i_am.IAm.{IAm}
+use Rattle.bac_service.specs.declared.service.subscribe_cov.SubscribeCov.{SubscribeCov}
 use Rattle.bac_service.specs.ObjectProperty.{ObjectProperty}
 use Rattle.bac_service.specs.declared.kind.Kind.TheVariants as kind
 use Rattle.bac_service.specs.declared.service.Service.TheVariants as held
 use Rattle.bac_service.specs.contracts.service.ServicePartialEq.TheImpl as derived
-use Rattle.bac_service.specs.contracts.services.property_result.ReadResultPartialEq.TheImpl as of_result
+use Rattle.bac_service.specs.contracts.service.property_result.ReadResultPartialEq.TheImpl as of_result
 
 -- ---- the tests: of parts
 

@@ -35,49 +35,48 @@ use Rattle.bac_service.specs.SubscribeCov.{SpellsSubscribeCov}
 use Rattle.bac_service.specs.CovNotification.{SpellsNotification, notification_of}
 use Rattle.bac_service.specs.WritePropertyMultipleError.{SpellsWriteError}
 use Rattle.bac_service.specs.Opaques.{OpaqueValue}
-use Rattle.bac_service.specs.ServiceValues.{value_of}
-use Rattle.bac_service.specs.Services.{SpellsSaid, SpellsService, IsPlaced}
+use Rattle.bac_service.specs.Services.{value_of, SpellsSaid, SpellsService, IsPlaced}
 use Rattle.bac_service.specs.Laws.Service.{octets_held, no_row, notification_fits, notification_production}
 use Rattle.bac_service.specs.declared.service.Service.{Service}
 use Rattle.bac_service.specs.declared.service.Service.TheVariants as held
-use Rattle.bac_service.specs.declared.services.error_cause.ErrorCause.{ErrorCause}
-use Rattle.bac_service.specs.declared.services.property_reference.PropertyReference.{PropertyReference}
-use Rattle.bac_service.specs.declared.services.property_value.PropertyValue.{PropertyValue}
-use Rattle.bac_service.specs.declared.services.property_result.ReadResult.{ReadResult}
-use Rattle.bac_service.specs.declared.services.property_result.ReadResult.TheVariants.{Value, Error}
-use Rattle.bac_service.specs.declared.services.property_result.PropertyResult.{PropertyResult}
-use Rattle.bac_service.specs.declared.services.read_property_multiple.ReadAccessSpecification.{ReadAccessSpecification}
-use Rattle.bac_service.specs.declared.services.read_property_multiple_ack.ReadAccessResult.{ReadAccessResult}
-use Rattle.bac_service.specs.declared.services.write_property_multiple.WriteAccessSpecification.{WriteAccessSpecification}
-use Rattle.bac_service.specs.declared.services.read_property_ack.ReadPropertyAck.{ReadPropertyAck}
-use Rattle.bac_service.specs.declared.services.write_property.WriteProperty.{WriteProperty}
-use Rattle.bac_service.specs.declared.services.i_am.IAm.{IAm}
-use Rattle.bac_service.specs.declared.services.subscribe_cov.SubscribeCov.{SubscribeCov}
-use Rattle.bac_service.specs.declared.services.cov_notification.CovNotification.{CovNotification}
-use Rattle.bac_service.specs.declared.services.write_property_multiple_error.WritePropertyMultipleError.{WritePropertyMultipleError}
-use Rattle.bac_service.specs.declared.services.read_property.ReadProperty.{ReadProperty}
+use Rattle.bac_service.specs.declared.service.error_cause.ErrorCause.{ErrorCause}
+use Rattle.bac_service.specs.declared.service.property_reference.PropertyReference.{PropertyReference}
+use Rattle.bac_service.specs.declared.service.property_value.PropertyValue.{PropertyValue}
+use Rattle.bac_service.specs.declared.service.property_result.ReadResult.{ReadResult}
+use Rattle.bac_service.specs.declared.service.property_result.ReadResult.TheVariants.{Value, Error}
+use Rattle.bac_service.specs.declared.service.property_result.PropertyResult.{PropertyResult}
+use Rattle.bac_service.specs.declared.service.read_property_multiple.ReadAccessSpecification.{ReadAccessSpecification}
+use Rattle.bac_service.specs.declared.service.read_property_multiple_ack.ReadAccessResult.{ReadAccessResult}
+use Rattle.bac_service.specs.declared.service.write_property_multiple.WriteAccessSpecification.{WriteAccessSpecification}
+use Rattle.bac_service.specs.declared.service.read_property_ack.ReadPropertyAck.{ReadPropertyAck}
+use Rattle.bac_service.specs.declared.service.write_property.WriteProperty.{WriteProperty}
+use Rattle.bac_service.specs.declared.service.i_am.IAm.{IAm}
+use Rattle.bac_service.specs.declared.service.subscribe_cov.SubscribeCov.{SubscribeCov}
+use Rattle.bac_service.specs.declared.service.cov_notification.CovNotification.{CovNotification}
+use Rattle.bac_service.specs.declared.service.write_property_multiple_error.WritePropertyMultipleError.{WritePropertyMultipleError}
+use Rattle.bac_service.specs.declared.service.read_property.ReadProperty.{ReadProperty}
 use Rattle.bac_service.specs.ReadProperty.{SpellsReadProperty}
-use Rattle.bac_service.specs.contracts.services.property_reference.PropertyReference as reference_row
-use Rattle.bac_service.specs.contracts.services.property_value.PropertyValue as value_row
-use Rattle.bac_service.specs.contracts.services.property_result.ReadResult as read_result_row
-use Rattle.bac_service.specs.contracts.services.property_result.PropertyResult as result_row
-use Rattle.bac_service.specs.contracts.services.error_cause.ErrorCause as cause_row
-use Rattle.bac_service.specs.contracts.services.read_property_multiple.ReadAccessSpecification as read_specification_row
-use Rattle.bac_service.specs.contracts.services.read_property_multiple_ack.ReadAccessResult as access_result_row
-use Rattle.bac_service.specs.contracts.services.write_property_multiple.WriteAccessSpecification as write_specification_row
-use Rattle.bac_service.specs.contracts.services.read_property_ack.ReadPropertyAck as read_property_ack_row
-use Rattle.bac_service.specs.contracts.services.write_property.WriteProperty as write_property_row
-use Rattle.bac_service.specs.contracts.services.i_am.IAm as i_am_row
-use Rattle.bac_service.specs.contracts.services.subscribe_cov.SubscribeCov as subscribe_cov_row
-use Rattle.bac_service.specs.contracts.services.cov_notification.CovNotification as cov_notification_row
-use Rattle.bac_service.specs.contracts.services.write_property_multiple_error.WritePropertyMultipleError as write_error_row
-use Rattle.bac_service.specs.contracts.services.read_property.ReadProperty as read_property_row
-use Rattle.bac_service.specs.contracts.services.read_property_multiple.ReadPropertyMultiple as read_property_multiple_row
-use Rattle.bac_service.specs.contracts.services.read_property_multiple_ack.ReadPropertyMultipleAck as read_property_multiple_ack_row
-use Rattle.bac_service.specs.contracts.services.write_property_multiple.WritePropertyMultiple as write_property_multiple_row
-use Rattle.bac_service.specs.contracts.services.who_is.WhoIs as who_is_row
-use Rattle.bac_service.specs.contracts.services.service_error.ServiceError as service_error_row
-use Rattle.bac_service.specs.contracts.services.opaque.Opaque as opaque_row
+use Rattle.bac_service.specs.contracts.service.property_reference.PropertyReference as reference_row
+use Rattle.bac_service.specs.contracts.service.property_value.PropertyValue as value_row
+use Rattle.bac_service.specs.contracts.service.property_result.ReadResult as read_result_row
+use Rattle.bac_service.specs.contracts.service.property_result.PropertyResult as result_row
+use Rattle.bac_service.specs.contracts.service.error_cause.ErrorCause as cause_row
+use Rattle.bac_service.specs.contracts.service.read_property_multiple.ReadAccessSpecification as read_specification_row
+use Rattle.bac_service.specs.contracts.service.read_property_multiple_ack.ReadAccessResult as access_result_row
+use Rattle.bac_service.specs.contracts.service.write_property_multiple.WriteAccessSpecification as write_specification_row
+use Rattle.bac_service.specs.contracts.service.read_property_ack.ReadPropertyAck as read_property_ack_row
+use Rattle.bac_service.specs.contracts.service.write_property.WriteProperty as write_property_row
+use Rattle.bac_service.specs.contracts.service.i_am.IAm as i_am_row
+use Rattle.bac_service.specs.contracts.service.subscribe_cov.SubscribeCov as subscribe_cov_row
+use Rattle.bac_service.specs.contracts.service.cov_notification.CovNotification as cov_notification_row
+use Rattle.bac_service.specs.contracts.service.write_property_multiple_error.WritePropertyMultipleError as write_error_row
+use Rattle.bac_service.specs.contracts.service.read_property.ReadProperty as read_property_row
+use Rattle.bac_service.specs.contracts.service.read_property_multiple.ReadPropertyMultiple as read_property_multiple_row
+use Rattle.bac_service.specs.contracts.service.read_property_multiple_ack.ReadPropertyMultipleAck as read_property_multiple_ack_row
+use Rattle.bac_service.specs.contracts.service.write_property_multiple.WritePropertyMultiple as write_property_multiple_row
+use Rattle.bac_service.specs.contracts.service.who_is.WhoIs as who_is_row
+use Rattle.bac_service.specs.contracts.service.service_error.ServiceError as service_error_row
+use Rattle.bac_service.specs.contracts.service.opaque.Opaque as opaque_row
 use Rattle.bac_service.specs.contracts.service.Service as service_row
 use Rattle.bac_service.proofs.HeldParts.{some_known, items_known, fields_known, object_known, instance_known, priority_known, any_known, index_known}
 use Rattle.bac_service.proofs.HeldFieldLemmas.{Spelled, joined, grouped, items_of, items, object, enumerated, unsigned, instance, open_value, application_object, application_enumerated, application_unsigned, index, command, bit}

@@ -5,12 +5,12 @@ use Rattle.std.proofs.Common.{◌∙◌, ap, arith}
 use Rattle.bac_tag.specs.Spelling.{IsLeast, Joined}
 use Rattle.bac_data.specs.Spells.{SpellsOpen}
 use Rattle.bac_service.specs.declared.kind.Kind.{Kind}
-use Rattle.bac_service.specs.declared.services.read_property_ack.ReadPropertyAck.{ReadPropertyAck}
-use Rattle.bac_service.specs.declared.services.write_property.WriteProperty.{WriteProperty}
-use Rattle.bac_service.specs.declared.services.property_value.PropertyValue.{PropertyValue}
-use Rattle.bac_service.specs.declared.services.property_result.ReadResult.{ReadResult}
-use Rattle.bac_service.specs.declared.services.property_result.ReadResult.TheVariants as result
-use Rattle.bac_service.specs.declared.services.property_result.PropertyResult.{PropertyResult}
+use Rattle.bac_service.specs.declared.service.read_property_ack.ReadPropertyAck.{ReadPropertyAck}
+use Rattle.bac_service.specs.declared.service.write_property.WriteProperty.{WriteProperty}
+use Rattle.bac_service.specs.declared.service.property_value.PropertyValue.{PropertyValue}
+use Rattle.bac_service.specs.declared.service.property_result.ReadResult.{ReadResult}
+use Rattle.bac_service.specs.declared.service.property_result.ReadResult.TheVariants as result
+use Rattle.bac_service.specs.declared.service.property_result.PropertyResult.{PropertyResult}
 use Rattle.bac_service.specs.Contents.{ObjectField, EnumeratedField, UnsignedField, PriorityField}
 use Rattle.bac_service.specs.Productions.{Optional, Items, Grouped}
 use Rattle.bac_service.specs.ObjectProperty.{SpellsObjectProperty}
@@ -22,8 +22,7 @@ use Rattle.bac_service.specs.ReadAccessResult.{AccessResult, SpellsAccessResult}
 use Rattle.bac_service.specs.WriteAccessSpecification.{WriteSpecification, SpellsWriteSpecification}
 use Rattle.bac_service.specs.CovNotification.{Notification, SpellsNotification}
 use Rattle.bac_service.specs.ServiceTable.{ServiceProduction, read_property_ack, read_property_multiple_ack, write_property, write_property_multiple, cov_notification, former_rows, later_rows, production_of, IsUnchanged}
-use Rattle.bac_service.specs.ServiceValues.{ServiceValue}
-use Rattle.bac_service.specs.Services.{SpellsBy, SpellsSaid, SpellsService}
+use Rattle.bac_service.specs.Services.{ServiceValue, SpellsBy, SpellsSaid, SpellsService}
 use Rattle.bac_service.specs.Laws.Service.{no_row}
 
 -- ---- the parts

@@ -50,3 +50,13 @@ ApplicationEnumerated value = IsField (heading None 9) (λ (v : Enumerated) octe
 -- Unsigned, below 2^16
 abbrev pub ApplicationUnsigned16 : ℕ → List ℕ → Type 0
 ApplicationUnsigned16 = IsField (heading None 2) (λ value octets. NumberContents 0 (2 ^ 16 - 1) value octets)
+
+-- an Enumerated, seen as the number in it
+abbrev pub EnumeratedPart : ℕ → Enumerated → List ℕ → Type 0
+EnumeratedPart number value = EnumeratedField number value.0
+
+abbrev pub ApplicationEnumeratedPart : Enumerated → List ℕ → Type 0
+ApplicationEnumeratedPart value = ApplicationEnumerated value.0
+
+abbrev pub of_number : ℕ → Enumerated
+of_number number = record { 0 = number }

@@ -1,12 +1,12 @@
 -- Notifications (clause 21): [0] the process, [1] the device, [2] the object, [3] the time remaining, [4] a group with the values.
-use Rattle.std.specs.Prelude.{ℕ, List}
-use Rattle.bac_tag.specs.Spelling.{Joins}
+use Rattle.std.specs.Prelude.{ℕ, List, refl}
+use Rattle.bac_tag.specs.Spelling.{Joins, Joined}
 use Rattle.bac_value.specs.Identifier.{Identifier}
-use Rattle.bac_service.specs.declared.services.property_value.PropertyValue.{PropertyValue}
-use Rattle.bac_service.specs.declared.services.cov_notification.CovNotification.{CovNotification}
+use Rattle.bac_service.specs.declared.service.property_value.PropertyValue.{PropertyValue}
+use Rattle.bac_service.specs.declared.service.cov_notification.CovNotification.{CovNotification}
 use Rattle.bac_service.specs.Contents.{ObjectField, UnsignedField}
 use Rattle.bac_service.specs.PropertyValue.{SpellsPropertyValue}
-use Rattle.bac_service.specs.Productions.{Items, Grouped}
+use Rattle.bac_service.specs.Productions.{Items, Grouped, IsRecordOf}
 
 -- what a notification says
 pub record Notification : Type 0 where
@@ -23,3 +23,12 @@ abbrev pub SpellsNotification : ℕ → Notification → List ℕ → Type 0
 SpellsNotification groups n =
     Joins (Joins (UnsignedField 0 n.process) (Joins (ObjectField 1 n.device) (ObjectField 2 n.object)))
     (Joins (UnsignedField 3 n.remaining) (Grouped 4 (Items (SpellsPropertyValue groups)) n.values))
+
+unfoldable pub notification_parts : (groups : ℕ) → IsRecordOf (Joined (Joined (UnsignedField 0) (Joined (ObjectField 1) (ObjectField 2))) (Joined (UnsignedField 3) (Grouped 4 (Items (SpellsPropertyValue groups))))) (SpellsNotification groups)
+notification_parts groups = record {
+  fields = λ n. ((n.process, (n.device, n.object)), (n.remaining, n.values));
+  of_fields = λ p. record { process = p.0.0; device = p.0.1.0; object = p.0.1.1; remaining = p.1.0; values = p.1.1 };
+  same = λ n. refl;
+  split = λ n b s. s;
+  joined = λ p b s. s;
+}

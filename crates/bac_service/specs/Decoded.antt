@@ -7,8 +7,7 @@ use Rattle.bac_service.specs.declared.kind.Kind.{Kind}
 use Rattle.bac_service.specs.declared.service.Service.{Service}
 use Rattle.bac_service.specs.Reasons.{IsServiceReason}
 use Rattle.bac_service.specs.ServiceTable.{is_small}
-use Rattle.bac_service.specs.ServiceValues.{value_of}
-use Rattle.bac_service.specs.Services.{SpellsService}
+use Rattle.bac_service.specs.Services.{value_of, SpellsService}
 
 -- the octets spell the service, and have the mark
 pub record IsFound (kind : Kind) (choice : ℕ) (octets : List ℕ) (service : Service) (mark : Option ℕ) : Type 0 where

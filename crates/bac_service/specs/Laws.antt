@@ -8,7 +8,6 @@ pub mod Reach
 pub mod Refusal
 pub mod Least
 pub mod Record
-pub mod Parts
 pub mod List
 pub mod Choice
 pub mod Tag

@@ -24,7 +24,6 @@ pub mod SubscribeCov
 pub mod ErrorValues
 pub mod Opaques
 pub mod ServiceTable
-pub mod ServiceValues
 pub mod Services
 pub mod Decoded
 pub mod Laws

@@ -1,13 +1,13 @@
 -- What reading properties of an object gave (clause 21): [0] the object, [1] a group with the results, which may be absent.
-use Rattle.std.specs.Prelude.{ℕ, List, Option}
+use Rattle.std.specs.Prelude.{ℕ, List, Option, refl}
 use Rattle.std.specs.Option.{option_map}
-use Rattle.bac_tag.specs.Spelling.{Joins}
+use Rattle.bac_tag.specs.Spelling.{Joins, Joined}
 use Rattle.bac_value.specs.Identifier.{Identifier}
-use Rattle.bac_service.specs.declared.services.property_result.PropertyResult.{PropertyResult}
-use Rattle.bac_service.specs.declared.services.read_property_multiple_ack.ReadAccessResult.{ReadAccessResult}
+use Rattle.bac_service.specs.declared.service.property_result.PropertyResult.{PropertyResult}
+use Rattle.bac_service.specs.declared.service.read_property_multiple_ack.ReadAccessResult.{ReadAccessResult}
 use Rattle.bac_service.specs.Contents.{ObjectField}
 use Rattle.bac_service.specs.PropertyResult.{SpellsPropertyResult}
-use Rattle.bac_service.specs.Productions.{Optional, Items, Grouped}
+use Rattle.bac_service.specs.Productions.{Optional, Items, Grouped, IsRecordOf}
 
 -- an object and what its properties gave
 pub record AccessResult : Type 0 where
@@ -19,3 +19,12 @@ access_result_of r = record { object = r.object; results = option_map (λ result
 
 abbrev pub SpellsAccessResult : ℕ → AccessResult → List ℕ → Type 0
 SpellsAccessResult groups r = Joins (ObjectField 0 r.object) (Optional (Grouped 1 (Items (SpellsPropertyResult groups))) r.results)
+
+unfoldable pub access_result_parts : (groups : ℕ) → IsRecordOf (Joined (ObjectField 0) (Optional (Grouped 1 (Items (SpellsPropertyResult groups))))) (SpellsAccessResult groups)
+access_result_parts groups = record {
+  fields = λ r. (r.object, r.results);
+  of_fields = λ p. record { object = p.0; results = p.1 };
+  same = λ r. refl;
+  split = λ r b s. s;
+  joined = λ p b s. s;
+}

@@ -1,12 +1,12 @@
 -- Which properties of an object to read (clause 21): [0] the object, [1] a group with the references.
-use Rattle.std.specs.Prelude.{ℕ, List}
-use Rattle.bac_tag.specs.Spelling.{Joins}
+use Rattle.std.specs.Prelude.{ℕ, List, refl}
+use Rattle.bac_tag.specs.Spelling.{Joins, Joined}
 use Rattle.bac_value.specs.Identifier.{Identifier}
-use Rattle.bac_service.specs.declared.services.property_reference.PropertyReference.{PropertyReference}
-use Rattle.bac_service.specs.declared.services.read_property_multiple.ReadAccessSpecification.{ReadAccessSpecification}
+use Rattle.bac_service.specs.declared.service.property_reference.PropertyReference.{PropertyReference}
+use Rattle.bac_service.specs.declared.service.read_property_multiple.ReadAccessSpecification.{ReadAccessSpecification}
 use Rattle.bac_service.specs.Contents.{ObjectField}
 use Rattle.bac_service.specs.PropertyReference.{SpellsPropertyReference}
-use Rattle.bac_service.specs.Productions.{Items, Grouped}
+use Rattle.bac_service.specs.Productions.{Items, Grouped, IsRecordOf}
 
 -- an object and references to its properties
 pub record Specification : Type 0 where
@@ -18,3 +18,12 @@ specification_of s = record { object = s.object; properties = s.properties.items
 
 abbrev pub SpellsSpecification : Specification → List ℕ → Type 0
 SpellsSpecification s = Joins (ObjectField 0 s.object) (Grouped 1 (Items SpellsPropertyReference) s.properties)
+
+unfoldable pub specification_parts : IsRecordOf (Joined (ObjectField 0) (Grouped 1 (Items SpellsPropertyReference))) SpellsSpecification
+specification_parts = record {
+  fields = λ s. (s.object, s.properties);
+  of_fields = λ p. record { object = p.0; properties = p.1 };
+  same = λ s. refl;
+  split = λ s b h. h;
+  joined = λ p b h. h;
+}

@@ -1,22 +1,90 @@
--- The lists that spell a service of a kind and a choice (clause 21).
-use Rattle.std.specs.Prelude.{◌≡◌, ◌↔◌, ℕ, ◌<◌, Bool, true, Option, None, Some, List}
+-- Services, as values, and the lists that spell one of a kind and a choice (clause 21).
+use Rattle.std.specs.Prelude.{ℕ, Bool, true, false, Option, None, Some, List, map, ◌≡◌, ◌↔◌, ◌<◌}
 use Rattle.bac_tag.specs.Octets.{IsOctets}
 use Rattle.bac_service.specs.declared.kind.Kind.{Kind}
-use Rattle.bac_service.specs.Productions.{Items}
+use Rattle.bac_service.specs.declared.kind.Kind.TheVariants as kind
+use Rattle.bac_service.specs.declared.service.Service.{Service}
+use Rattle.bac_service.specs.declared.service.Service.TheVariants as held
+use Rattle.bac_service.specs.declared.service.read_property.ReadProperty.{ReadProperty}
+use Rattle.bac_service.specs.declared.service.read_property_ack.ReadPropertyAck.{ReadPropertyAck}
+use Rattle.bac_service.specs.declared.service.write_property.WriteProperty.{WriteProperty}
+use Rattle.bac_service.specs.declared.service.who_is.WhoIs.{WhoIs}
+use Rattle.bac_service.specs.declared.service.i_am.IAm.{IAm}
+use Rattle.bac_service.specs.declared.service.subscribe_cov.SubscribeCov.{SubscribeCov}
+use Rattle.bac_service.specs.declared.service.error_cause.ErrorCause.{ErrorCause}
+use Rattle.bac_service.specs.declared.service.write_property_multiple_error.WritePropertyMultipleError.{WritePropertyMultipleError}
+use Rattle.bac_service.specs.ReadAccessSpecification.{Specification, specification_of, SpellsSpecification}
+use Rattle.bac_service.specs.ReadAccessResult.{AccessResult, access_result_of, SpellsAccessResult}
+use Rattle.bac_service.specs.WriteAccessSpecification.{WriteSpecification, write_specification_of, SpellsWriteSpecification}
+use Rattle.bac_service.specs.CovNotification.{Notification, notification_of, SpellsNotification}
 use Rattle.bac_service.specs.ServiceTable.{ServiceProduction, read_property, read_property_ack, read_property_multiple, read_property_multiple_ack, write_property, write_property_multiple, write_property_multiple_error, who_is, i_am, subscribe_cov, cov_notification, service_error, production_of}
-use Rattle.bac_service.specs.ServiceValues.{SaidBy, Said, ServiceValue}
+use Rattle.bac_service.specs.Productions.{Items}
 use Rattle.bac_service.specs.ReadProperty.{SpellsReadProperty}
 use Rattle.bac_service.specs.ReadPropertyAck.{SpellsReadPropertyAck}
 use Rattle.bac_service.specs.WriteProperty.{SpellsWriteProperty}
-use Rattle.bac_service.specs.ReadAccessSpecification.{SpellsSpecification}
-use Rattle.bac_service.specs.ReadAccessResult.{SpellsAccessResult}
-use Rattle.bac_service.specs.WriteAccessSpecification.{SpellsWriteSpecification}
 use Rattle.bac_service.specs.WritePropertyMultipleError.{SpellsWriteError}
 use Rattle.bac_service.specs.WhoIs.{SpellsWhoIs}
 use Rattle.bac_service.specs.IAm.{SpellsIAm}
 use Rattle.bac_service.specs.SubscribeCov.{SpellsSubscribeCov}
-use Rattle.bac_service.specs.CovNotification.{SpellsNotification}
 use Rattle.bac_service.specs.ErrorCause.{SpellsErrorCause}
+
+-- what a service of a production says
+abbrev pub SaidBy : ServiceProduction → Type 0
+SaidBy read_property = ReadProperty
+SaidBy read_property_ack = ReadPropertyAck
+SaidBy read_property_multiple = List Specification
+SaidBy read_property_multiple_ack = List AccessResult
+SaidBy write_property = WriteProperty
+SaidBy write_property_multiple = List WriteSpecification
+SaidBy write_property_multiple_error = WritePropertyMultipleError
+SaidBy who_is = WhoIs
+SaidBy i_am = IAm
+SaidBy subscribe_cov = SubscribeCov
+SaidBy cov_notification = Notification
+SaidBy service_error = ErrorCause
+
+-- octets where there is no production
+abbrev pub Said : Option ServiceProduction → Type 0
+Said (Some production) = SaidBy production
+Said None = List ℕ
+
+pub record ServiceValue : Type 0 where
+  pub kind : Kind
+  pub choice : ℕ
+  pub production : Option ServiceProduction
+  pub said : Said production
+
+-- a service of a production
+abbrev pub typed : Kind → ℕ → (production : ServiceProduction) → SaidBy production → ServiceValue
+typed kind choice production said = record { kind = kind; choice = choice; production = Some production; said = said }
+
+-- a service without one
+abbrev pub opaque : Kind → ℕ → List ℕ → ServiceValue
+opaque kind choice octets = record { kind = kind; choice = choice; production = None; said = octets }
+
+-- a notification is confirmed or not
+abbrev pub notification_kind : Bool → Kind
+notification_kind true = kind.Confirmed
+notification_kind false = kind.Unconfirmed
+
+abbrev pub notification_choice : Bool → ℕ
+notification_choice true = 1
+notification_choice false = 2
+
+abbrev pub value_of : Service → ServiceValue
+value_of (held.ReadProperty request) = typed kind.Confirmed 12 read_property request
+value_of (held.ReadPropertyAck ack) = typed kind.ComplexAck 12 read_property_ack ack
+value_of (held.WriteProperty request) = typed kind.Confirmed 15 write_property request
+value_of (held.ReadPropertyMultiple request) = typed kind.Confirmed 14 read_property_multiple (map specification_of request.specs.items)
+value_of (held.ReadPropertyMultipleAck ack) = typed kind.ComplexAck 14 read_property_multiple_ack (map access_result_of ack.results.items)
+value_of (held.WritePropertyMultiple request) = typed kind.Confirmed 16 write_property_multiple (map write_specification_of request.specs.items)
+value_of (held.WhoIs request) = typed kind.Unconfirmed 8 who_is request
+value_of (held.IAm request) = typed kind.Unconfirmed 0 i_am request
+value_of (held.SubscribeCov request) = typed kind.Confirmed 5 subscribe_cov request
+value_of (held.CovNotification request) = typed (notification_kind request.confirmed) (notification_choice request.confirmed) cov_notification (notification_of request)
+value_of (held.ServiceError error) = typed kind.Error error.choice service_error error.cause
+value_of (held.WritePropertyMultipleError error) = typed kind.Error 16 write_property_multiple_error error
+value_of (held.Opaque service) = opaque service.kind service.choice service.octets
 
 -- the lists that spell what a production says; so many groups nest in an open value
 abbrev pub SpellsBy : ℕ → (production : ServiceProduction) → SaidBy production → List ℕ → Type 0

@@ -1,12 +1,12 @@
 -- Which properties of an object to write, and what (clause 21): [0] the object, [1] a group with the values.
-use Rattle.std.specs.Prelude.{ℕ, List}
-use Rattle.bac_tag.specs.Spelling.{Joins}
+use Rattle.std.specs.Prelude.{ℕ, List, refl}
+use Rattle.bac_tag.specs.Spelling.{Joins, Joined}
 use Rattle.bac_value.specs.Identifier.{Identifier}
-use Rattle.bac_service.specs.declared.services.property_value.PropertyValue.{PropertyValue}
-use Rattle.bac_service.specs.declared.services.write_property_multiple.WriteAccessSpecification.{WriteAccessSpecification}
+use Rattle.bac_service.specs.declared.service.property_value.PropertyValue.{PropertyValue}
+use Rattle.bac_service.specs.declared.service.write_property_multiple.WriteAccessSpecification.{WriteAccessSpecification}
 use Rattle.bac_service.specs.Contents.{ObjectField}
 use Rattle.bac_service.specs.PropertyValue.{SpellsPropertyValue}
-use Rattle.bac_service.specs.Productions.{Items, Grouped}
+use Rattle.bac_service.specs.Productions.{Items, Grouped, IsRecordOf}
 
 -- an object and values of its properties
 pub record WriteSpecification : Type 0 where
@@ -18,3 +18,12 @@ write_specification_of s = record { object = s.object; values = s.values.items }
 
 abbrev pub SpellsWriteSpecification : ℕ → WriteSpecification → List ℕ → Type 0
 SpellsWriteSpecification groups s = Joins (ObjectField 0 s.object) (Grouped 1 (Items (SpellsPropertyValue groups)) s.values)
+
+unfoldable pub write_specification_parts : (groups : ℕ) → IsRecordOf (Joined (ObjectField 0) (Grouped 1 (Items (SpellsPropertyValue groups)))) (SpellsWriteSpecification groups)
+write_specification_parts groups = record {
+  fields = λ s. (s.object, s.values);
+  of_fields = λ p. record { object = p.0; values = p.1 };
+  same = λ s. refl;
+  split = λ s b h. h;
+  joined = λ p b h. h;
+}

@@ -10,8 +10,7 @@ ghost use Rattle.bac_service.specs.Contents.{ApplicationEnumerated};
 ghost use Rattle.bac_service.specs.ErrorCause.{SpellsErrorCause};
 ghost use Rattle.bac_service.specs.PropertyResult.{SpellsReadResult};
 ghost use Rattle.bac_service.specs.ServiceTable.{IsUnchanged};
-ghost use Rattle.bac_service.specs.ServiceValues.{ServiceValue, opaque, value_of};
-ghost use Rattle.bac_service.specs.Services.{SpellsService, IsPlaced};
+ghost use Rattle.bac_service.specs.Services.{ServiceValue, opaque, value_of, SpellsService, IsPlaced};
 
 use crate::production::Production;
 use crate::production::field::ApplicationField;

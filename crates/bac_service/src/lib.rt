@@ -59,11 +59,11 @@
 //! - what spells a part, and what its reader reports: `production.rt`; `Productions.antt`, `Leads.antt`,
 //!   `Collisions.antt`, `ReadFaults.antt`
 //! - fields by the types of their contents: `production/field.rt`; `Fields.antt`, `Contents.antt`
-//! - each struct of a production: a file in `services`, that of a list beside its element; a file by its name, and none
+//! - each struct of a production: a file in `service`, that of a list beside its element; a file by its name, and none
 //!   for a service that is one list
 //! - which kinds and choices have a production: `kind.rt`, `service.rt`; `ServiceTable.antt`
-//! - services: `service.rt`, which has each match over all of them, `services/opaque.rt`,
-//!   `services/service_error.rt`; `ServiceValues.antt`, `Services.antt`, `Opaques.antt`, `ErrorValues.antt`
+//! - services: `service.rt`, which has each match over all of them, `service/opaque.rt`,
+//!   `service/service_error.rt`; `Services.antt`, `Opaques.antt`, `ErrorValues.antt`
 //! - decoding and encoding: `service_decoding.rt`, `service_encoding.rt`, `named.rt`, `production/decoding.rt`;
 //!   `Decoded.antt`
 #![tactic(auto)]
@@ -77,26 +77,25 @@ mod production;
 mod service;
 mod service_decoding;
 mod service_encoding;
-mod services;
 
 pub use kind::Kind;
 pub use service::Service;
+pub use service::cov_notification::CovNotification;
+pub use service::error_cause::ErrorCause;
+pub use service::i_am::IAm;
+pub use service::opaque::{Opaque, OpaqueFault};
+pub use service::property_reference::PropertyReference;
+pub use service::property_result::{PropertyResult, ReadResult};
+pub use service::property_value::PropertyValue;
+pub use service::read_property::ReadProperty;
+pub use service::read_property_ack::ReadPropertyAck;
+pub use service::read_property_multiple::{ReadAccessSpecification, ReadPropertyMultiple};
+pub use service::read_property_multiple_ack::{ReadAccessResult, ReadPropertyMultipleAck};
+pub use service::service_error::ServiceError;
+pub use service::subscribe_cov::SubscribeCov;
+pub use service::who_is::WhoIs;
+pub use service::write_property::WriteProperty;
+pub use service::write_property_multiple::{WriteAccessSpecification, WritePropertyMultiple};
+pub use service::write_property_multiple_error::WritePropertyMultipleError;
 pub use service_decoding::{decode_service, decode_service_marked};
 pub use service_encoding::{append_service, encode_service};
-pub use services::cov_notification::CovNotification;
-pub use services::error_cause::ErrorCause;
-pub use services::i_am::IAm;
-pub use services::opaque::{Opaque, OpaqueFault};
-pub use services::property_reference::PropertyReference;
-pub use services::property_result::{PropertyResult, ReadResult};
-pub use services::property_value::PropertyValue;
-pub use services::read_property::ReadProperty;
-pub use services::read_property_ack::ReadPropertyAck;
-pub use services::read_property_multiple::{ReadAccessSpecification, ReadPropertyMultiple};
-pub use services::read_property_multiple_ack::{ReadAccessResult, ReadPropertyMultipleAck};
-pub use services::service_error::ServiceError;
-pub use services::subscribe_cov::SubscribeCov;
-pub use services::who_is::WhoIs;
-pub use services::write_property::WriteProperty;
-pub use services::write_property_multiple::{WriteAccessSpecification, WritePropertyMultiple};
-pub use services::write_property_multiple_error::WritePropertyMultipleError;

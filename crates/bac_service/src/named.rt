@@ -6,8 +6,7 @@ ghost use Rattle.bac_service.specs.declared.kind.Kind.TheVariants.{Error};
 ghost use Rattle.bac_service.specs.Collisions.{of_list};
 ghost use Rattle.bac_service.specs.Productions.{Items};
 ghost use Rattle.bac_service.specs.ServiceTable.{service_error, production_of, is_small};
-ghost use Rattle.bac_service.specs.ServiceValues.{value_of, notification_kind, notification_choice};
-ghost use Rattle.bac_service.specs.Services.{SpellsService, IsServiceOf};
+ghost use Rattle.bac_service.specs.Services.{value_of, notification_kind, notification_choice, SpellsService, IsServiceOf};
 ghost use Rattle.bac_service.specs.Decoded.{IsDecoded};
 ghost use Rattle.bac_tag.specs.Spelling.{IsCanonical};
 
@@ -16,10 +15,10 @@ use crate::production::Production;
 use crate::production::decoding::{are_canonical, decode};
 use crate::production::record::{Fields, Record};
 use crate::service::Service;
-use crate::services::cov_notification::CovNotification;
-use crate::services::error_cause::ErrorCause;
-use crate::services::opaque::Opaque;
-use crate::services::service_error::ServiceError;
+use crate::service::cov_notification::CovNotification;
+use crate::service::error_cause::ErrorCause;
+use crate::service::opaque::Opaque;
+use crate::service::service_error::ServiceError;
 use bac_tag::Refusal;
 use std::alloc::Global;
 

@@ -2,8 +2,7 @@
 
 ghost use Rattle.std.specs.Prelude.{◌≡◌, ℕ, List, true, IfOk, OnOk, OnErr};
 ghost use Rattle.bac_tag.specs.Spelling.{IsLeast, AppendsLeast};
-ghost use Rattle.bac_service.specs.ServiceValues.{value_of};
-ghost use Rattle.bac_service.specs.Services.{SpellsService};
+ghost use Rattle.bac_service.specs.Services.{value_of, SpellsService};
 
 use crate::laws::held_services_have_canonical_octets;
 use crate::service::{Service, append_production};

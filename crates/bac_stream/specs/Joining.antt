@@ -5,8 +5,7 @@ use Rattle.bac_tag.specs.declared.refusals.Why.TheVariants.{OutOfMemory}
 use Rattle.bac_tag.specs.Spelling.{IsWholeRefusal}
 use Rattle.bac_service.specs.declared.kind.Kind.{Kind}
 use Rattle.bac_service.specs.declared.kind.Kind.TheVariants.{Confirmed, ComplexAck}
-use Rattle.bac_service.specs.ServiceValues.{ServiceValue, value_of as service_of}
-use Rattle.bac_service.specs.Services.{SpellsService}
+use Rattle.bac_service.specs.Services.{ServiceValue, value_of as service_of, SpellsService}
 use Rattle.bac_service.specs.Reasons.{IsServiceReason}
 use Rattle.bac_service.specs.ServiceTable.{is_small}
 use Rattle.bac_apdu.specs.declared.segment.SegHead.{SegHead}

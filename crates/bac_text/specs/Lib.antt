@@ -3,16 +3,6 @@ pub mod PrimitiveText
 pub mod OpenValueText
 pub mod WalkText
 pub mod PropertyText
-pub mod ReadPropertyText
-pub mod ReadPropertyMultipleText
-pub mod WritePropertyText
-pub mod WritePropertyMultipleText
-pub mod WhoIsText
-pub mod IAmText
-pub mod SubscribeCovText
-pub mod CovNotificationText
-pub mod ServiceErrorText
-pub mod OpaqueText
 pub mod ServiceText
 pub mod RequestText
 pub mod AnswerText

@@ -1,6 +1,6 @@
 -- The text of requests.
 use Rattle.std.specs.Prelude.{ℕ, List, ◌++◌}
-use Rattle.bac_service.specs.ServiceValues.{ServiceValue}
+use Rattle.bac_service.specs.Services.{ServiceValue}
 use Rattle.bac_apdu.specs.declared.confirmed_request.RequestHead.{RequestHead}
 use Rattle.bac_text.specs.Words.{number, truth, field}
 use Rattle.bac_text.specs.ServiceText.{service_text}

@@ -2,7 +2,7 @@
 
 ghost use Rattle.std.specs.Prelude.{◌≡◌, ◌≤◌, ◌+◌, ◌++◌, IfOk, OnErr, length, take};
 ghost use Rattle.bac_tag.specs.Octets.{Extends};
-ghost use Rattle.bac_service.specs.ServiceValues.{value_of};
+ghost use Rattle.bac_service.specs.Services.{value_of};
 ghost use Rattle.bac_text.specs.ServiceText.{service_text};
 
 use crate::texts::{HasShortText, HasText, write_short};

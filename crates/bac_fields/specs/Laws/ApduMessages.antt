@@ -4,7 +4,7 @@ use Rattle.std.proofs.Common.{sym, ◌∙◌, ap, subst}
 use Rattle.bac_tag.specs.HeadOctets.{Part, octet, Headed, IsWindow, AreParts}
 use Rattle.bac_tag.specs.Octets.{IsOctets}
 use Rattle.bac_tag.specs.Spelling.{Joined, Joins}
-use Rattle.bac_service.specs.ServiceValues.{ServiceValue}
+use Rattle.bac_service.specs.Services.{ServiceValue}
 use Rattle.bac_service.specs.declared.kind.Kind.{Kind}
 use Rattle.bac_service.specs.declared.kind.Kind.TheVariants.{Confirmed, Unconfirmed, ComplexAck, Error}
 use Rattle.bac_apdu.specs.Apdus.{SpellsServiceOf}
@@ -13,8 +13,7 @@ use Rattle.bac_field_parts.specs.PrimitiveFields.{truth}
 use Rattle.bac_field_parts.specs.Symbols.{Symbol, IsMessage, Heads, number_said, contents_said, no_octet_number, no_octets, the_octet, end_said}
 use Rattle.bac_field_parts.specs.Opaques.{AreTheOctets}
 use Rattle.bac_fields.specs.ServiceSymbols.{service_said, SpellsAfterHead}
-use Rattle.bac_fields.specs.ApduSymbols.{confirmed_request, unconfirmed_request, simple_ack, complex_ack, segment_ack, error, reject, abort, request_segment, ack_segment, said_by, SpellsBy, RequestNumbers, SegmentNumbers}
-use Rattle.bac_fields.specs.ApduSymbols.{confirmed_request_front, unconfirmed_request_front, simple_ack_front, complex_ack_front, segment_ack_front, error_front, reject_front, abort_front, request_segment_front, ack_segment_front}
+use Rattle.bac_fields.specs.ApduSymbols.{confirmed_request, unconfirmed_request, simple_ack, complex_ack, segment_ack, error, reject, abort, request_segment, ack_segment, said_by, SpellsBy, RequestNumbers, SegmentNumbers, confirmed_request_front, unconfirmed_request_front, simple_ack_front, complex_ack_front, segment_ack_front, error_front, reject_front, abort_front, request_segment_front, ack_segment_front}
 use Rattle.bac_field_parts.specs.Laws.Messages.{Alike, last_part, second_alike, then_alike}
 use Rattle.bac_field_parts.specs.Laws.Numbers.{headed_joined}
 

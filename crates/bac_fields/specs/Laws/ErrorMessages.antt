@@ -5,9 +5,8 @@ use Rattle.bac_tag.specs.Spelling.{Joined, Joins}
 use Rattle.bac_tag.specs.declared.heads.TagHead.TheVariants.{Open, Close}
 use Rattle.bac_value.specs.Identifier.{Identifier}
 use Rattle.bac_value.specs.declared.types.enumeration.Enumerated.{Enumerated}
-use Rattle.bac_service.specs.Contents.{ObjectField, UnsignedField}
+use Rattle.bac_service.specs.Contents.{ObjectField, UnsignedField, EnumeratedPart, ApplicationEnumeratedPart, of_number}
 use Rattle.bac_service.specs.ErrorCause.{SpellsErrorCause}
-use Rattle.bac_service.specs.Laws.Parts.{EnumeratedPart, ApplicationEnumeratedPart, of_number}
 use Rattle.bac_service.specs.Productions.{Head, Optional, IsInhabited}
 use Rattle.bac_service.specs.ServiceTable.{service_error, production_of}
 use Rattle.bac_service.specs.declared.kind.Kind.TheVariants.{Error}
@@ -15,8 +14,8 @@ use Rattle.bac_tag.specs.Laws.Octets.{NoGreater-same}
 use Rattle.std.proofs.Common.{sym, lit<}
 use Rattle.bac_field_parts.specs.Opaques.{IsCauseChoice}
 use Rattle.bac_service.specs.WritePropertyMultipleError.{SpellsWriteError}
-use Rattle.bac_service.specs.declared.services.error_cause.ErrorCause.{ErrorCause}
-use Rattle.bac_service.specs.declared.services.write_property_multiple_error.WritePropertyMultipleError.{WritePropertyMultipleError}
+use Rattle.bac_service.specs.declared.service.error_cause.ErrorCause.{ErrorCause}
+use Rattle.bac_service.specs.declared.service.write_property_multiple_error.WritePropertyMultipleError.{WritePropertyMultipleError}
 use Rattle.bac_field_parts.specs.PrimitiveFields.{object_number}
 use Rattle.bac_fields.specs.ServiceErrorFields.{service_error_steps}
 use Rattle.bac_fields.specs.WritePropertyMultipleFields.{write_error_steps}

@@ -11,7 +11,7 @@ use Rattle.bac_service.specs.Productions.{Head, Items}
 use Rattle.bac_service.specs.PropertyValue.{SpellsPropertyValue}
 use Rattle.bac_service.specs.declared.kind.Kind.{Kind}
 use Rattle.bac_service.specs.declared.kind.Kind.TheVariants.{Confirmed, Unconfirmed}
-use Rattle.bac_service.specs.declared.services.property_value.PropertyValue.{PropertyValue}
+use Rattle.bac_service.specs.declared.service.property_value.PropertyValue.{PropertyValue}
 use Rattle.bac_field_parts.specs.declared.names.Name.TheVariants as name
 use Rattle.bac_fields.specs.CovNotificationFields.{notification_steps}
 use Rattle.bac_field_parts.specs.Fields.{next, item_steps, closing_field}

@@ -1,66 +1,54 @@
 -- Services as their parts.
-use Rattle.std.specs.Prelude.{◌≡◌, ℕ, Option, None, Some, List, [], ◌∷◌, ◌++◌, refl}
-use Rattle.std.specs.Option.{option_map_or}
-use Rattle.bac_tag.specs.Spelling.{Joined, Joins}
-use Rattle.bac_service.specs.Productions.{Optional}
-use Rattle.bac_service.specs.declared.services.read_property.ReadProperty.{ReadProperty}
+use Rattle.std.specs.Prelude.{◌≡◌, ℕ, Option, None, Some, List, [], ◌∷◌, ◌++◌, refl, ◌⊎◌, Bool}
+use Rattle.std.specs.Option.{option_map_or, option_map}
+use Rattle.bac_tag.specs.Spelling.{Joined, Joins, OneOf}
+use Rattle.bac_service.specs.Productions.{Optional, Head, Items, Grouped}
+use Rattle.bac_service.specs.declared.service.read_property.ReadProperty.{ReadProperty}
 use Rattle.bac_value.specs.Identifier.{Identifier}
-use Rattle.bac_service.specs.Contents.{ObjectField, UnsignedField}
-use Rattle.bac_service.specs.Laws.Parts.{EnumeratedPart, of_number}
+use Rattle.bac_service.specs.Contents.{ObjectField, UnsignedField, EnumeratedPart, of_number, PriorityField, InstanceField, ApplicationObject, ApplicationUnsigned, ApplicationUnsigned16, ApplicationEnumeratedPart}
 use Rattle.bac_service.specs.ReadProperty.{SpellsReadProperty}
 use Rattle.bac_value.specs.declared.types.enumeration.Enumerated.{Enumerated}
 use Rattle.bac_field_parts.specs.declared.names.Name.TheVariants as name
-use Rattle.bac_field_parts.specs.PrimitiveFields.{object_number}
-use Rattle.bac_fields.specs.ReadPropertyFields.{read_property_steps}
+use Rattle.bac_field_parts.specs.PrimitiveFields.{object_number, truth, number_under}
+use Rattle.bac_fields.specs.ReadPropertyFields.{read_property_steps, read_property_ack_steps}
 use Rattle.bac_field_parts.specs.Symbols.{Symbol, finished, IsMessage, the_octet, the_number, no_number, no_octets, number_said, end_said, steps_said, field_said}
 use Rattle.bac_field_parts.specs.Fields.{Step, next, aside, pass, held_field, word, item_steps, closing_field}
-use Rattle.std.proofs.Common.{ap, sym, ◌∙◌, append_assoc}
-use Rattle.std.specs.Option.{option_map}
+use Rattle.std.proofs.Common.{ap, sym, ◌∙◌, append_assoc, inl, inr}
 use Rattle.std.specs.List.{flat_map}
 use Rattle.bac_tag.specs.declared.heads.TagHead.TheVariants.{Open, Close}
-use Rattle.bac_service.specs.Productions.{Head, Items}
 use Rattle.bac_service.specs.ReadAccessSpecification.{Specification, SpellsSpecification}
-use Rattle.bac_service.specs.declared.services.property_reference.PropertyReference.{PropertyReference}
+use Rattle.bac_service.specs.declared.service.property_reference.PropertyReference.{PropertyReference}
 use Rattle.bac_service.specs.PropertyReference.{SpellsPropertyReference}
-use Rattle.bac_service.specs.declared.services.property_value.PropertyValue.{PropertyValue}
+use Rattle.bac_service.specs.declared.service.property_value.PropertyValue.{PropertyValue}
 use Rattle.bac_service.specs.PropertyValue.{SpellsPropertyValue}
 use Rattle.bac_service.specs.WriteAccessSpecification.{WriteSpecification, SpellsWriteSpecification}
 use Rattle.bac_fields.specs.WritePropertyMultipleFields.{write_specification_steps, write_multiple_steps}
-use Rattle.std.specs.Prelude.{◌⊎◌}
-use Rattle.std.proofs.Common.{inl, inr}
-use Rattle.bac_tag.specs.Spelling.{OneOf}
-use Rattle.bac_service.specs.Productions.{Grouped}
-use Rattle.bac_service.specs.declared.services.error_cause.ErrorCause.{ErrorCause}
+use Rattle.bac_service.specs.declared.service.error_cause.ErrorCause.{ErrorCause}
 use Rattle.bac_service.specs.ErrorCause.{SpellsErrorCause}
-use Rattle.bac_service.specs.declared.services.property_result.ReadResult.{ReadResult}
-use Rattle.bac_service.specs.declared.services.property_result.ReadResult.TheVariants.{Value, Error}
-use Rattle.bac_service.specs.declared.services.property_result.PropertyResult.{PropertyResult}
+use Rattle.bac_service.specs.declared.service.property_result.ReadResult.{ReadResult}
+use Rattle.bac_service.specs.declared.service.property_result.ReadResult.TheVariants.{Value, Error}
+use Rattle.bac_service.specs.declared.service.property_result.PropertyResult.{PropertyResult}
 use Rattle.bac_service.specs.PropertyResult.{SpellsReadResult, SpellsPropertyResult, read_result_of}
 use Rattle.bac_service.specs.ReadAccessResult.{AccessResult, SpellsAccessResult}
 use Rattle.bac_field_parts.specs.Laws.Parts.{either_said}
 use Rattle.bac_fields.specs.PropertyFields.{reference_steps, property_value_steps, property_result_steps, error_steps}
 use Rattle.bac_fields.specs.ReadPropertyMultipleFields.{specification_steps, read_multiple_steps, access_result_steps, read_multiple_ack_steps}
-use Rattle.std.specs.Prelude.{Bool}
 use Rattle.bac_value.specs.declared.types.boolean_value.Boolean.{Boolean as BooleanType}
 use Rattle.bac_service.specs.Laws.SubscribeCov.{BitField, bit_of, boolean_of, subscribe_cov_of, subscribe_cov_alike}
-use Rattle.bac_field_parts.specs.PrimitiveFields.{truth, number_under}
 use Rattle.bac_field_parts.specs.Laws.Messages.{Alike, first_part, last_part, second_alike, then_alike, grouped_first}
 use Rattle.bac_data.specs.OpenValue.{Elements}
 use Rattle.bac_data.specs.Spells.{SpellsOpen}
-use Rattle.bac_service.specs.declared.services.read_property_ack.ReadPropertyAck.{ReadPropertyAck}
-use Rattle.bac_service.specs.declared.services.write_property.WriteProperty.{WriteProperty}
-use Rattle.bac_service.specs.declared.services.subscribe_cov.SubscribeCov.{SubscribeCov}
-use Rattle.bac_service.specs.declared.services.who_is.WhoIs.{WhoIs}
-use Rattle.bac_service.specs.declared.services.i_am.IAm.{IAm}
+use Rattle.bac_service.specs.declared.service.read_property_ack.ReadPropertyAck.{ReadPropertyAck}
+use Rattle.bac_service.specs.declared.service.write_property.WriteProperty.{WriteProperty}
+use Rattle.bac_service.specs.declared.service.subscribe_cov.SubscribeCov.{SubscribeCov}
+use Rattle.bac_service.specs.declared.service.who_is.WhoIs.{WhoIs}
+use Rattle.bac_service.specs.declared.service.i_am.IAm.{IAm}
 use Rattle.bac_service.specs.ReadPropertyAck.{SpellsReadPropertyAck}
 use Rattle.bac_service.specs.WriteProperty.{SpellsWriteProperty}
 use Rattle.bac_service.specs.SubscribeCov.{SpellsSubscribeCov}
 use Rattle.bac_service.specs.WhoIs.{SpellsWhoIs}
 use Rattle.bac_service.specs.IAm.{SpellsIAm}
-use Rattle.bac_service.specs.Contents.{PriorityField, InstanceField, ApplicationObject, ApplicationUnsigned, ApplicationUnsigned16}
-use Rattle.bac_service.specs.Laws.Parts.{ApplicationEnumeratedPart}
 use Rattle.bac_field_parts.specs.OpenValueFields.{open_steps}
-use Rattle.bac_fields.specs.ReadPropertyFields.{read_property_ack_steps}
 use Rattle.bac_fields.specs.WritePropertyFields.{write_property_steps}
 use Rattle.bac_fields.specs.SubscribeCovFields.{subscribe_cov_steps}
 use Rattle.bac_fields.specs.WhoIsFields.{who_is_steps}

@@ -4,8 +4,7 @@ use Rattle.std.specs.Map.{lookup}
 use Rattle.std.proofs.Common.{sym, ◌∙◌, ap, subst, eqb-true}
 use Rattle.bac_tag.specs.Spelling.{Joins, EndsItself}
 use Rattle.bac_service.specs.ServiceTable.{ServiceProduction, read_property, read_property_ack, read_property_multiple, read_property_multiple_ack, write_property, write_property_multiple, write_property_multiple_error, who_is, i_am, subscribe_cov, cov_notification, service_error, rows, production_of}
-use Rattle.bac_service.specs.ServiceValues.{SaidBy, Said, typed, opaque}
-use Rattle.bac_service.specs.Services.{SpellsBy, SpellsSaid, SpellsService}
+use Rattle.bac_service.specs.Services.{SaidBy, Said, typed, opaque, SpellsBy, SpellsSaid, SpellsService}
 use Rattle.bac_service.specs.Laws.Service.{spelled_as}
 use Rattle.bac_service.specs.declared.kind.Kind.{Kind}
 use Rattle.bac_service.specs.declared.kind.Kind.TheVariants.{Confirmed, Unconfirmed, ComplexAck, Error}

@@ -11,7 +11,7 @@ use bac_field_parts::{Field, Name};
 use bac_tag::OutOfMemory;
 
 impl HasFields for ComplexAck {
-    ghost use Rattle.bac_service.specs.ServiceValues.{value_of as service_of};
+    ghost use Rattle.bac_service.specs.Services.{value_of as service_of};
     ghost use Rattle.bac_fields.specs.ApduFields.{complex_ack_steps};
 
     ghost steps = { λ ack. complex_ack_steps ack.invoke (service_of ack.service) };

@@ -12,7 +12,7 @@ use bac_field_parts::{Field, Name};
 use bac_tag::OutOfMemory;
 
 impl HasFields for ConfirmedRequest {
-    ghost use Rattle.bac_service.specs.ServiceValues.{value_of as service_of};
+    ghost use Rattle.bac_service.specs.Services.{value_of as service_of};
     ghost use Rattle.bac_fields.specs.ApduFields.{confirmed_request_steps};
 
     ghost steps = { λ request. confirmed_request_steps request.head (service_of request.service) };

@@ -11,7 +11,7 @@ use bac_field_parts::{Field, Name};
 use bac_tag::OutOfMemory;
 
 impl HasFields for ErrorPdu {
-    ghost use Rattle.bac_service.specs.ServiceValues.{value_of as service_of};
+    ghost use Rattle.bac_service.specs.Services.{value_of as service_of};
     ghost use Rattle.bac_fields.specs.ApduFields.{error_pdu_steps};
 
     ghost steps = { λ answer. error_pdu_steps answer.invoke (service_of answer.service) };

@@ -11,7 +11,7 @@ use bac_field_parts::{Field, Name};
 use bac_tag::OutOfMemory;
 
 impl HasFields for UnconfirmedRequest {
-    ghost use Rattle.bac_service.specs.ServiceValues.{value_of as service_of};
+    ghost use Rattle.bac_service.specs.Services.{value_of as service_of};
     ghost use Rattle.bac_fields.specs.ApduFields.{unconfirmed_request_steps};
 
     ghost steps = { λ request. unconfirmed_request_steps (service_of request) };

@@ -25,7 +25,7 @@ use bac_value::layers::Unsigned32;
 struct Word(bool);
 
 impl HasFields for Word {
-    ghost use Rattle.bac_service.specs.ServiceValues.{notification_kind};
+    ghost use Rattle.bac_service.specs.Services.{notification_kind};
 
     ghost steps = { λ word. next (notification_field (notification_kind word.0)) ∷ [] };
 
@@ -41,7 +41,7 @@ impl HasFields for Word {
 
 impl HasFields for CovNotification {
     ghost use Rattle.bac_service.specs.CovNotification.{notification_of};
-    ghost use Rattle.bac_service.specs.ServiceValues.{notification_kind};
+    ghost use Rattle.bac_service.specs.Services.{notification_kind};
     ghost use Rattle.bac_fields.specs.CovNotificationFields.{notification_steps};
 
     ghost steps = { λ notification. notification_steps (notification_kind notification.confirmed) (notification_of notification) };

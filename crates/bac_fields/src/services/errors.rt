@@ -13,7 +13,7 @@ pub(crate) struct ErrorService;
 
 impl FromFields for ErrorService {
     ghost use Rattle.std.specs.Prelude.{true, Some, ◌∷◌, []};
-    ghost use Rattle.bac_service.specs.ServiceValues.{ServiceValue};
+    ghost use Rattle.bac_service.specs.Services.{ServiceValue};
     ghost use Rattle.bac_service.specs.declared.kind.Kind.TheVariants.{Error};
     ghost use Rattle.bac_fields.specs.ServiceSymbols.{service_said, SpellsAfterHead};
     ghost use Rattle.bac_fields.specs.Laws.Errors.{error_lawful};

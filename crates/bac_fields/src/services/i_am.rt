@@ -33,7 +33,7 @@ impl HasFields for IAm {
 pub(crate) struct IAmFields;
 
 impl Message for IAmFields {
-    ghost use Rattle.bac_service.specs.declared.services.i_am.IAm.{IAm};
+    ghost use Rattle.bac_service.specs.declared.service.i_am.IAm.{IAm};
     ghost use Rattle.bac_service.specs.IAm.{SpellsIAm};
     ghost use Rattle.bac_field_parts.specs.declared.names.Name.TheVariants as name;
     ghost use Rattle.bac_fields.specs.Laws.ServiceMessages.{SpellsChosen, i_am_said, i_am_message};

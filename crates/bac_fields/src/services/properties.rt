@@ -139,7 +139,7 @@ impl HasFields for PropertyValue {
 pub(crate) struct ReferenceFields;
 
 impl Message for ReferenceFields {
-    ghost use Rattle.bac_service.specs.declared.services.property_reference.PropertyReference.{PropertyReference};
+    ghost use Rattle.bac_service.specs.declared.service.property_reference.PropertyReference.{PropertyReference};
     ghost use Rattle.bac_service.specs.PropertyReference.{SpellsPropertyReference};
     ghost use Rattle.bac_field_parts.specs.declared.names.Name.TheVariants as name;
     ghost use Rattle.bac_fields.specs.Laws.ServiceMessages.{reference_said, reference_message};
@@ -175,7 +175,7 @@ impl Message for ReferenceFields {
 pub(crate) struct ValueFields;
 
 impl Message for ValueFields {
-    ghost use Rattle.bac_service.specs.declared.services.property_value.PropertyValue.{PropertyValue};
+    ghost use Rattle.bac_service.specs.declared.service.property_value.PropertyValue.{PropertyValue};
     ghost use Rattle.bac_service.specs.PropertyValue.{SpellsPropertyValue};
     ghost use Rattle.bac_field_parts.specs.declared.names.Name.TheVariants as name;
     ghost use Rattle.bac_fields.specs.Laws.ServiceMessages.{value_said, value_message};
@@ -219,7 +219,7 @@ impl Message for ValueFields {
 pub(crate) struct CauseFields;
 
 impl Message for CauseFields {
-    ghost use Rattle.bac_service.specs.declared.services.error_cause.ErrorCause.{ErrorCause};
+    ghost use Rattle.bac_service.specs.declared.service.error_cause.ErrorCause.{ErrorCause};
     ghost use Rattle.bac_service.specs.ErrorCause.{SpellsErrorCause};
     ghost use Rattle.bac_service.specs.Productions.{Grouped};
     ghost use Rattle.bac_field_parts.specs.declared.names.Name.TheVariants as name;
@@ -259,7 +259,7 @@ impl Message for CauseFields {
 pub(crate) struct ResultFields;
 
 impl Message for ResultFields {
-    ghost use Rattle.bac_service.specs.declared.services.property_result.PropertyResult.{PropertyResult};
+    ghost use Rattle.bac_service.specs.declared.service.property_result.PropertyResult.{PropertyResult};
     ghost use Rattle.bac_service.specs.PropertyResult.{SpellsPropertyResult};
     ghost use Rattle.bac_field_parts.specs.declared.names.Name.TheVariants as name;
     ghost use Rattle.bac_fields.specs.Laws.ServiceMessages.{result_said, result_message};
@@ -296,7 +296,7 @@ impl Message for ResultFields {
 
 impl FromFields for ReferenceFields {
     ghost use Rattle.std.specs.Prelude.{true, false, ◌∷◌, [], Some};
-    ghost use Rattle.bac_service.specs.declared.services.property_reference.PropertyReference.{PropertyReference};
+    ghost use Rattle.bac_service.specs.declared.service.property_reference.PropertyReference.{PropertyReference};
     ghost use Rattle.bac_service.specs.PropertyReference.{SpellsPropertyReference};
     ghost use Rattle.bac_fields.specs.Laws.ServiceMessages.{reference_said};
     ghost use Rattle.bac_fields.specs.Laws.Items.{reference_lawful};
@@ -328,7 +328,7 @@ impl FromFields for ReferenceFields {
 
 impl FromFields for CauseFields {
     ghost use Rattle.std.specs.Prelude.{true, false, ◌∷◌, [], Some};
-    ghost use Rattle.bac_service.specs.declared.services.error_cause.ErrorCause.{ErrorCause};
+    ghost use Rattle.bac_service.specs.declared.service.error_cause.ErrorCause.{ErrorCause};
     ghost use Rattle.bac_service.specs.ErrorCause.{SpellsErrorCause};
     ghost use Rattle.bac_service.specs.Productions.{Grouped};
     ghost use Rattle.bac_fields.specs.Laws.ServiceMessages.{cause_said};
@@ -361,7 +361,7 @@ impl FromFields for CauseFields {
 
 impl FromFields for ResultFields {
     ghost use Rattle.std.specs.Prelude.{true, false, ◌∷◌, [], Some};
-    ghost use Rattle.bac_service.specs.declared.services.property_result.PropertyResult.{PropertyResult};
+    ghost use Rattle.bac_service.specs.declared.service.property_result.PropertyResult.{PropertyResult};
     ghost use Rattle.bac_service.specs.PropertyResult.{SpellsPropertyResult};
     ghost use Rattle.bac_fields.specs.Laws.ServiceMessages.{result_said};
     ghost use Rattle.bac_fields.specs.Laws.Items.{result_lawful};
@@ -393,7 +393,7 @@ impl FromFields for ResultFields {
 
 impl FromFields for ValueFields {
     ghost use Rattle.std.specs.Prelude.{true, false, ◌∷◌, [], Some};
-    ghost use Rattle.bac_service.specs.declared.services.property_value.PropertyValue.{PropertyValue};
+    ghost use Rattle.bac_service.specs.declared.service.property_value.PropertyValue.{PropertyValue};
     ghost use Rattle.bac_service.specs.PropertyValue.{SpellsPropertyValue};
     ghost use Rattle.bac_fields.specs.Laws.ServiceMessages.{value_said};
     ghost use Rattle.bac_fields.specs.Laws.Items.{value_lawful};

@@ -36,7 +36,7 @@ impl HasFields for ReadProperty {
 pub(crate) struct ReadPropertyFields;
 
 impl Message for ReadPropertyFields {
-    ghost use Rattle.bac_service.specs.declared.services.read_property.ReadProperty.{ReadProperty};
+    ghost use Rattle.bac_service.specs.declared.service.read_property.ReadProperty.{ReadProperty};
     ghost use Rattle.bac_service.specs.ReadProperty.{SpellsReadProperty};
     ghost use Rattle.bac_field_parts.specs.declared.names.Name.TheVariants as name;
     ghost use Rattle.bac_fields.specs.Laws.ServiceMessages.{SpellsChosen, read_property_said, read_property_message};
@@ -91,7 +91,7 @@ impl HasFields for ReadPropertyAck {
 pub(crate) struct ReadPropertyAckFields;
 
 impl Message for ReadPropertyAckFields {
-    ghost use Rattle.bac_service.specs.declared.services.read_property_ack.ReadPropertyAck.{ReadPropertyAck};
+    ghost use Rattle.bac_service.specs.declared.service.read_property_ack.ReadPropertyAck.{ReadPropertyAck};
     ghost use Rattle.bac_service.specs.ReadPropertyAck.{SpellsReadPropertyAck};
     ghost use Rattle.bac_field_parts.specs.declared.names.Name.TheVariants as name;
     ghost use Rattle.bac_fields.specs.Laws.ServiceMessages.{SpellsChosen, read_property_ack_said, read_property_ack_message};

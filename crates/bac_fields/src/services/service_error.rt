@@ -81,7 +81,7 @@ impl Form for CauseChoice {
 pub(crate) struct ServiceErrorFields;
 
 impl Message for ServiceErrorFields {
-    ghost use Rattle.bac_service.specs.declared.services.error_cause.ErrorCause.{ErrorCause};
+    ghost use Rattle.bac_service.specs.declared.service.error_cause.ErrorCause.{ErrorCause};
     ghost use Rattle.bac_fields.specs.Laws.ErrorMessages.{SpellsServiceError, service_error_said, service_error_message};
 
     type Parts = (

@@ -44,7 +44,7 @@ impl HasFields for SubscribeCov {
 pub(crate) struct SubscribeCovFields;
 
 impl Message for SubscribeCovFields {
-    ghost use Rattle.bac_service.specs.declared.services.subscribe_cov.SubscribeCov.{SubscribeCov};
+    ghost use Rattle.bac_service.specs.declared.service.subscribe_cov.SubscribeCov.{SubscribeCov};
     ghost use Rattle.bac_service.specs.SubscribeCov.{SpellsSubscribeCov};
     ghost use Rattle.bac_field_parts.specs.declared.names.Name.TheVariants as name;
     ghost use Rattle.bac_fields.specs.Laws.ServiceMessages.{SpellsChosen, subscribe_cov_said, subscribe_cov_message};

@@ -14,7 +14,7 @@ pub(crate) struct UnconfirmedService;
 
 impl FromFields for UnconfirmedService {
     ghost use Rattle.std.specs.Prelude.{true, refl};
-    ghost use Rattle.bac_service.specs.ServiceValues.{ServiceValue};
+    ghost use Rattle.bac_service.specs.Services.{ServiceValue};
     ghost use Rattle.bac_service.specs.declared.kind.Kind.TheVariants.{Unconfirmed};
     ghost use Rattle.bac_fields.specs.ServiceSymbols.{service_said, SpellsAfterHead, service_leads};
     ghost use Rattle.bac_fields.specs.Laws.Services.{service_lawful};

@@ -35,7 +35,7 @@ impl HasFields for WhoIs {
 pub(crate) struct WhoIsFields;
 
 impl Message for WhoIsFields {
-    ghost use Rattle.bac_service.specs.declared.services.who_is.WhoIs.{WhoIs};
+    ghost use Rattle.bac_service.specs.declared.service.who_is.WhoIs.{WhoIs};
     ghost use Rattle.bac_service.specs.WhoIs.{SpellsWhoIs};
     ghost use Rattle.bac_field_parts.specs.declared.names.Name.TheVariants as name;
     ghost use Rattle.bac_fields.specs.Laws.ServiceMessages.{SpellsChosen, who_is_said, who_is_message};

@@ -38,7 +38,7 @@ impl HasFields for WriteProperty {
 pub(crate) struct WritePropertyFields;
 
 impl Message for WritePropertyFields {
-    ghost use Rattle.bac_service.specs.declared.services.write_property.WriteProperty.{WriteProperty};
+    ghost use Rattle.bac_service.specs.declared.service.write_property.WriteProperty.{WriteProperty};
     ghost use Rattle.bac_service.specs.WriteProperty.{SpellsWriteProperty};
     ghost use Rattle.bac_field_parts.specs.declared.names.Name.TheVariants as name;
     ghost use Rattle.bac_fields.specs.Laws.ServiceMessages.{SpellsChosen, write_property_said, write_property_message};

@@ -141,7 +141,7 @@ impl Message for WriteMultipleFields {
 pub(crate) struct WriteErrorFields;
 
 impl Message for WriteErrorFields {
-    ghost use Rattle.bac_service.specs.declared.services.write_property_multiple_error.WritePropertyMultipleError.{WritePropertyMultipleError};
+    ghost use Rattle.bac_service.specs.declared.service.write_property_multiple_error.WritePropertyMultipleError.{WritePropertyMultipleError};
     ghost use Rattle.bac_service.specs.WritePropertyMultipleError.{SpellsWriteError};
     ghost use Rattle.bac_tag.specs.declared.heads.TagHead.TheVariants as tag;
     ghost use Rattle.bac_field_parts.specs.declared.names.Name.TheVariants as name;

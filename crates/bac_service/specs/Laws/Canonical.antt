@@ -12,8 +12,7 @@ use Rattle.bac_service.specs.declared.kind.Kind.{Kind}
 use Rattle.bac_service.specs.Leads.{Lead, disjoint}
 use Rattle.bac_service.specs.Productions.{Optional, Items, Grouped, IsRecordOf, Lawful, Head}
 use Rattle.bac_service.specs.ServiceTable.{ServiceProduction, production_of}
-use Rattle.bac_service.specs.ServiceValues.{opaque}
-use Rattle.bac_service.specs.Services.{SpellsService, IsServiceOf}
+use Rattle.bac_service.specs.Services.{opaque, SpellsService, IsServiceOf}
 use Rattle.bac_service.specs.Laws.Production.{sound_parts, not_empty, unique}
 use Rattle.bac_service.specs.Laws.Longest.{some_spelled, take_add}
 use Rattle.bac_service.specs.Laws.Least.{least_joined, least_alike, least_nothing, least_item}

@@ -9,8 +9,7 @@ use Rattle.bac_service.specs.Reasons.{IsServiceReason}
 use Rattle.bac_service.specs.Laws.Whole.{whole_alike}
 use Rattle.bac_service.specs.Laws.Least.{mark_alike}
 use Rattle.bac_service.specs.ServiceTable.{is_small}
-use Rattle.bac_service.specs.ServiceValues.{value_of}
-use Rattle.bac_service.specs.Services.{SpellsService, IsServiceOf}
+use Rattle.bac_service.specs.Services.{value_of, SpellsService, IsServiceOf}
 use Rattle.bac_service.specs.Decoded.{IsFound, IsRefused}
 
 -- what is found of a part is found of its service

@@ -5,7 +5,7 @@ use Rattle.std.proofs.Common.{ap, subst}
 use Rattle.bac_tag.specs.Spelling.{Joins, Joined, AppendsLeast}
 use Rattle.bac_value.specs.Identifier.{Identifier}
 use Rattle.bac_value.specs.declared.types.boolean_value.Boolean.{Boolean}
-use Rattle.bac_service.specs.declared.services.subscribe_cov.SubscribeCov.{SubscribeCov}
+use Rattle.bac_service.specs.declared.service.subscribe_cov.SubscribeCov.{SubscribeCov}
 use Rattle.bac_service.specs.Contents.{UnsignedField, ObjectField, BooleanField}
 use Rattle.bac_service.specs.Productions.{Optional, IsRecordOf}
 use Rattle.bac_service.specs.SubscribeCov.{SpellsSubscribeCov}

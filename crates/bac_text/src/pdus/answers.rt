@@ -30,7 +30,7 @@ pub(crate) fn write_simple_ack(
 
 /// `ack id=I` and the service.
 impl HasText for ComplexAck {
-    ghost use Rattle.bac_service.specs.ServiceValues.{value_of as service_of};
+    ghost use Rattle.bac_service.specs.Services.{value_of as service_of};
     ghost use Rattle.bac_text.specs.AnswerText.{complex_ack_text};
 
     ghost text = { λ ack. complex_ack_text ack.invoke (service_of ack.service) };
@@ -46,7 +46,7 @@ impl HasText for ComplexAck {
 
 /// `error id=I` and the error.
 impl HasText for ErrorPdu {
-    ghost use Rattle.bac_service.specs.ServiceValues.{value_of as service_of};
+    ghost use Rattle.bac_service.specs.Services.{value_of as service_of};
     ghost use Rattle.bac_text.specs.AnswerText.{error_text};
 
     ghost text = { λ answer. error_text answer.invoke (service_of answer.service) };

@@ -41,7 +41,7 @@ pub(crate) fn put_request_head<const N: usize>(
 
 /// `conf id=I sa=A segs=S resp=M` and the service.
 impl HasText for ConfirmedRequest {
-    ghost use Rattle.bac_service.specs.ServiceValues.{value_of as service_of};
+    ghost use Rattle.bac_service.specs.Services.{value_of as service_of};
     ghost use Rattle.bac_text.specs.RequestText.{confirmed_request_text};
 
     ghost text = { λ request. confirmed_request_text request.head (service_of request.service) };
@@ -57,7 +57,7 @@ impl HasText for ConfirmedRequest {
 
 /// `unconf` and the service.
 impl HasText for UnconfirmedRequest {
-    ghost use Rattle.bac_service.specs.ServiceValues.{value_of as service_of};
+    ghost use Rattle.bac_service.specs.Services.{value_of as service_of};
     ghost use Rattle.bac_text.specs.RequestText.{unconfirmed_request_text};
 
     ghost text = { λ request. unconfirmed_request_text (service_of request) };

@@ -2,8 +2,8 @@
 
 ghost use Rattle.std.specs.Prelude.{◌≡◌, ◌≤◌, ◌++◌, IfOk, OnErr, length, take};
 ghost use Rattle.bac_tag.specs.Octets.{Extends};
-ghost use Rattle.bac_service.specs.ServiceValues.{notification_kind};
-ghost use Rattle.bac_text.specs.CovNotificationText.{notification_name};
+ghost use Rattle.bac_service.specs.Services.{notification_kind};
+ghost use Rattle.bac_text.specs.ServiceText.{notification_name};
 
 use crate::texts::{HasText, ROOM, put_field, write_word};
 use bac_record::layers::{make_room, put_word};
@@ -29,8 +29,8 @@ fn write_name(out: &mut Vec<u8>, at: usize, confirmed: bool) -> Result<usize, Ou
 /// ` process=N device=O object=O remaining=N values=(..)`, with the value of each property.
 impl HasText for CovNotification {
     ghost use Rattle.bac_service.specs.CovNotification.{notification_of};
-    ghost use Rattle.bac_service.specs.ServiceValues.{notification_kind};
-    ghost use Rattle.bac_text.specs.CovNotificationText.{notification_text};
+    ghost use Rattle.bac_service.specs.Services.{notification_kind};
+    ghost use Rattle.bac_text.specs.ServiceText.{notification_text};
 
     ghost text = { λ notification. notification_text (notification_kind notification.confirmed) (notification_of notification) };
 

@@ -5,7 +5,7 @@ use bac_service::IAm;
 
 /// `I-Am object=O apdu=N segmentation=N vendor=N`.
 impl HasShortText for IAm {
-    ghost use Rattle.bac_text.specs.IAmText.{i_am_text};
+    ghost use Rattle.bac_text.specs.ServiceText.{i_am_text};
 
     ghost text = { i_am_text };
 

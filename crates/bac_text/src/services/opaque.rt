@@ -2,7 +2,7 @@
 
 ghost use Rattle.std.specs.Prelude.{◌≡◌, ◌≤◌, ◌++◌, IfOk, OnErr, length, take};
 ghost use Rattle.bac_tag.specs.Octets.{Extends};
-ghost use Rattle.bac_text.specs.OpaqueText.{choice_name};
+ghost use Rattle.bac_text.specs.ServiceText.{choice_name};
 
 use crate::scalars::write_octets;
 use crate::texts::{HasText, write_short, write_word};
@@ -25,7 +25,7 @@ fn write_choice_name(out: &mut Vec<u8>, at: usize, kind: Kind) -> Result<usize, 
 
 /// `opaque choice=C octets=HEX`; for an error `choice=C octets=HEX`.
 impl HasText for Opaque {
-    ghost use Rattle.bac_text.specs.OpaqueText.{opaque_text};
+    ghost use Rattle.bac_text.specs.ServiceText.{opaque_text};
 
     ghost text = { λ service. opaque_text service.kind service.choice service.octets };
 

@@ -8,7 +8,7 @@ use bac_tag::OutOfMemory;
 
 /// `ReadProperty object=O property=N [index=N]`.
 impl HasShortText for ReadProperty {
-    ghost use Rattle.bac_text.specs.ReadPropertyText.{read_property_text};
+    ghost use Rattle.bac_text.specs.ServiceText.{read_property_text};
 
     ghost text = { read_property_text };
 
@@ -23,7 +23,7 @@ impl HasShortText for ReadProperty {
 
 /// `ReadProperty object=O property=N [index=N] value=V`.
 impl HasText for ReadPropertyAck {
-    ghost use Rattle.bac_text.specs.ReadPropertyText.{read_property_ack_text};
+    ghost use Rattle.bac_text.specs.ServiceText.{read_property_ack_text};
 
     ghost text = { read_property_ack_text };
 

@@ -10,7 +10,7 @@ use bac_tag::OutOfMemory;
 /// `(object=O properties=(..))`, with a property for each reference.
 impl HasText for ReadAccessSpecification {
     ghost use Rattle.bac_service.specs.ReadAccessSpecification.{specification_of};
-    ghost use Rattle.bac_text.specs.ReadPropertyMultipleText.{specification_text};
+    ghost use Rattle.bac_text.specs.ServiceText.{specification_text};
 
     ghost text = { λ specification. specification_text (specification_of specification) };
 
@@ -25,7 +25,7 @@ impl HasText for ReadAccessSpecification {
 impl HasText for ReadPropertyMultiple {
     ghost use Rattle.std.specs.Prelude.{map};
     ghost use Rattle.bac_service.specs.ReadAccessSpecification.{specification_of};
-    ghost use Rattle.bac_text.specs.ReadPropertyMultipleText.{read_multiple_text};
+    ghost use Rattle.bac_text.specs.ServiceText.{read_multiple_text};
 
     ghost text = { λ request. read_multiple_text (map specification_of request.specs.items) };
 
@@ -37,7 +37,7 @@ impl HasText for ReadPropertyMultiple {
 /// `(object=O [results=(..)])`, with what reading each property gave.
 impl HasText for ReadAccessResult {
     ghost use Rattle.bac_service.specs.ReadAccessResult.{access_result_of};
-    ghost use Rattle.bac_text.specs.ReadPropertyMultipleText.{access_result_text};
+    ghost use Rattle.bac_text.specs.ServiceText.{access_result_text};
 
     ghost text = { λ result. access_result_text (access_result_of result) };
 
@@ -52,7 +52,7 @@ impl HasText for ReadAccessResult {
 impl HasText for ReadPropertyMultipleAck {
     ghost use Rattle.std.specs.Prelude.{map};
     ghost use Rattle.bac_service.specs.ReadAccessResult.{access_result_of};
-    ghost use Rattle.bac_text.specs.ReadPropertyMultipleText.{read_multiple_ack_text};
+    ghost use Rattle.bac_text.specs.ServiceText.{read_multiple_ack_text};
 
     ghost text = { λ ack. read_multiple_ack_text (map access_result_of ack.results.items) };
 

@@ -6,7 +6,7 @@ use bac_service::ServiceError;
 
 /// `choice=C class=N code=N`.
 impl HasShortText for ServiceError {
-    ghost use Rattle.bac_text.specs.ServiceErrorText.{service_error_text};
+    ghost use Rattle.bac_text.specs.ServiceText.{service_error_text};
 
     ghost text = { λ error. service_error_text error.choice error.cause };
 

@@ -5,7 +5,7 @@ use bac_service::SubscribeCov;
 
 /// `SubscribeCOV process=N object=O [confirmed=B] [lifetime=N]`.
 impl HasShortText for SubscribeCov {
-    ghost use Rattle.bac_text.specs.SubscribeCovText.{subscribe_cov_text};
+    ghost use Rattle.bac_text.specs.ServiceText.{subscribe_cov_text};
 
     ghost text = { subscribe_cov_text };
 

@@ -6,7 +6,7 @@ use bac_service::WhoIs;
 
 /// `Who-Is [low=N high=N]`.
 impl HasShortText for WhoIs {
-    ghost use Rattle.bac_text.specs.WhoIsText.{who_is_text};
+    ghost use Rattle.bac_text.specs.ServiceText.{who_is_text};
 
     ghost text = { who_is_text };
 

@@ -8,7 +8,7 @@ use bac_tag::OutOfMemory;
 
 /// `WriteProperty object=O property=N [index=N] value=V [priority=N]`.
 impl HasText for WriteProperty {
-    ghost use Rattle.bac_text.specs.WritePropertyText.{write_property_text};
+    ghost use Rattle.bac_text.specs.ServiceText.{write_property_text};
 
     ghost text = { write_property_text };
 

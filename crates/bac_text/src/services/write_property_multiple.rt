@@ -8,7 +8,7 @@ use bac_tag::OutOfMemory;
 /// `(object=O values=(..))`, with the value of each property.
 impl HasText for WriteAccessSpecification {
     ghost use Rattle.bac_service.specs.WriteAccessSpecification.{write_specification_of};
-    ghost use Rattle.bac_text.specs.WritePropertyMultipleText.{write_specification_text};
+    ghost use Rattle.bac_text.specs.ServiceText.{write_specification_text};
 
     ghost text = { λ specification. write_specification_text (write_specification_of specification) };
 
@@ -23,7 +23,7 @@ impl HasText for WriteAccessSpecification {
 impl HasText for WritePropertyMultiple {
     ghost use Rattle.std.specs.Prelude.{map};
     ghost use Rattle.bac_service.specs.WriteAccessSpecification.{write_specification_of};
-    ghost use Rattle.bac_text.specs.WritePropertyMultipleText.{write_multiple_text};
+    ghost use Rattle.bac_text.specs.ServiceText.{write_multiple_text};
 
     ghost text = { λ request. write_multiple_text (map write_specification_of request.specs.items) };
 
@@ -34,7 +34,7 @@ impl HasText for WritePropertyMultiple {
 
 /// `choice=16 class=N code=N object=O property=N [index=N]`.
 impl HasShortText for WritePropertyMultipleError {
-    ghost use Rattle.bac_text.specs.WritePropertyMultipleText.{write_error_text};
+    ghost use Rattle.bac_text.specs.ServiceText.{write_error_text};
 
     ghost text = { write_error_text };
 

@@ -1,7 +1,7 @@
 use Rattle.std.specs.Prelude.{◌<◌, ℕ, slice_index, refl}
 use Rattle.std.proofs.Common.{arith}
 use Rattle.std.proofs.lemmas.Result.{err_from_is_err_and}
-use Rattle.bac_service.specs.ServiceValues.{value_of as service_of}
+use Rattle.bac_service.specs.Services.{value_of as service_of}
 use Rattle.bac_apdu.proofs.ComplexAckLemmas.{complex_ack_short, complex_ack_refused, complex_ack_found}
 use Rattle.bac_apdu.proofs.complex_ack.decode_complex_ack.Goals as goal
 

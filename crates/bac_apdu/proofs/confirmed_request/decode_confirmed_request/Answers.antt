@@ -2,7 +2,7 @@ use Rattle.std.specs.Prelude.{◌<◌, ℕ, List, slice_index, refl}
 use Rattle.std.proofs.Common.{sym, subst, arith}
 use Rattle.std.proofs.lemmas.Result.{err_from_is_err_and}
 use Rattle.bac_service.specs.declared.kind.Kind.TheVariants.{Confirmed}
-use Rattle.bac_service.specs.ServiceValues.{value_of as service_of}
+use Rattle.bac_service.specs.Services.{value_of as service_of}
 use Rattle.bac_apdu.specs.Decoded.{IsServiceBehind, IsRefusedBehind}
 use Rattle.bac_apdu.proofs.ConfirmedRequestLemmas.{SaysHead, least_at, confirmed_request_short, confirmed_request_refused, confirmed_request_found}
 use Rattle.bac_apdu.proofs.confirmed_request.decode_confirmed_request.Goals as goal

@@ -1,7 +1,7 @@
 use Rattle.std.specs.Prelude.{◌<◌, ℕ, slice_index, refl}
 use Rattle.std.proofs.Common.{arith}
 use Rattle.std.proofs.lemmas.Result.{err_from_is_err_and}
-use Rattle.bac_service.specs.ServiceValues.{value_of as service_of}
+use Rattle.bac_service.specs.Services.{value_of as service_of}
 use Rattle.bac_apdu.proofs.ErrorPduLemmas.{error_short, error_refused, error_found}
 use Rattle.bac_apdu.proofs.error_pdu.decode_error_pdu.Goals as goal
 

@@ -2,7 +2,7 @@ use Rattle.std.proofs.Common.{◌≡◌, ◌<◌, ℕ, subst}
 use Rattle.bac_tag.specs.HeadOctets.{IsWindow}
 use Rattle.bac_service.specs.declared.kind.Kind.TheVariants.{Confirmed, Unconfirmed, ComplexAck, Error}
 use Rattle.bac_service.specs.declared.service.Service.{Service}
-use Rattle.bac_service.specs.ServiceValues.{value_of as service_of}
+use Rattle.bac_service.specs.Services.{value_of as service_of}
 use Rattle.bac_apdu.proofs.HeldLemmas.{HeldService, RequestFits, held_confirmed, held_unconfirmed, held_complex_ack, held_error, held_simple_ack, held_segment_ack, held_reject, held_abort}
 use Rattle.bac_apdu.proofs.laws.held_apdus_have_canonical_octets.Goals as goal
 

@@ -4,8 +4,7 @@ use Rattle.bac_tag.specs.Spelling.{IsViable}
 use Rattle.bac_service.specs.declared.kind.Kind.{Kind}
 use Rattle.bac_service.specs.Productions.{IsInhabited}
 use Rattle.bac_service.specs.ServiceTable.{ServiceProduction, production_of}
-use Rattle.bac_service.specs.ServiceValues.{typed, opaque}
-use Rattle.bac_service.specs.Services.{SpellsBy, SpellsService}
+use Rattle.bac_service.specs.Services.{typed, opaque, SpellsBy, SpellsService}
 use Rattle.bac_service.specs.Laws.Service.{spelled_as}
 use Rattle.bac_service.proofs.laws.each_choice_has_a_service.Goals as goal
 

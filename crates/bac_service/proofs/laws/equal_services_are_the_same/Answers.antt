@@ -1,6 +1,6 @@
 use Rattle.std.proofs.Common.{◌≡◌, sym, subst, ◌∙◌}
 use Rattle.std.specs.Bool.{Decides}
-use Rattle.bac_service.specs.ServiceValues.{value_of}
+use Rattle.bac_service.specs.Services.{value_of}
 use Rattle.bac_service.proofs.SameLemmas.{same_service, service_is, services_tell}
 use Rattle.bac_service.proofs.laws.equal_services_are_the_same.Goals as goal
 

@@ -1,7 +1,7 @@
 use Rattle.std.proofs.lemmas.Result.{err_from_is_err_and}
 use Rattle.bac_service.specs.CovNotification.{notification_of}
 use Rattle.bac_service.specs.ServiceTable.{cov_notification}
-use Rattle.bac_service.specs.ServiceValues.{notification_kind, notification_choice}
+use Rattle.bac_service.specs.Services.{notification_kind, notification_choice}
 use Rattle.bac_service.specs.Laws.Service.{spelled_as, serves, notification_fits, notification_production, notification_large}
 use Rattle.bac_service.specs.Laws.Decoded.{found_as, refused_as}
 use Rattle.bac_service.proofs.named.decode_notification.Goals as goal

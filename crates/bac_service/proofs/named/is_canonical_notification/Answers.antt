@@ -1,5 +1,5 @@
 use Rattle.bac_service.specs.ServiceTable.{cov_notification}
-use Rattle.bac_service.specs.ServiceValues.{notification_kind, notification_choice}
+use Rattle.bac_service.specs.Services.{notification_kind, notification_choice}
 use Rattle.bac_service.specs.Laws.Service.{serves, notification_fits, notification_production}
 use Rattle.bac_service.specs.Laws.Canonical.{canonical_service}
 use Rattle.bac_service.proofs.named.is_canonical_notification.Goals as goal

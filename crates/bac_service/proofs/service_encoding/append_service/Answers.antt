@@ -1,5 +1,5 @@
 use Rattle.std.proofs.lemmas.Result.{on_ok_weaker}
-use Rattle.bac_service.specs.ServiceValues.{value_of}
+use Rattle.bac_service.specs.Services.{value_of}
 use Rattle.bac_service.specs.Laws.Service.{appends_service}
 use Rattle.bac_service.proofs.service_encoding.append_service.Goals as goal
 

@@ -2,7 +2,7 @@ use Rattle.std.specs.Prelude.{◌≡◌, ◌<◌, ◌+◌, ◌*◌, ℕ, [], ◌
 use Rattle.std.proofs.Common.{sym, ap, subst, ◌∙◌, arith}
 use Rattle.std.proofs.lemmas.Result.{on_ok_weaker}
 use Rattle.bac_service.specs.declared.kind.Kind.TheVariants.{Confirmed}
-use Rattle.bac_service.specs.ServiceValues.{value_of as service_of}
+use Rattle.bac_service.specs.Services.{value_of as service_of}
 use Rattle.bac_tag.specs.HeadOctets.{least_head}
 use Rattle.bac_apdu.specs.Apdus.{confirmed_request, head_of}
 use Rattle.bac_apdu.proofs.AppendingLemmas.{appends_behind}

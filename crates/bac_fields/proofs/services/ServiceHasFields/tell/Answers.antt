@@ -1,5 +1,5 @@
 use Rattle.std.proofs.Common.{sym, ap}
-use Rattle.bac_service.specs.ServiceValues.{value_of}
+use Rattle.bac_service.specs.Services.{value_of}
 use Rattle.bac_fields.specs.ServiceFields.{service_steps}
 use Rattle.bac_field_parts.proofs.FieldLemmas.{writes_same}
 use Rattle.bac_fields.proofs.services.ServiceHasFields.tell.Goals as goal

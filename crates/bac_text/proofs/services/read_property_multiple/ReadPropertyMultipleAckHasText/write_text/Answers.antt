@@ -1,7 +1,7 @@
 use Rattle.std.proofs.Common.{ap}
 use Rattle.bac_service.specs.ReadAccessResult.{access_result_of}
 use Rattle.bac_text.specs.Words.{field}
-use Rattle.bac_text.specs.ReadPropertyMultipleText.{access_result_text}
+use Rattle.bac_text.specs.ServiceText.{access_result_text}
 use Rattle.bac_text.proofs.TextLemmas.{same_text, listed-map}
 use Rattle.bac_text.proofs.services.read_property_multiple.ReadPropertyMultipleAckHasText.write_text.Goals as goal
 

@@ -1,7 +1,7 @@
 use Rattle.std.proofs.Common.{ap}
 use Rattle.bac_service.specs.ReadAccessSpecification.{specification_of}
 use Rattle.bac_text.specs.Words.{field}
-use Rattle.bac_text.specs.ReadPropertyMultipleText.{specification_text}
+use Rattle.bac_text.specs.ServiceText.{specification_text}
 use Rattle.bac_text.proofs.TextLemmas.{same_text, listed-map}
 use Rattle.bac_text.proofs.services.read_property_multiple.ReadPropertyMultipleHasText.write_text.Goals as goal
 

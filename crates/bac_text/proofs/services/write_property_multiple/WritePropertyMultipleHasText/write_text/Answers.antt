@@ -1,7 +1,7 @@
 use Rattle.std.proofs.Common.{ap}
 use Rattle.bac_service.specs.WriteAccessSpecification.{write_specification_of}
 use Rattle.bac_text.specs.Words.{field}
-use Rattle.bac_text.specs.WritePropertyMultipleText.{write_specification_text}
+use Rattle.bac_text.specs.ServiceText.{write_specification_text}
 use Rattle.bac_text.proofs.TextLemmas.{same_text, listed-map}
 use Rattle.bac_text.proofs.services.write_property_multiple.WritePropertyMultipleHasText.write_text.Goals as goal
 

@@ -1,0 +1,14 @@
+use Rattle.std.proofs.lemmas.List.{map-id}
+use Rattle.std.proofs.lemmas.Result.{on_ok_weaker}
+use Rattle.bac_service.specs.Laws.Least.{appends_joined, extends_more}
+use Rattle.bac_service.proofs.service.cov_notification.CovNotificationRecord.write_fields.Goals as goal
+
+pub returns-clause-ok : goal.returns-clause-ok
+returns-clause-ok c =
+    on_ok_weaker c.write_group.result (λ last. appends_joined (rw c.new.ensures at c.in_ok-write.ensures.ok) (appends_joined (rw c.new-2.ensures at c.in_ok-write-2.ensures.ok) (rw map-id at last))) c.write_group.ensures.ok
+
+pub returns-clause-kept : goal.returns-clause-kept
+returns-clause-kept c = extends_more _ _ _ c.in_ok-write.ensures.kept (extends_more _ _ _ c.in_ok-write-2.ensures.kept c.write_group.ensures.kept)
+
+pub returns-in_err-write-2-clause-kept : goal.returns-in_err-write-2-clause-kept
+returns-in_err-write-2-clause-kept c = extends_more _ _ _ c.in_ok-write.ensures.kept c.in_err-write-2.ensures.kept

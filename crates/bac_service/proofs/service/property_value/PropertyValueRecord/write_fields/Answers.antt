@@ -1,0 +1,16 @@
+use Rattle.std.proofs.lemmas.Result.{on_ok_weaker}
+use Rattle.bac_service.specs.Laws.Least.{appends_joined, extends_more}
+use Rattle.bac_service.proofs.service.property_value.PropertyValueRecord.write_fields.Goals as goal
+
+pub returns-clause-ok : goal.returns-clause-ok
+returns-clause-ok c =
+    on_ok_weaker c.write-3.result (λ last. appends_joined c.in_ok-write.ensures.ok (appends_joined (rw c.number_under.ensures at c.in_ok-write-2.ensures.ok) (appends_joined c.in_ok-write_open.ensures.ok (rw c.under.ensures at last)))) c.write-3.ensures.ok
+
+pub returns-clause-kept : goal.returns-clause-kept
+returns-clause-kept c = extends_more _ _ _ c.in_ok-write.ensures.kept (extends_more _ _ _ c.in_ok-write-2.ensures.kept (extends_more _ _ _ c.in_ok-write_open.ensures.kept c.write-3.ensures.kept))
+
+pub returns-in_err-write_open-clause-kept : goal.returns-in_err-write_open-clause-kept
+returns-in_err-write_open-clause-kept c = extends_more _ _ _ c.in_ok-write.ensures.kept (extends_more _ _ _ c.in_ok-write-2.ensures.kept c.in_err-write_open.ensures.kept)
+
+pub returns-in_err-write-2-clause-kept : goal.returns-in_err-write-2-clause-kept
+returns-in_err-write-2-clause-kept c = extends_more _ _ _ c.in_ok-write.ensures.kept c.in_err-write-2.ensures.kept

@@ -1,0 +1,4 @@
+use Rattle.bac_service.proofs.service.read_property_ack.ReadPropertyAckRecord.from_parts.Goals as goal
+
+pub returns : goal.returns
+returns c = λ b. rw c.bare_number.ensures (λ s. s, λ s. s)

@@ -1,4 +1,0 @@
-use Rattle.bac_service.proofs.services.property_reference.PropertyReferenceRecord.write_fields.Goals as goal
-
-pub returns-clause-ok : goal.returns-clause-ok
-returns-clause-ok c = rw c.number_under.ensures at c.write.ensures.ok

@@ -1,4 +1,0 @@
-use Rattle.bac_service.proofs.services.read_property.ReadPropertyRecord.from_parts.Goals as goal
-
-pub returns : goal.returns
-returns c = λ b. rw c.bare_number.ensures (λ s. s, λ s. s)

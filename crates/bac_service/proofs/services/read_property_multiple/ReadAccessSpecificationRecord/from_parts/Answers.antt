@@ -1,5 +1,0 @@
-use Rattle.std.proofs.lemmas.List.{map-id}
-use Rattle.bac_service.proofs.services.read_property_multiple.ReadAccessSpecificationRecord.from_parts.Goals as goal
-
-pub returns : goal.returns
-returns c = λ b. rw map-id (λ s. s, λ s. s)
