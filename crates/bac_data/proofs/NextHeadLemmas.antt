@@ -11,10 +11,10 @@ use Rattle.bac_value.specs.Laws.Variants.{begun_into}
 use Rattle.bac_value.specs.Laws.VariantsOfPrim.{null_variant, unsigned_variant, signed_variant, real_variant, double_variant, octets_variant, text_variant, bits_variant, enumerated_variant, date_variant, time_variant, object_id_variant}
 use Rattle.bac_value.specs.Laws.AnyOctets.{any_octets_lengths, any_octets_each_length}
 use Rattle.bac_value.specs.Laws.Null.{null_any_octets}
-use Rattle.bac_value.specs.Laws.Numbers.{number_lengths}
+use Rattle.bac_numbers.specs.Laws.Numbers.{number_lengths}
 use Rattle.bac_value.specs.Laws.Unsigned.{unsigned_each_length}
 use Rattle.bac_value.specs.Laws.Enumerated.{enumerated_each_length}
-use Rattle.bac_value.specs.Laws.Signed.{signed_lengths}
+use Rattle.bac_numbers.specs.Laws.Signed.{signed_lengths}
 use Rattle.bac_value.specs.Laws.SignedValues.{signed_each_length}
 use Rattle.bac_value.specs.Laws.Real.{real_any_octets}
 use Rattle.bac_value.specs.Laws.Double.{double_any_octets}

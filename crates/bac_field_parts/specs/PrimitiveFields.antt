@@ -2,8 +2,8 @@
 use Rattle.std.specs.Prelude.{ℕ, ◌+◌, ◌-◌, ◌*◌, ◌^◌, Bool, List, [], ◌∷◌, ◌++◌, length, if◌then◌else◌}
 use Rattle.std.specs.Int.{w64, cast_unsigned}
 use Rattle.bac_tag.specs.Writing.{narrow_head, narrow_opening}
-use Rattle.bac_value.specs.Numbers.{least_number}
-use Rattle.bac_value.specs.SignedContents.{least_signed}
+use Rattle.bac_numbers.specs.Numbers.{least_number}
+use Rattle.bac_numbers.specs.SignedContents.{least_signed}
 use Rattle.bac_value.specs.RealContents.{real_octets}
 use Rattle.bac_value.specs.DoubleContents.{double_octets}
 use Rattle.bac_value.specs.TextContents.{TextValue, text_octets}

@@ -8,7 +8,7 @@ use Rattle.bac_tag.specs.Heads.{Heads}
 use Rattle.bac_tag.specs.Spelling.{IsLeast}
 use Rattle.bac_tag.specs.Writing.{narrow_head, narrow_opening}
 use Rattle.bac_tag.proofs.WritingLemmas.{least_app, least_bool, least_ctx, least_open as least_opening, least_close as least_closing}
-use Rattle.bac_value.specs.Numbers.{NumberContents, least_number}
+use Rattle.bac_numbers.specs.Numbers.{NumberContents, least_number}
 use Rattle.bac_value.specs.Primitives.{IsTheList}
 use Rattle.bac_value.specs.Identifier.{Identifier, IsIdentifier, identifier_octets}
 use Rattle.bac_value.specs.BooleanContents.{IsBoolean, boolean_octets}
@@ -22,7 +22,7 @@ use Rattle.bac_value.specs.PrimContents.{application_number, IsPrim, prim_writte
 use Rattle.bac_value.specs.Laws.Primitives.{the_list_written, the_list_least}
 use Rattle.bac_value.specs.Laws.AnyOctets.{any_octets_lengths}
 use Rattle.bac_value.specs.Laws.Identifier.{identifier_any_octets}
-use Rattle.bac_value.specs.Laws.Numbers.{number_written_in, number_least}
+use Rattle.bac_numbers.specs.Laws.Numbers.{number_written_in, number_least}
 use Rattle.bac_value.specs.Laws.Prim.{prim_written_contents, prim_limit}
 use Rattle.bac_data.specs.OpenValue.{Elements}
 use Rattle.bac_data.specs.Spells.{SpellsOpen, SpellsPrimitive}

@@ -9,8 +9,8 @@ use Rattle.std.specs.contracts.option.Option as option
 use Rattle.bac_tag.specs.declared.heads.TagHead.TheVariants.{Open, Close}
 use Rattle.bac_tag.specs.Spelling.{Joins}
 use Rattle.bac_tag.proofs.WritingLemmas.{some_least}
-use Rattle.bac_value.specs.Numbers.{NumberContents, least_number}
-use Rattle.bac_value.specs.Laws.Numbers.{number_written_in, number_lengths}
+use Rattle.bac_numbers.specs.Numbers.{NumberContents, least_number}
+use Rattle.bac_numbers.specs.Laws.Numbers.{number_written_in, number_lengths}
 use Rattle.bac_value.specs.Primitives.{IsTheList}
 use Rattle.bac_value.specs.Identifier.{Identifier, IsIdentifier, identifier_octets}
 use Rattle.bac_value.specs.Laws.Identifier.{identifier_any_octets}

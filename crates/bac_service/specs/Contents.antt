@@ -1,7 +1,7 @@
 -- The contents of fields, by the types of their production (clause 21).
 use Rattle.std.specs.Prelude.{ℕ, ◌-◌, ◌^◌, Bool, Some, None, List}
 use Rattle.bac_value.specs.Primitives.{IsTheList}
-use Rattle.bac_value.specs.Numbers.{NumberContents}
+use Rattle.bac_numbers.specs.Numbers.{NumberContents}
 use Rattle.bac_value.specs.Identifier.{Identifier, IsIdentifier, identifier_octets}
 use Rattle.bac_value.specs.BooleanContents.{IsBoolean, boolean_octets}
 use Rattle.bac_value.specs.declared.types.enumeration.Enumerated.{Enumerated}

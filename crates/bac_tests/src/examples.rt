@@ -1,6 +1,7 @@
-//! The examples of the doc comments of bac_tag, bac_value and bac_data, with the same lines.
+//! The examples of the doc comments of bac_tag, bac_numbers, bac_value and bac_data, with the same lines.
 
 use bac_data::{AnyBuilder, Event, read_any, write_any};
+use bac_numbers::{mark_number, read_number, write_number};
 use bac_tag::{Refusal, TagHead, Why, head_len, read_head, write_head};
 use bac_value::{Boolean, Prim, PrimRef, Primitive, RealBits, Text, Unsigned};
 use std::test::Fail;
@@ -41,6 +42,23 @@ fn a_head_is_written(rt: HostRuntime) {
     let octets = [0xFD, 0x0F, 0xFE, 0x01, 0x2C];
     assert_eq!(rt; write_head(head).as_slice(), octets.as_slice());
     assert_eq!(rt; head_len(head), 5);
+}
+
+// Of the page of bac_numbers.
+#[test]
+fn numbers_are_read_and_written(rt: HostRuntime) -> Result<(), Fail> {
+    // An instance is at most 4,194,303. No contents of three octets begin with 40.
+    let found = read_number(&[0x3F, 0xFF, 0xFF], 0, 4_194_303);
+    assert_eq!(rt; found, Ok(4_194_303));
+    let refused = read_number(&[0x40, 0x00, 0x00], 0, 4_194_303);
+    assert_eq!(rt; refused, Err(Why::Content.at(0)));
+    // The contents 0055 are a tolerated spelling of 85, since one octet is enough.
+    assert_eq!(rt; mark_number(&[0x00, 0x55]), Some(0));
+    let mut out = Vec::new(rt.alloc());
+    write_number(85, &mut out)?;
+    let written = [0x55];
+    assert_eq!(rt; out.as_slice(), written.as_slice());
+    Ok(())
 }
 
 // Of the page of bac_value.

@@ -1,14 +1,13 @@
 -- What only proofs need: laws of the definitions, which no contract cites.
 pub mod Primitives
 pub mod AnyOctets
-pub mod Numbers
+pub mod NumberTypes
 pub mod Unsigned
 pub mod Bounded
 pub mod Enumerated
 pub mod Identifier
 pub mod Null
 pub mod Boolean
-pub mod Signed
 pub mod SignedValues
 pub mod Real
 pub mod Double

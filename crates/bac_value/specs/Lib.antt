@@ -1,9 +1,8 @@
 pub mod Primitives
-pub mod Numbers
+pub mod Bounded
 pub mod Identifier
 pub mod NullContents
 pub mod BooleanContents
-pub mod SignedContents
 pub mod RealContents
 pub mod DoubleContents
 pub mod DateContents

@@ -6,8 +6,8 @@ use Rattle.bac_value.specs.declared.prim.PrimitiveValue.TheVariants.{Null, Boole
 use Rattle.bac_value.specs.Primitives.{IsTheList, IsWritten}
 use Rattle.bac_value.specs.NullContents.{IsNull, null_octets}
 use Rattle.bac_value.specs.BooleanContents.{IsBoolean, boolean_octets}
-use Rattle.bac_value.specs.Numbers.{NumberContents, least_number}
-use Rattle.bac_value.specs.SignedContents.{SignedContents, least_signed}
+use Rattle.bac_numbers.specs.Numbers.{NumberContents, least_number}
+use Rattle.bac_numbers.specs.SignedContents.{SignedContents, least_signed}
 use Rattle.bac_value.specs.RealContents.{IsReal, real_octets}
 use Rattle.bac_value.specs.DoubleContents.{IsDouble, double_octets}
 use Rattle.bac_value.specs.OctetStringContents.{IsOctetString, octets_themselves}

@@ -5,7 +5,7 @@ use Rattle.std.specs.Int.{w32, w64, from_be_bytes}
 use Rattle.bac_tag.specs.Number.{number}
 use Rattle.bac_value.specs.declared.prim.PrimitiveValue.{PrimitiveValue}
 use Rattle.bac_value.specs.declared.prim.PrimitiveValue.TheVariants.{Null, Boolean, Unsigned, Signed, RealBits, DoubleBits, Octets, Text, Bits, Enumerated, Date, Time, ObjectId}
-use Rattle.bac_value.specs.SignedContents.{signed_number}
+use Rattle.bac_numbers.specs.SignedContents.{signed_number}
 use Rattle.bac_value.specs.BitsContents.{bits_of}
 use Rattle.bac_value.specs.Identifier.{Identifier}
 

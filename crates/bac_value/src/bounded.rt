@@ -2,11 +2,13 @@
 
 ghost use Rattle.std.specs.Prelude.{◌≡◌, ◌≤◌, ℕ, false};
 ghost use Rattle.std.proofs.Common.{lit≤};
-ghost use Rattle.bac_value.specs.Numbers.{IsBounded, NumberContents, least_number};
-ghost use Rattle.bac_value.specs.Laws.Numbers.{number_least, number_lengths, bounded_once, bounded_written, bounded_each_length};
+ghost use Rattle.bac_numbers.specs.Numbers.{NumberContents, least_number};
+ghost use Rattle.bac_value.specs.Bounded.{IsBounded};
+ghost use Rattle.bac_numbers.specs.Laws.Numbers.{number_least, number_lengths};
+ghost use Rattle.bac_value.specs.Laws.NumberTypes.{bounded_once, bounded_written, bounded_each_length};
 
 use crate::primitives::Primitive;
-use crate::ranged_numbers::{
+use bac_numbers::{
     find_number, hopeless_number, mark_read_number, read_number, write_number, written_number_len,
 };
 use bac_tag::{OutOfMemory, Refusal};

@@ -3,8 +3,8 @@
 //! none of it.
 
 pub use crate::contents::{append_written, are_written, mark_contents, written_len_of};
-pub use crate::ranged_numbers::{
-    hopeless_number, mark_number, read_number, write_number, written_number_len,
-};
 pub use crate::types::unsigned16::Unsigned16;
 pub use crate::types::unsigned32::Unsigned32;
+pub use bac_numbers::{
+    hopeless_number, mark_number, read_number, write_number, written_number_len,
+};

@@ -32,27 +32,28 @@
 //! # How it works
 //!
 //! Each type has a file in `types`. The definition of its contents, which contracts cite, is in `specs`; the lemmas for
-//! its laws, which only proofs need, are in `specs/Laws`.
+//! its laws, which only proofs need, are in `specs/Laws`. What whole numbers are as contents, with the calls that read
+//! and write them and the laws of these, is in bac_numbers.
 //!
 //! | No. | Type | In `types` | In `specs` | In `specs/Laws` |
 //! |---|---|---|---|---|
 //! | 0 | `Null` | `null_value.rt` | `NullContents.antt` | `Null.antt` |
 //! | 1 | `Boolean` | `boolean_value.rt` | `BooleanContents.antt` | `Boolean.antt` |
-//! | 2 | `Unsigned` | `unsigned_integer.rt` | `Numbers.antt` | `Numbers.antt`, `Unsigned.antt` |
-//! | 3 | `Signed` | `signed_integer.rt` | `SignedContents.antt` | `Signed.antt`, `SignedValues.antt` |
+//! | 2 | `Unsigned` | `unsigned_integer.rt` | `Numbers.antt` of bac_numbers | `NumberTypes.antt`, `Unsigned.antt` |
+//! | 3 | `Signed` | `signed_integer.rt` | `SignedContents.antt` of bac_numbers | `SignedValues.antt` |
 //! | 4 | `RealBits` | `real.rt` | `RealContents.antt` | `Real.antt` |
 //! | 5 | `DoubleBits` | `double.rt` | `DoubleContents.antt` | `Double.antt` |
 //! | 6 | `Octets` | `octet_string.rt` | `OctetStringContents.antt` | `OctetString.antt` |
 //! | 7 | `Text` | `character_string.rt` | `TextContents.antt` | `Text.antt` |
 //! | 8 | `Bits` | `bit_string.rt` | `BitsContents.antt` | `Bits.antt` |
-//! | 9 | `Enumerated` | `enumeration.rt` | `Numbers.antt` | `Numbers.antt`, `Enumerated.antt` |
+//! | 9 | `Enumerated` | `enumeration.rt` | `Numbers.antt` of bac_numbers | `NumberTypes.antt`, `Enumerated.antt` |
 //! | 10 | `Date` | `date_value.rt` | `DateContents.antt` | `Date.antt` |
 //! | 11 | `Time` | `time_value.rt` | `TimeContents.antt` | `Time.antt` |
 //! | 12 | `ObjectId` | `object_identifier.rt` | `Identifier.antt` | `Identifier.antt` |
 //!
 //! `Priority`, `Instance`, `Unsigned16` and `Unsigned32` are numbers in a range (`Bounded` in `bounded.rt`). They
-//! implement `Primitive` with contents from `Numbers.antt`. Their laws follow from `IsBounded` (`Laws/Numbers.antt`),
-//! which `Laws/Bounded.antt` proves for each.
+//! implement `Primitive` with contents from `Numbers.antt`. Their laws follow from `IsBounded` (`Bounded.antt`, by
+//! `Laws/NumberTypes.antt`), which `Laws/Bounded.antt` proves for each.
 //!
 //! The calls of `Prim` go by the private trait `Variant` (`variants.rt`), which says of each type which of the thirteen
 //! it is. `PrimContents.antt` has the contents of a `Prim` by the number of the application tag, a line for each type,
@@ -69,7 +70,6 @@ pub mod layers;
 mod prim;
 mod prim_ref;
 mod primitives;
-mod ranged_numbers;
 mod thirteen;
 mod types;
 mod value_faults;

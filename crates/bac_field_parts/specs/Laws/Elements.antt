@@ -3,8 +3,8 @@ use Rattle.std.specs.Prelude.{◌≡◌, ℕ, ◌-◌, ◌^◌, List, None, refl
 use Rattle.std.specs.Int.{w64, cast_unsigned}
 use Rattle.std.proofs.Common.{arith, inl, inr}
 use Rattle.bac_value.specs.Primitives.{IsTheList}
-use Rattle.bac_value.specs.Numbers.{NumberContents}
-use Rattle.bac_value.specs.SignedContents.{SignedContents}
+use Rattle.bac_numbers.specs.Numbers.{NumberContents}
+use Rattle.bac_numbers.specs.SignedContents.{SignedContents}
 use Rattle.bac_value.specs.RealContents.{IsReal, real_octets}
 use Rattle.bac_value.specs.DoubleContents.{IsDouble, double_octets}
 use Rattle.bac_value.specs.Identifier.{Identifier, IsIdentifier, identifier_octets}

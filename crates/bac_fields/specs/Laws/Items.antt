@@ -7,8 +7,9 @@ use Rattle.bac_value.specs.Identifier.{IsIdentifier, identifier_octets}
 use Rattle.bac_value.specs.Laws.AnyOctets.{any_octets_lengths, any_octets_each_length}
 use Rattle.bac_value.specs.Laws.Enumerated.{enumerated_each_length}
 use Rattle.bac_value.specs.Laws.Identifier.{identifier_any_octets}
-use Rattle.bac_value.specs.Laws.Numbers.{number_lengths, number_each_length}
-use Rattle.bac_value.specs.Numbers.{NumberContents}
+use Rattle.bac_numbers.specs.Laws.Numbers.{number_lengths}
+use Rattle.bac_value.specs.Laws.NumberTypes.{number_each_length}
+use Rattle.bac_numbers.specs.Numbers.{NumberContents}
 use Rattle.bac_value.specs.Primitives.{IsTheList}
 use Rattle.bac_value.specs.declared.types.enumeration.Enumerated.{Enumerated}
 use Rattle.bac_service.specs.Contents.{ObjectField, UnsignedField, PriorityField, EnumeratedPart, ApplicationEnumeratedPart}

@@ -1,6 +1,6 @@
 -- The types whose values are the numbers of a range, with the contents of an Unsigned.
 use Rattle.std.proofs.Common.{ℕ, ◌^◌, ◌-◌, refl, lit≤, lit<}
-use Rattle.bac_value.specs.Numbers.{IsBounded}
+use Rattle.bac_value.specs.Bounded.{IsBounded}
 
 -- each is seen as its number
 pub priority_bounded : IsBounded 1 16 (λ (n : ℕ). n) (λ n. n)

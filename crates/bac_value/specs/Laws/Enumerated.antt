@@ -1,7 +1,7 @@
 -- Enumerated values are numbers.
 use Rattle.std.specs.Prelude.{min, Option, Some, None, IfSome}
 use Rattle.std.proofs.lemmas.Bool.{cases_lt}
-use Rattle.std.proofs.Common.{◌≡◌, ℕ, zero, suc, ◌≤◌, ◌<◌, ◌+◌, ◌*◌, ◌^◌, ◌-◌, ◌⊎◌, List, [], ◌∷◌, ◌++◌, length, take, drop, get_or, refl, sym, ◌∙◌, ap, inl, inr, arith, lit≤, lit<, take-append-drop, length-drop, length-take}
+use Rattle.std.proofs.Common.{◌≡◌, ℕ, ◌≤◌, ◌<◌, ◌+◌, ◌*◌, ◌^◌, ◌-◌, ◌⊎◌, List, [], ◌∷◌, length, take, drop, get_or, refl, sym, ◌∙◌, ap, inl, inr, arith, lit≤, lit<, length-drop, length-take}
 use Rattle.std.proofs.Math.Nat.{pow-le-pow_right, mul-le-mul_right}
 use Rattle.std.proofs.lemmas.Nat.{pow-add}
 use Rattle.std.proofs.lemmas.List.{get_or-take}
@@ -9,11 +9,12 @@ use Rattle.std.proofs.lemmas.Int.Digits.{number_lt, number_more}
 use Rattle.bac_tag.specs.Laws.Octets.{octets_take, octets_drop}
 use Rattle.bac_tag.specs.Octets.{IsOctets}
 use Rattle.bac_tag.specs.Number.{number}
-use Rattle.bac_tag.specs.Laws.Number.{number-append, begins_number, begins_number_only}
+use Rattle.bac_tag.specs.Laws.Number.{begins_number, begins_number_only}
 use Rattle.bac_value.specs.declared.types.enumeration.Enumerated.{Enumerated}
 use Rattle.bac_value.specs.Primitives.{IsBegun, IsHopelessAt}
-use Rattle.bac_value.specs.Numbers.{NumberContents}
-use Rattle.bac_value.specs.Laws.Numbers.{number_begun, number_begins, number_each_length, number-drop}
+use Rattle.bac_numbers.specs.Numbers.{NumberContents}
+use Rattle.bac_numbers.specs.Laws.Numbers.{number-drop}
+use Rattle.bac_value.specs.Laws.NumberTypes.{number_begun, number_begins, number_each_length}
 
 abbrev pub enumerated_number : Enumerated → ℕ
 enumerated_number value = value.0
@@ -28,34 +29,6 @@ pub enumerated_each_length : (size : ℕ) → 1 ≤ size → size ≤ 8 → IsBe
 enumerated_each_length = number_each_length enumerated_number enumerated_of (λ n. refl) 0 (2 ^ 32 - 1) (lit≤ tt) (lit< tt)
 
 -- ---- octets in front of the last four
-
--- a number below 2^32 is that of its last four octets
-pub last_four : (octets : List ℕ) (start : ℕ) → IsOctets octets → start + 4 ≤ length octets → number octets < 2 ^ 32 → number (drop start octets) ≡ number octets
-last_four octets start p within below =
-    let split : number (take start octets ++ drop start octets) ≡ number (take start octets) * 256 ^ length (drop start octets) + number (drop start octets) = number-append (take start octets) (drop start octets) in
-    let whole : number (take start octets ++ drop start octets) ≡ number octets = ap number (take-append-drop start octets) in
-    let rest : length (drop start octets) ≡ length octets - start = length-drop start octets in
-    let exponent : 4 ≤ length (drop start octets) = omega arith in
-    let worth : 256 ^ 4 ≤ 256 ^ length (drop start octets) = pow-le-pow_right (lit≤ tt) exponent in
-    elim (zero_or_some (number (take start octets))) [
-      | inl none ↦
-          let nothing : number (take start octets) * 256 ^ length (drop start octets) ≡ 0 * 256 ^ length (drop start octets) = ap (λ (n : ℕ). n * 256 ^ length (drop start octets)) none in
-          omega arith
-      | inr some ↦
-          let much : 1 * 256 ^ length (drop start octets) ≤ number (take start octets) * 256 ^ length (drop start octets) = mul-le-mul_right (256 ^ length (drop start octets)) some in
-          absurd (omega arith)
-    ]
-  where
-    zero_or_some : (n : ℕ) → (n ≡ 0) ⊎ (1 ≤ n)
-    zero_or_some zero = inl refl
-    zero_or_some (suc n) = inr (omega arith)
-
--- the last four octets, or all of fewer
-pub last_of : (octets : List ℕ) (start : ℕ) → IsOctets octets → start ≡ length octets - 4 → number octets < 2 ^ 32 → number (drop start octets) ≡ number octets
-last_of octets start p e below = elim (cases_lt (length octets) 4) [
-  | inl short ↦ let none : start ≡ 0 = omega (arith, e) in ap (λ (n : ℕ). number (drop n octets)) none
-  | inr long ↦ last_four octets start p (omega (arith, e)) below
-]
 
 positive : (front : List ℕ) (rest : ℕ) → 0 < number front * 256 ^ rest + 256 ^ rest
 positive front rest =

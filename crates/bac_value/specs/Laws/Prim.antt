@@ -9,10 +9,10 @@ use Rattle.bac_value.specs.Laws.AnyOctets.{any_octets_once, any_octets_lengths}
 use Rattle.bac_value.specs.Laws.Null.{null_any_octets}
 use Rattle.bac_value.specs.BooleanContents.{IsBoolean, boolean_octets}
 use Rattle.bac_value.specs.Laws.Boolean.{boolean_once, boolean_lengths}
-use Rattle.bac_value.specs.Laws.Numbers.{number_range, number_written, number_least, number_lengths}
+use Rattle.bac_numbers.specs.Laws.Numbers.{number_range, number_written, number_least, number_lengths}
 use Rattle.bac_value.specs.Laws.Unsigned.{one_unsigned}
 use Rattle.bac_value.specs.Laws.Enumerated.{one_enumerated}
-use Rattle.bac_value.specs.Laws.Signed.{signed_only_values, signed_written, signed_least, signed_lengths}
+use Rattle.bac_numbers.specs.Laws.Signed.{signed_only_values, signed_written, signed_least, signed_lengths}
 use Rattle.bac_value.specs.Laws.SignedValues.{one_signed}
 use Rattle.bac_value.specs.RealContents.{IsReal, real_octets}
 use Rattle.bac_value.specs.Laws.Real.{real_any_octets}

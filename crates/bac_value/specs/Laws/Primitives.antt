@@ -1,6 +1,5 @@
 -- Laws on contents of any type.
-use Rattle.std.proofs.Common.{◌≡◌, ℕ, true, false, eqb, ◌≤◌, ◌+◌, List, [], ◌∷◌, ◌++◌, length, take, drop, take-append-drop, length-append, arith, Option, Some, None, refl, sym, subst, ◌∙◌, ap}
-use Rattle.std.proofs.lemmas.Bool.{eqb-true, eqb-false}
+use Rattle.std.proofs.Common.{◌≡◌, ℕ, ◌+◌, List, ◌++◌, length, take, drop, take-append-drop, Option, Some, None, refl, sym, subst, ◌∙◌, ap}
 use Rattle.std.specs.Prelude.{IfNone}
 use Rattle.bac_tag.specs.Octets.{NoGreater}
 use Rattle.bac_tag.specs.Laws.Octets.{NoGreater-same}
@@ -31,20 +30,7 @@ hopeless_none contents octets place h value spelled =
     let whole : take (place + 1) octets ++ drop (place + 1) octets ≡ octets = take-append-drop (place + 1) octets in
     h.2 (record { value = value; rest = drop (place + 1) octets; spelled = subst (contents value) (sym whole) spelled; sized = ap length whole })
 
--- behind a whole list of that size there is nothing
-pub nothing_left : (a b : List ℕ) → length (a ++ b) ≡ length a → b ≡ []
-nothing_left a [] e = refl
-nothing_left a (x ∷ xs) e = absurd (omega (arith, length-append a (x ∷ xs)))
-
 -- what follows from what a clause says where there is no value
 pub IfNone_then : (r : Option ℕ) (P Q : Type 0) → IfNone r P → (P → Q) → IfNone r Q
 IfNone_then None P Q h f = f h
 IfNone_then (Some x) P Q h f = tt
-
--- ---- what `is_empty` tells
-
-pub some_octets : (octets : List ℕ) → false ≡ eqb (length octets) 0 → 1 ≤ length octets
-some_octets octets e = let other = eqb-false (length octets) 0 (sym e) in omega arith
-
-pub no_octets : (octets : List ℕ) → true ≡ eqb (length octets) 0 → length octets ≡ 0
-no_octets octets e = eqb-true (length octets) 0 (sym e)

@@ -5,7 +5,7 @@ use Rattle.bac_tag.specs.Octets.{IsOctets}
 use Rattle.bac_tag.specs.Laws.Octets.{octets_replicate}
 use Rattle.bac_value.specs.declared.types.signed_integer.Signed.{Signed}
 use Rattle.bac_value.specs.Primitives.{IsBegun}
-use Rattle.bac_value.specs.SignedContents.{signed_number, SignedContents}
+use Rattle.bac_numbers.specs.SignedContents.{signed_number, SignedContents}
 
 pub one_signed : (a b : Signed) (octets : List ℕ) → SignedContents a.0 octets → SignedContents b.0 octets → a ≡ b
 one_signed a b octets p q = ap (λ (z : ℤ). let v : Signed = record { 0 = z } in v) (sym p.is ∙ q.is)

@@ -6,8 +6,8 @@ use Rattle.bac_tag.specs.Number.{number}
 use Rattle.bac_tag.specs.Laws.Number.{begins_number, front_room}
 use Rattle.bac_value.specs.declared.types.unsigned_integer.Unsigned.{Unsigned}
 use Rattle.bac_value.specs.Primitives.{IsBegun}
-use Rattle.bac_value.specs.Numbers.{NumberContents}
-use Rattle.bac_value.specs.Laws.Numbers.{number_begun, number_each_length}
+use Rattle.bac_numbers.specs.Numbers.{NumberContents}
+use Rattle.bac_value.specs.Laws.NumberTypes.{number_begun, number_each_length}
 
 abbrev pub unsigned_number : Unsigned → ℕ
 unsigned_number value = value.0

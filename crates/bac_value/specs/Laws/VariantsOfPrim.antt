@@ -14,8 +14,8 @@ use Rattle.bac_value.specs.declared.types.time_value.Time.{Time as TimeStruct}
 use Rattle.bac_value.specs.Primitives.{IsTheList}
 use Rattle.bac_value.specs.NullContents.{IsNull, null_octets}
 use Rattle.bac_value.specs.BooleanContents.{IsBoolean, boolean_octets}
-use Rattle.bac_value.specs.Numbers.{NumberContents}
-use Rattle.bac_value.specs.SignedContents.{SignedContents}
+use Rattle.bac_numbers.specs.Numbers.{NumberContents}
+use Rattle.bac_numbers.specs.SignedContents.{SignedContents}
 use Rattle.bac_value.specs.RealContents.{IsReal, real_octets}
 use Rattle.bac_value.specs.DoubleContents.{IsDouble, double_octets}
 use Rattle.bac_value.specs.OctetStringContents.{IsOctetString, octets_themselves}

@@ -2,12 +2,12 @@
 
 ghost use Rattle.std.specs.Prelude.{false, ◌≡◌, ◌<◌, ◌^◌, ◌-◌};
 ghost use Rattle.std.proofs.Common.{lit≤};
-ghost use Rattle.bac_value.specs.Numbers.{NumberContents, least_number};
-ghost use Rattle.bac_value.specs.Laws.Numbers.{number_range, number_written, number_least, number_lengths};
+ghost use Rattle.bac_numbers.specs.Numbers.{NumberContents, least_number};
+ghost use Rattle.bac_numbers.specs.Laws.Numbers.{number_range, number_written, number_least, number_lengths};
 ghost use Rattle.bac_value.specs.Laws.Enumerated.{one_enumerated, enumerated_each_length};
 
 use crate::primitives::Primitive;
-use crate::ranged_numbers::{
+use bac_numbers::{
     find_number, first_other_than_zero, mark_read_number, read_number, write_number,
     written_number_len,
 };

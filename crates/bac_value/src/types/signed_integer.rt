@@ -1,14 +1,14 @@
 //! Signed integers (clause 20.2.5).
 
-ghost use Rattle.std.specs.Prelude.{false, ◌≡◌, ◌++◌, ◌+◌, ◌<◌, ◌≤◌, ◌-◌, ◌↔◌, ℕ, replicate, length, slice_index, IsTrue, FitsSigned};
+ghost use Rattle.std.specs.Prelude.{false, ◌≡◌, FitsSigned};
 ghost use Rattle.std.specs.Int.{w64};
 ghost use Rattle.std.proofs.Common.{lit≤};
-ghost use Rattle.bac_value.specs.Numbers.{HasNumberLength};
-ghost use Rattle.bac_value.specs.SignedContents.{signed_number, SignedContents, RepeatsSign, least_signed};
-ghost use Rattle.bac_value.specs.Laws.Signed.{signed_only_values, signed_written, signed_least, signed_lengths};
+ghost use Rattle.bac_numbers.specs.SignedContents.{SignedContents, least_signed};
+ghost use Rattle.bac_numbers.specs.Laws.Signed.{signed_only_values, signed_written, signed_least, signed_lengths};
 ghost use Rattle.bac_value.specs.Laws.SignedValues.{one_signed, signed_each_length};
 
 use crate::primitives::Primitive;
+use bac_numbers::{eight_octets, signed_of, significant_signed};
 use bac_tag::layers::first_difference;
 use bac_tag::{OutOfMemory, Refusal, Why};
 use std::alloc::Global;
@@ -25,63 +25,6 @@ impl From<i64> for Signed {
     fn from(number: i64) -> Signed {
         Signed(number)
     }
-}
-
-/// Returns eight octets: first those of the sign, each 0 or 255, and then the octets of the number.
-fn widened(octets: &[u8]) -> [u8; 8]
-    requires { HasNumberLength (length octets.now) }
-    ensures low { slice_index octets.now 0 < 128 → result ≡ replicate (8 - length octets.now) 0 ++ octets.now }
-    ensures high { 128 ≤ slice_index octets.now 0 → result ≡ replicate (8 - length octets.now) 255 ++ octets.now }
-{
-    let sign = if octets[0] < 128 { 0 } else { 255 };
-    let mut wide = [sign; 8];
-    wide[8 - octets.len()..].copy_from_slice(octets);
-    wide
-}
-
-/// Returns the two's complement number that 1 to 8 octets spell.
-pub(crate) fn signed_of(octets: &[u8]) -> i64
-    requires { HasNumberLength (length octets.now) }
-    ensures { result ≡ signed_number octets.now }
-{
-    i64::from_be_bytes(widened(octets))
-}
-
-/// Returns true if an octet only repeats the sign that the next one has.
-fn repeats_sign(octet: u8, next: u8) -> bool
-    ensures { IsTrue result ↔ RepeatsSign octet next }
-{
-    (octet == 0 && next < 128) || (octet == 255 && next >= 128)
-}
-
-/// Returns how many octets at the front only repeat the sign.
-fn signs_in_front(octets: &[u8]) -> usize
-    requires { 0 < length octets.now }
-    ensures within { result < length octets.now }
-    ensures signs { (k : ℕ) → k < result → RepeatsSign (slice_index octets.now k) (slice_index octets.now (k + 1)) }
-    ensures other { result + 1 < length octets.now → ¬ RepeatsSign (slice_index octets.now result) (slice_index octets.now (result + 1)) }
-{
-    for start in 0..octets.len() - 1 {
-        if !repeats_sign(octets[start], octets[start + 1]) {
-            return start;
-        }
-    }
-    octets.len() - 1
-}
-
-/// Returns the octets without those at the front that only repeat the sign.
-pub(crate) fn significant_signed(octets: &[u8]) -> &[u8]
-    requires { HasNumberLength (length octets.now) }
-    ensures { result.now ≡ least_signed (signed_number octets.now) }
-{
-    &octets[signs_in_front(octets)..]
-}
-
-/// Returns the eight octets of a signed number.
-fn eight_octets(value: i64) -> [u8; 8]
-    ensures { signed_number result ≡ value }
-{
-    value.to_be_bytes()
 }
 
 impl Primitive for Signed {

@@ -2,14 +2,12 @@
 
 ghost use Rattle.std.specs.Prelude.{false, ◌≡◌, ◌<◌, ◌^◌, ◌-◌};
 ghost use Rattle.std.proofs.Common.{lit≤};
-ghost use Rattle.bac_value.specs.Numbers.{NumberContents, least_number};
-ghost use Rattle.bac_value.specs.Laws.Numbers.{number_range, number_written, number_least, number_lengths};
+ghost use Rattle.bac_numbers.specs.Numbers.{NumberContents, least_number};
+ghost use Rattle.bac_numbers.specs.Laws.Numbers.{number_range, number_written, number_least, number_lengths};
 ghost use Rattle.bac_value.specs.Laws.Unsigned.{one_unsigned, unsigned_each_length};
 
 use crate::primitives::Primitive;
-use crate::ranged_numbers::{
-    find_number, mark_number, read_number, write_number, written_number_len,
-};
+use bac_numbers::{find_number, mark_number, read_number, write_number, written_number_len};
 use bac_tag::{OutOfMemory, Refusal};
 use std::alloc::Global;
 

@@ -2,7 +2,7 @@ use Rattle.std.proofs.Common.{arith}
 use Rattle.std.proofs.lemmas.Option.{IfSome_then}
 use Rattle.bac_tag.specs.Laws.Octets.{octets_at}
 use Rattle.bac_value.specs.Laws.Primitives.{IfNone_then}
-use Rattle.bac_value.specs.Laws.Numbers.{number_begun, number_hopeless}
+use Rattle.bac_value.specs.Laws.NumberTypes.{number_begun, number_hopeless}
 use Rattle.bac_value.proofs.bounded.AnyPrimitive.hopeless.Goals as goal
 
 pub returns-clause-none : goal.returns-clause-none

@@ -1,6 +1,6 @@
 use Rattle.std.proofs.Common.{arith, ◌≡◌, true, false, refl}
 use Rattle.bac_tag.specs.Laws.Octets.{octets_at}
-use Rattle.bac_value.specs.Laws.Primitives.{some_octets, no_octets}
+use Rattle.bac_numbers.specs.Laws.Numbers.{some_octets, no_octets}
 use Rattle.bac_value.specs.Laws.Bits.{bits_begun, bits_hopeless}
 use Rattle.bac_value.proofs.types.bit_string.BitsPrimitive.hopeless.Goals.{else-not-is_empty-via-then-not-is_empty+else-not-counts_unused, else-not-is_empty-via-else-not-is_empty}
 use Rattle.bac_value.proofs.types.bit_string.BitsPrimitive.hopeless.Goals as goal

@@ -2,7 +2,8 @@ use Rattle.std.proofs.Common.{arith, ◌≡◌, ◌+◌, ◌*◌, ◌/◌, ◌^�
 use Rattle.bac_tag.specs.Octets.{IsOctets}
 use Rattle.bac_value.specs.Primitives.{IsBegun}
 use Rattle.bac_tag.specs.Laws.Octets.{octets_at}
-use Rattle.bac_value.specs.Laws.Primitives.{hopeless_none, some_octets}
+use Rattle.bac_numbers.specs.Laws.Numbers.{some_octets}
+use Rattle.bac_value.specs.Laws.Primitives.{hopeless_none}
 use Rattle.bac_value.specs.BitsContents.{BitsContents, IsLeastBits, CountsUnused, bits_of}
 use Rattle.bac_value.specs.Laws.Bits.{bits_counts, cleared_is}
 use Rattle.bac_value.proofs.types.bit_string.BitsPrimitive.read.Goals as goal

@@ -1,5 +1,5 @@
 use Rattle.std.proofs.Common.{arith, ◌≡◌, ℕ, ◌≤◌, List, [], ◌∷◌, length, get_or}
-use Rattle.bac_value.specs.Laws.Primitives.{some_octets, no_octets}
+use Rattle.bac_numbers.specs.Laws.Numbers.{some_octets, no_octets}
 use Rattle.bac_value.specs.Laws.Boolean.{boolean_begun, boolean_hopeless}
 use Rattle.bac_value.proofs.types.boolean_value.BooleanPrimitive.hopeless.Goals.{else-not-is_empty-via-then-not-is_empty+else-front-gt1, else-not-is_empty-via-else-not-is_empty}
 use Rattle.bac_value.proofs.types.boolean_value.BooleanPrimitive.hopeless.Goals as goal

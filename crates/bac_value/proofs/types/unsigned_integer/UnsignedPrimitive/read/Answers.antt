@@ -1,7 +1,7 @@
 use Rattle.std.proofs.Common.{arith, refl, ◌^◌, ◌-◌}
 use Rattle.std.proofs.lemmas.Result.{err_from_is_err_and}
 use Rattle.bac_tag.specs.Laws.Octets.{octets_at}
-use Rattle.bac_value.specs.Laws.Numbers.{number_hopeless}
+use Rattle.bac_value.specs.Laws.NumberTypes.{number_hopeless}
 use Rattle.bac_value.specs.Laws.Unsigned.{unsigned_number, unsigned_of}
 use Rattle.bac_value.proofs.types.unsigned_integer.UnsignedPrimitive.read.Goals as goal
 

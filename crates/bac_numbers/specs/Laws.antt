@@ -1,0 +1,3 @@
+-- What only proofs need: laws of the definitions, which no contract cites.
+pub mod Numbers
+pub mod Signed

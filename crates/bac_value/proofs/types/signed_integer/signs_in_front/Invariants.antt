@@ -1,6 +1,0 @@
-use Rattle.std.proofs.Common.{ℕ, ◌<◌, ◌+◌, get_or}
-use Rattle.bac_value.specs.SignedContents.{RepeatsSign}
-use Rattle.bac_value.proofs.types.signed_integer.signs_in_front.Given as goal
-
-abbrev pub invariant-loop-start : goal.invariant-loop-start
-invariant-loop-start l = (k : ℕ) → k < l.start → RepeatsSign (get_or l.octets k 0) (get_or l.octets (k + 1) 0)
