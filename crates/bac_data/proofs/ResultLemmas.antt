@@ -32,3 +32,7 @@ on_ok (Err x) h f = tt
 pub on_err_then : {T E P Q : Type 0} (r : Result T E) → OnErr r P → (P → Q) → OnErr r Q
 on_err_then (Ok x) h f = tt
 on_err_then (Err x) h f = f h
+
+pub err_anyway : {T E P : Type 0} (r : Result T E) → P → OnErr r P
+err_anyway (Ok x) p = tt
+err_anyway (Err x) p = p

@@ -17,9 +17,7 @@ use crate::items::{Item, is_least, least_primitive, read_item};
 use crate::open_value::Any;
 use crate::writing::append_item;
 use arrayvec::ArrayVec;
-use bac_tag::layers::{
-    Expected, first_difference, is_short_closing, joined_marks, mark_read_head, read_expected,
-};
+use bac_tag::layers::{Expected, first_difference, joined_marks, mark_read_head, read_expected};
 use bac_tag::{OutOfMemory, Refusal, TagHead, Why};
 use smallvec::SmallVec;
 use std::alloc::Global;
@@ -234,13 +232,6 @@ pub fn read_any_marked(
             count += 1;
             place += taken;
             continue;
-        }
-        // Most values end like this.
-        if groups.is_empty() && is_short_closing(&octets[place..], number) {
-            return match finish(&octets[start..place], mark, kept, count) {
-                Ok(value) => Ok((value, place + 1, mark)),
-                Err(_) => Err(Refusal::out_of_memory()),
-            };
         }
         let (room, closing) = place_in(&groups, number);
         let (item, head, taken) = match read_item(&octets[place..], room, closing) {

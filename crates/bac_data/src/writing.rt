@@ -18,23 +18,6 @@ use bac_tag::{OutOfMemory, TagHead};
 use bac_value::Prim;
 use bac_value::layers::{append_written, written_len_of};
 
-/// Appends contents. Most have one to four octets, which are copied without a call.
-#[inline(always)]
-fn append_contents(contents: &[u8], out: &mut Vec<u8>) -> Result<(), OutOfMemory>
-    ensures ok { OnOk result (out.new.items ≡ out.old.items ++ contents.now) }
-    ensures err { OnErr result (out.new.items ≡ out.old.items) }
-{
-    match contents {
-        [] => {}
-        [a] => out.push(*a)?,
-        [a, b] => out.extend_from_slice(&[*a, *b])?,
-        [a, b, c] => out.extend_from_slice(&[*a, *b, *c])?,
-        [a, b, c, d] => out.extend_from_slice(&[*a, *b, *c, *d])?,
-        _ => out.extend_from_slice(contents)?,
-    }
-    Ok(())
-}
-
 /// Appends an application primitive. If memory is refused, `out` may hold some of the octets.
 fn append_parts(prim: &Prim, out: &mut Vec<u8>) -> Result<(), OutOfMemory>
     ensures ok { OnOk result (AppendsLeast (SpellsPrimitive prim.now) out.old.items out.new.items) }
@@ -87,7 +70,8 @@ fn append_context_parts(number: u8, contents: &[u8], out: &mut Vec<u8>) -> Resul
 {
     let len = contents.len() as u32;
     append_head(TagHead::Ctx { number, len }, out)?;
-    append_contents(contents, out)
+    out.extend_from_slice(contents)?;
+    Ok(())
 }
 
 /// Appends a context primitive. If memory is refused, `out` stays as it was.
@@ -127,7 +111,8 @@ pub(crate) fn append_item(item: Item<'_>, out: &mut Vec<u8>) -> Result<(), OutOf
         }
     }
     append_head(head_of(item), out)?;
-    append_contents(contents_of(item), out)
+    out.extend_from_slice(contents_of(item))?;
+    Ok(())
 }
 
 /// How many octets an opening and a closing tag have together at most.

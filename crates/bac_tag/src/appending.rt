@@ -4,7 +4,7 @@ ghost use Rattle.std.specs.Prelude.{◌≡◌, OnOk, OnErr};
 ghost use Rattle.bac_tag.specs.Spelling.{AppendsLeast};
 ghost use Rattle.bac_tag.specs.Heads.{IsValid, Heads};
 
-use crate::writing::{first_octet, second_octet};
+use crate::writing::first_octet;
 use crate::{OutOfMemory, TagHead, head_len, write_head};
 
 /// Appends the canonical octets of the head (clause 20.2.1), those that [`write_head`] returns. They are 1 to 7: the
@@ -34,11 +34,6 @@ fn append_several(head: TagHead, out: &mut Vec<u8>) -> Result<(), OutOfMemory>
     ensures ok { OnOk result (AppendsLeast (Heads head) out.old.items out.new.items) }
     ensures err { OnErr result (out.new.items ≡ out.old.items) }
 {
-    // Most of them have two octets.
-    if head_len(head) == 2 {
-        out.extend_from_slice(&[first_octet(head), second_octet(head)])?;
-        return Ok(());
-    }
     out.extend_from_slice(write_head(head).as_slice())?;
     Ok(())
 }

@@ -175,23 +175,3 @@ pub(crate) fn first_octet(head: TagHead) -> u8
         TagHead::Close(number) => narrow_initial(true, number, 7),
     }
 }
-
-/// Returns the second of the octets that [`write_head`] writes of a head, if they are two: the number octet, or that of
-/// the length if the nibble has room for the number.
-#[inline(always)]
-pub(crate) fn second_octet(head: TagHead) -> u8
-    requires { IsValid head }
-    ensures { (b : List ℕ) → IsLeast (Heads head) b → length b ≡ 2 → slice_index b 1 ≡ result }
-{
-    match head {
-        TagHead::App { number, len } | TagHead::Ctx { number, len } => {
-            if number >= 15 {
-                number
-            } else {
-                (len % 256) as u8
-            }
-        }
-        TagHead::AppBool(_) => 0,
-        TagHead::Open(number) | TagHead::Close(number) => number,
-    }
-}
