@@ -177,11 +177,7 @@ fn len_of_word(number: u32) -> usize
 pub fn written_number_len(number: u64) -> usize
     ensures { result ≡ length (least_number number) }
 {
-    // Few numbers have more than four octets.
-    match u32::try_from(number) {
-        Ok(word) => len_of_word(word),
-        Err(_) => significant(&number.to_be_bytes()).len(),
-    }
+    significant(&number.to_be_bytes()).len()
 }
 
 /// Returns what [`mark_number`] returns. The first octet must be 0.
