@@ -166,10 +166,6 @@ written_in_four n least most = written_if n (to_be_bytes w32 n) (omega arith, (o
 pub written_in_three : (n : ℕ) → 2 ^ 16 ≤ n → n < 2 ^ 24 → drop 1 (to_be_bytes w32 n) ≡ least_number n
 written_in_three n least most = written_if n (drop 1 (to_be_bytes w32 n)) (omega arith, (omega arith, (omega arith, tt))) (omega arith, omega arith) (omega (arith, from_be_bytes-to_be_bytes_4 n (omega arith))) (λ two. omega arith)
 
--- how many are written
-pub long_in_word : (n k : ℕ) → k ≤ 4 → drop (4 - k) (to_be_bytes w32 n) ≡ least_number n → k ≡ length (least_number n)
-long_in_word n k most e = omega (arith, most, ap length e, length-drop (4 - k) (to_be_bytes w32 n))
-
 -- the last octets of the four, so many as are written
 pub written_in_word : (n k : ℕ) → n < 2 ^ 32 → (n < 2 ^ 8 → k ≡ 1) → (2 ^ 8 ≤ n → n < 2 ^ 16 → k ≡ 2) → (2 ^ 16 ≤ n → n < 2 ^ 24 → k ≡ 3) → (2 ^ 24 ≤ n → k ≡ 4) → drop (4 - k) (to_be_bytes w32 n) ≡ least_number n
 written_in_word n k most one two three four = elim (cases_lt n (2 ^ 8)) [
