@@ -51,7 +51,7 @@ module _ (octets : List ℕ) (fields : List Field) (n : ℕ) (within : n ≤ len
           let clash : named field.name ≡ finished = last_same (take (3 * n) (symbols_in octets fields)) front (named field.name) finished (sym (one_after (field ∷ rest) (ap (symbols_in octets) e)) ∙ said) in
           absurd (cc)
 
-  pub whole_said : symbols_in octets fields ≡ front ++ finished ∷ []
+  whole_said : symbols_in octets fields ≡ front ++ finished ∷ []
   whole_said =
       let all : 3 * n + 1 ≡ length (symbols_in octets fields) = omega (arith, all_taken, symbols_length octets fields) in
       sym (take-length (symbols_in octets fields)) ∙ ap (λ (k : ℕ). take k (symbols_in octets fields)) (sym all) ∙ said

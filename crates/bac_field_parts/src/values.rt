@@ -239,8 +239,9 @@ fn write_value<T: Primitive>(
 #[derive(Drop)]
 pub struct NumberUnder<T, const N: u8> {
     /// The name of the field.
-    name: Name,
-    of: PhantomData<T>,
+    pub name: Name,
+    /// The type of the number.
+    pub of: PhantomData<T>,
 }
 
 /// Returns the field with this name that says a number under a context tag with number N.
@@ -288,8 +289,9 @@ impl<T: Numbered, const N: u8> Form for NumberUnder<T, N> {
 #[derive(Drop)]
 pub struct NumberTyped<T> {
     /// The name of the field.
-    name: Name,
-    of: PhantomData<T>,
+    pub name: Name,
+    /// The type of the number.
+    pub of: PhantomData<T>,
 }
 
 /// Returns the field with this name that says a number under the application tag of its type.

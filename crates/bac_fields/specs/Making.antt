@@ -5,21 +5,13 @@ use Rattle.bac_npdu.specs.Frames.{FrameValue, SpellsFrame}
 use Rattle.bac_field_parts.specs.declared.field.Field.{Field}
 use Rattle.bac_field_parts.specs.declared.field_refusal.FieldRefusal.{FieldRefusal}
 use Rattle.bac_field_parts.specs.Symbols.{symbols_in}
-use Rattle.bac_field_parts.specs.Refused.{AreAllOfOne, BeginOne, IsStopOf, IsRefusalOf}
+use Rattle.bac_field_parts.specs.Refused.{IsStopOf, IsRefusalOf}
 use Rattle.bac_fields.specs.FrameSymbols.{frame_said}
 
 -- The fields are those of the frame: the same names and numbers in the same order, and the same contents where the name of a
 -- field has contents.
 abbrev pub AreFieldsOf : List ℕ → List Field → FrameValue → Type 0
 AreFieldsOf octets fields frame = symbols_in octets fields ≡ frame_said frame
-
--- The fields are those of a frame that some octets spell.
-abbrev pub AreOfAFrame : List ℕ → List Field → Type 0
-AreOfAFrame = AreAllOfOne frame_said SpellsFrame
-
--- The fields are the first ones of some frame that some octets spell.
-abbrev pub BeginAFrame : List ℕ → List Field → Type 0
-BeginAFrame = BeginOne frame_said SpellsFrame
 
 -- The fields say a frame, and its canonical octets are appended.
 pub record MadeOf (octets : List ℕ) (fields : List Field) (old new : List ℕ) : Type 0 where
