@@ -1,5 +1,5 @@
 -- What is appended of an APDU is its least spelling.
-use Rattle.std.specs.Prelude.{◌≡◌, ℕ, ◌<◌, true, List, [], ◌∷◌, ◌++◌, length}
+use Rattle.std.specs.Prelude.{◌≡◌, ℕ, ◌<◌, true, List, [], ◌++◌, length}
 use Rattle.std.proofs.Common.{get_or, sym, ◌∙◌, subst, append_assoc}
 use Rattle.std.proofs.lemmas.List.{append-nil}
 use Rattle.bac_tag.specs.Octets.{IsOctets}

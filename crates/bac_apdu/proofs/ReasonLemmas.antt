@@ -116,11 +116,11 @@ none_first : (heads : List HeadRow) → NoneFirst heads → (t g : ℕ) → wind
 none_first [] n t g e = not_none None 0 refl e
 none_first (r ∷ heads) n t g e = first_of (nat_eq r.type t && has_seg r.seg g) r (row_among heads t g) n.0 (none_first heads n.1 t g) e
 
-no_window : None ≡ Some 0 → ⊥
+no_window : ◌≡◌ {A = Option ℕ} None (Some 0) → ⊥
 no_window e = not_none None 0 refl e
 
 no_window_first : (t g : ℕ) → window_place t g ≡ Some 0 → ⊥
-no_window_first = none_first rows (no_window, not_zero 3, no_window, no_window, no_window, not_zero 2, not_zero 2, no_window, no_window, no_window, tt)
+no_window_first = none_first rows (no_window, (not_zero 3, (no_window, (no_window, (no_window, (not_zero 2, (not_zero 2, (no_window, (no_window, (no_window, tt))))))))))
 
 pub type_refused : (b : List ℕ) → 1 ≤ length b → 8 ≤ type_at (slice_index b 0) → IsRefused b (record { place = 0; why = PduType })
 type_refused [] le high = absurd (omega arith)

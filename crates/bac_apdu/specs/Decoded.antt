@@ -12,7 +12,7 @@ use Rattle.bac_service.specs.declared.service.Service.{Service}
 use Rattle.bac_service.specs.Reasons.{IsServiceReason}
 use Rattle.bac_service.specs.ServiceTable.{is_small as is_small_service}
 use Rattle.bac_service.specs.Services.{ServiceValue, value_of as service_of, SpellsService}
-use Rattle.bac_apdu.specs.FirstOctet.{Behind, service, piece, nothing, HeadRow, row_of, type_at, seg_at, IsTypePlace, IsWindowPlace}
+use Rattle.bac_apdu.specs.FirstOctet.{Behind, a_service, a_piece, nothing, HeadRow, row_of, type_at, seg_at, IsTypePlace, IsWindowPlace}
 use Rattle.bac_apdu.specs.Apdus.{ApduValue, confirmed_request, unconfirmed_request, simple_ack, complex_ack, segment_ack, error, reject, abort, segment, SpellsApdu}
 
 -- a small APDU: one that ends behind its head, or that carries a small service
@@ -29,8 +29,8 @@ is_small (segment head seq size more choice piece) = false
 
 -- the same by what stands behind a head that begins with these octets
 abbrev pub small_behind : Behind → List ℕ → Bool
-small_behind (service kind place) octets = is_small_service kind (slice_index octets place)
-small_behind piece octets = false
+small_behind (a_service kind place) octets = is_small_service kind (slice_index octets place)
+small_behind a_piece octets = false
 small_behind nothing octets = true
 
 -- octets that begin no head are refused at once

@@ -15,9 +15,9 @@ seg_at o = o / 2 ^ 3 % 2
 -- what stands behind a head
 pub data Behind : Type 0 where
   -- a service of this kind, whose choice is the octet at this place
-  service : Kind → ℕ → Behind
+  a_service : Kind → ℕ → Behind
   -- a piece of a service
-  piece : Behind
+  a_piece : Behind
   nothing : Behind
 
 -- a head: its type and, where the type has it, its SEG; how many octets it has; where its window stands; what is behind it
@@ -34,14 +34,14 @@ row type seg size window behind = record { type = type; seg = seg; size = size; 
 -- the heads (clauses 20.1.2 to 20.1.9)
 abbrev pub rows : List HeadRow
 rows =
-    row 0 (Some 0) 4 None (service Confirmed 3)
-    ∷ row 0 (Some 1) 6 (Some 4) piece
-    ∷ row 1 None 2 None (service Unconfirmed 1)
+    row 0 (Some 0) 4 None (a_service Confirmed 3)
+    ∷ row 0 (Some 1) 6 (Some 4) a_piece
+    ∷ row 1 None 2 None (a_service Unconfirmed 1)
     ∷ row 2 None 3 None nothing
-    ∷ row 3 (Some 0) 3 None (service ComplexAck 2)
-    ∷ row 3 (Some 1) 5 (Some 3) piece
+    ∷ row 3 (Some 0) 3 None (a_service ComplexAck 2)
+    ∷ row 3 (Some 1) 5 (Some 3) a_piece
     ∷ row 4 None 4 (Some 3) nothing
-    ∷ row 5 None 3 None (service Error 2)
+    ∷ row 5 None 3 None (a_service Error 2)
     ∷ row 6 None 3 None nothing
     ∷ row 7 None 3 None nothing
     ∷ []
@@ -67,8 +67,8 @@ window_of None = None
 window_of (Some r) = r.window
 
 abbrev pub is_nothing : Behind → Bool
-is_nothing (service kind place) = false
-is_nothing piece = false
+is_nothing (a_service kind place) = false
+is_nothing a_piece = false
 is_nothing nothing = true
 
 abbrev pub ends_by : Option HeadRow → Bool

@@ -2,7 +2,7 @@
 use Rattle.std.specs.Prelude.{◌≡◌, ◌↔◌, ℕ, true, false, cond, nat_eq, Option, None, Some, IsNone, List, [], ◌∷◌, ◌++◌}
 use Rattle.std.specs.Map.{lookup}
 use Rattle.std.proofs.Common.{◌∙◌, ap, arith}
-use Rattle.bac_tag.specs.Spelling.{IsLeast, Joined}
+use Rattle.bac_tag.specs.Spelling.{Joined}
 use Rattle.bac_data.specs.Spells.{SpellsOpen}
 use Rattle.bac_service.specs.declared.kind.Kind.{Kind}
 use Rattle.bac_service.specs.declared.service.read_property_ack.ReadPropertyAck.{ReadPropertyAck}
