@@ -1,7 +1,6 @@
 //! The lines that `bactool show` writes.
 
 ghost use Rattle.std.specs.Prelude.{◌≡◌, ◌≤◌, ◌<◌, ◌+◌, ◌++◌, length, drop, refl, IfOk, IfErr, OnOk, OnErr};
-ghost use Rattle.bac_tag.specs.Octets.{Extends};
 ghost use Rattle.bac_record.specs.Records.{IsRecord, record_of};
 ghost use Rattle.bac_pack.specs.LineForms.{IsRefused};
 ghost use Rattle.bac_lines.specs.Lines.{IfStop, IsNear, IsNoLine};
@@ -14,6 +13,7 @@ use crate::refused_lines::read_refusal;
 use crate::scanning::numbers::digit_at;
 use bac_pack::layers::strip_return;
 use bac_pack::{LineForm, PackFault};
+use bac_record::layers::append_record;
 use bac_tag::OutOfMemory;
 use std::alloc::Global;
 
@@ -80,18 +80,6 @@ fn fault_of(number: u32, line: &[u8], fault: LineFault) -> PackFault
     }
 }
 
-/// Appends the octets as a record. If memory is refused, `output` may hold some of it.
-fn append_record(octets: &[u8], output: &mut Vec<u8>) -> Result<(), OutOfMemory>
-    requires { IsRecord octets.now }
-    ensures ok { OnOk result (output.new.items ≡ output.old.items ++ record_of octets.now) }
-    ensures err { OnErr result (Extends output.old.items output.new.items) }
-{
-    let length = octets.len() as u16;
-    output.extend_from_slice(&length.to_be_bytes())?;
-    output.extend_from_slice(octets)?;
-    Ok(())
-}
-
 /// Appends the octets as the record of the line of this number. If it fails, `output` stays as it was.
 fn push_record(number: u32, octets: &[u8], output: &mut Vec<u8>) -> Result<(), PackFault>
     ensures ok { OnOk result (output.new.items ≡ output.old.items ++ record_of octets.now) }
@@ -102,13 +90,9 @@ fn push_record(number: u32, octets: &[u8], output: &mut Vec<u8>) -> Result<(), P
     if octets.len() > bac_record::LONGEST {
         return Err(PackFault::RecordTooLong(number));
     }
-    let start = output.len();
     match append_record(octets, output) {
         Ok(()) => Ok(()),
-        Err(OutOfMemory) => {
-            output.truncate(start);
-            Err(PackFault::OutOfMemory(number))
-        }
+        Err(OutOfMemory) => Err(PackFault::OutOfMemory(number)),
     }
 }
 

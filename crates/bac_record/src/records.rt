@@ -1,14 +1,16 @@
 //! Records: two octets of length, and then that many octets.
 
-ghost use Rattle.std.specs.Prelude.{◌≡◌, IfErr, IfOk, List, MatchResult, OnOk, Some, length, ℕ};
+ghost use Rattle.std.specs.Prelude.{◌≡◌, ◌++◌, IfErr, IfOk, List, MatchResult, OnErr, OnOk, Some, length, ℕ};
 ghost use Rattle.std.specs.Io.KnownBytes.{Appends, Consumes};
 ghost use Rattle.std.specs.Option.{option_map};
+ghost use Rattle.bac_tag.specs.Octets.{Extends};
 ghost use Rattle.bac_record.specs.Devices.{HasRisen};
 ghost use Rattle.bac_record.specs.Records.{IsRecord, Records, record_of};
 ghost use Rattle.bac_record.specs.Transfers.{GivesLength, GivesRecord, IsFirst, IsFirstFault, ReadFaultCounts, StopsReading, StopsWithin, StopsWriting};
 
 use crate::transfers::{read_full, write_whole};
 use crate::{Input, Output, StreamFault};
+use bac_tag::OutOfMemory;
 use std::alloc::Global;
 
 /// How many octets the longest record has, without its length octets: the largest number that these can spell.
@@ -133,4 +135,36 @@ pub fn write_record<W: Output>(writer: &mut W, octets: &[u8]) -> Result<(), Stre
         Ok(()) => Ok(()),
         Err(count) => Err(StreamFault::WriteFault(2 + count as u128)),
     }
+}
+
+/// Appends the octets as a record. If memory is refused, `out` may hold some of it.
+#[inline(always)]
+fn append_parts(octets: &[u8], out: &mut Vec<u8>) -> Result<(), OutOfMemory>
+    requires { IsRecord octets.now }
+    ensures ok { OnOk result (out.new.items ≡ out.old.items ++ record_of octets.now) }
+    ensures err { OnErr result (Extends out.old.items out.new.items) }
+{
+    let length = octets.len() as u16;
+    out.extend_from_slice(&length.to_be_bytes())?;
+    out.extend_from_slice(octets)?;
+    Ok(())
+}
+
+/// Appends the octets as a record: two octets of length, the most significant first, then the octets. There must be at
+/// most 65,535 octets.
+///
+/// # Errors
+/// `OutOfMemory` if memory is refused. `out` then stays as it was.
+#[inline(always)]
+pub fn append_record(octets: &[u8], out: &mut Vec<u8>) -> Result<(), OutOfMemory>
+    requires { IsRecord octets.now }
+    ensures ok { OnOk result (out.new.items ≡ out.old.items ++ record_of octets.now) }
+    ensures err { OnErr result (out.new.items ≡ out.old.items) }
+{
+    let start = out.len();
+    let appended = append_parts(octets, out);
+    if appended.is_err() {
+        out.truncate(start);
+    }
+    appended
 }

@@ -6,14 +6,14 @@ ghost use Rattle.bac_npdu.specs.FrameHeads.{frame_with};
 ghost use Rattle.bac_npdu.specs.Frames.{body_value};
 ghost use Rattle.bac_stream.specs.Judging.{IsCanonicalFor, IsCanonical, IsRefused, Refuses};
 ghost use Rattle.bac_stream.specs.Lines.{AppendsRecord, NormalisesTo};
-ghost use Rattle.bac_record.specs.Records.{Records, IsRecord, LONGEST, record_of};
+ghost use Rattle.bac_record.specs.Records.{Records, IsRecord, LONGEST};
 ghost use Rattle.bac_record.specs.Runs.{RanThrough, RunCounts, Stopped};
 ghost use Rattle.bac_record.specs.Files.{RunsOver};
 
 use crate::judging::{Appending, discard, judge};
 use crate::{Input, Mode, Output, RunFault, Summary};
 use bac_npdu::{Body, FrameHead};
-use bac_record::{DealFault, Dealt, Job, LONGEST, run};
+use bac_record::{DealFault, Dealt, Job, LONGEST, layers, run};
 use bac_tag::OutOfMemory;
 use std::alloc::Global;
 
@@ -34,33 +34,6 @@ fn length_of(count: usize) -> u16
     } else {
         u16::MAX
     }
-}
-
-/// Appends the octets as a record. If memory is refused, `out` may hold some of it.
-fn append_octets(octets: &[u8], out: &mut Vec<u8>) -> Result<(), OutOfMemory>
-    requires { IsRecord octets.now }
-    ensures ok { OnOk result (out.new.items ≡ out.old.items ++ record_of octets.now) }
-    ensures err { OnErr result (Extends out.old.items out.new.items) }
-{
-    let length = octets.len() as u16;
-    out.extend_from_slice(&length.to_be_bytes())?;
-    out.extend_from_slice(octets)?;
-    Ok(())
-}
-
-/// Appends the octets as a record. If memory is refused, `out` stays as it was.
-#[inline(always)]
-fn push_octets(octets: &[u8], out: &mut Vec<u8>) -> Result<(), OutOfMemory>
-    requires { IsRecord octets.now }
-    ensures ok { OnOk result (out.new.items ≡ out.old.items ++ record_of octets.now) }
-    ensures err { OnErr result (out.new.items ≡ out.old.items) }
-{
-    let start = out.len();
-    let appended = append_octets(octets, out);
-    if appended.is_err() {
-        out.truncate(start);
-    }
-    appended
 }
 
 /// Appends the canonical octets of a frame as a record. If memory is refused, `out` may hold some of it.
@@ -136,7 +109,7 @@ impl Job for Normalise {
         if mark.is_some() {
             return Ok(Dealt::accepted(mark));
         }
-        push_octets(octets, out)?;
+        layers::append_record(octets, out)?;
         Ok(Dealt::accepted(mark))
     }
 }
