@@ -2,7 +2,7 @@
 use Rattle.std.proofs.Common.{◌≡◌, ℕ, ◌+◌, ◌*◌, ◌^◌, ◌<◌, ◌≤◌, Bool, true, false, List, [], ◌++◌, length, refl, sym, ap, subst, ◌∙◌, inl, inr, arith}
 use Rattle.std.specs.Prelude.{Option, None, Some, Result, Ok, Err, IfOk, IsTrue}
 use Rattle.bac_tag.specs.Spelling.{IsLeast, HasMark, AppendsLeast}
-use Rattle.bac_npdu.specs.Frames.{FrameValue, SpellsFrame}
+use Rattle.bac_npdu_parts.specs.Frames.{FrameValue, SpellsFrame}
 use Rattle.bac_field_parts.specs.declared.field.Field.{Field}
 use Rattle.bac_fields.specs.FrameFields.{placed_fields, FrameFits}
 use Rattle.bac_c.specs.declared.outcomes.Outcome.{Outcome}

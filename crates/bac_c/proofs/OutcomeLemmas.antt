@@ -4,9 +4,9 @@ use Rattle.std.specs.Prelude.{Result, Ok, Err, IfErr}
 use Rattle.bac_tag.specs.declared.refusals.Refusal.{Refusal}
 use Rattle.bac_tag.specs.declared.refusals.Why.TheVariants.{Version, Address, PduType, Window, OutOfMemory}
 use Rattle.bac_tag.specs.Spelling.{IsWholeRefusal}
-use Rattle.bac_npdu.specs.Heads.{IsVersionPlace, IsAddressPlace}
-use Rattle.bac_npdu.specs.Frames.{SpellsFrame}
-use Rattle.bac_npdu.specs.Decoded.{IsPduTypePlace, IsFrameWindowPlace, IsFrameReason}
+use Rattle.bac_npdu_parts.specs.Heads.{IsVersionPlace, IsAddressPlace}
+use Rattle.bac_npdu_parts.specs.Frames.{SpellsFrame}
+use Rattle.bac_npdu_parts.specs.Decoded.{IsPduTypePlace, IsFrameWindowPlace, IsFrameReason}
 use Rattle.bac_c.specs.Outcomes.{IsHopeless}
 
 -- what decoding says of a refusal

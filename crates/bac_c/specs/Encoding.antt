@@ -1,7 +1,7 @@
 -- What C is told of a frame that fields say.
 use Rattle.std.specs.Prelude.{◌≡◌, ℕ, List, codes}
 use Rattle.bac_tag.specs.Spelling.{IsLeast}
-use Rattle.bac_npdu.specs.Frames.{FrameValue, SpellsFrame}
+use Rattle.bac_npdu_parts.specs.Frames.{FrameValue, SpellsFrame}
 use Rattle.bac_field_parts.specs.declared.field.Field.{Field}
 use Rattle.bac_field_parts.specs.declared.field_refusal.FieldRefusal.{FieldRefusal}
 use Rattle.bac_field_parts.specs.declared.field_refusal.FieldWhy.{FieldWhy}

@@ -4,8 +4,8 @@ use Rattle.bac_tag.specs.declared.refusals.Refusal.{Refusal}
 use Rattle.bac_tag.specs.declared.refusals.Why.{Why}
 use Rattle.bac_tag.specs.declared.refusals.Why.TheVariants.{Short, Trailing, Version, Address, PduType, Window, Tag, Length, Content, Depth, NotCanonical, OutOfMemory}
 use Rattle.bac_tag.specs.Spelling.{IsLeast, IsWholeRefusal, IsCanonical as IsCanonicalOf}
-use Rattle.bac_npdu.specs.Frames.{FrameValue, SpellsFrame}
-use Rattle.bac_npdu.specs.Decoded.{IsReasoned}
+use Rattle.bac_npdu_parts.specs.Frames.{FrameValue, SpellsFrame}
+use Rattle.bac_npdu_parts.specs.Decoded.{IsReasoned}
 use Rattle.bac_npdu.specs.Meanings.{IsFirstFlaw}
 use Rattle.bac_text.specs.FrameText.{text}
 use Rattle.bac_field_parts.specs.declared.field.Field.{Field}

@@ -1,7 +1,7 @@
 -- What C is told of a line.
 use Rattle.std.specs.Prelude.{◌≡◌, ℕ, ◌≤◌, ◌==◌, List, length, if◌then◌else◌}
 use Rattle.bac_tag.specs.Spelling.{IsLeast}
-use Rattle.bac_npdu.specs.Frames.{FrameValue, SpellsFrame}
+use Rattle.bac_npdu_parts.specs.Frames.{FrameValue, SpellsFrame}
 use Rattle.bac_text.specs.FrameText.{text}
 use Rattle.bac_c.specs.declared.outcomes.Outcome.{Outcome}
 

@@ -2,7 +2,7 @@
 
 ghost use Rattle.std.specs.Prelude.{◌≡◌, ◌≢◌, ◌⊎◌, IfErr, IfOk, IsTrue, ℕ, None, Some, false};
 ghost use Rattle.bac_tag.specs.declared.refusals.Why.TheVariants.{OutOfMemory};
-ghost use Rattle.bac_npdu.specs.Decoded.{begins_small};
+ghost use Rattle.bac_npdu_parts.specs.Decoded.{begins_small};
 ghost use Rattle.bac_npdu.specs.Meanings.{IsFirstFlaw};
 ghost use Rattle.bac_c.specs.Outcomes.{IsCanonical, IsRefusedBy, Tells, differs_at, nothing, without_memory};
 

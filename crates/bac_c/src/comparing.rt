@@ -3,7 +3,7 @@
 ghost use Rattle.std.specs.Prelude.{◌≡◌, ◌≢◌, ◌⊎◌};
 ghost use Rattle.bac_tag.specs.declared.refusals.Why.TheVariants.{OutOfMemory};
 ghost use Rattle.bac_tag.specs.Spelling.{IsSpelling};
-ghost use Rattle.bac_npdu.specs.Frames.{SpellsFrame};
+ghost use Rattle.bac_npdu_parts.specs.Frames.{SpellsFrame};
 ghost use Rattle.bac_npdu.specs.Meanings.{MeanTheSame};
 ghost use Rattle.bac_c.specs.Outcomes.{IsHopeless, Tells, nothing, without_memory};
 

@@ -3,8 +3,8 @@
 ghost use Rattle.std.specs.Prelude.{◌≡◌, ◌≢◌, ◌⊎◌, ℕ, Some, None, IfErr, IfOk, IfNone, IfSome, OnErr, List, length};
 ghost use Rattle.bac_tag.specs.declared.refusals.Why.TheVariants.{OutOfMemory as NoMemory};
 ghost use Rattle.bac_tag.specs.Spelling.{IsLeast};
-ghost use Rattle.bac_npdu.specs.FrameHeads.{frame_with};
-ghost use Rattle.bac_npdu.specs.Frames.{SpellsFrame, body_value};
+ghost use Rattle.bac_npdu_parts.specs.FrameHeads.{frame_with};
+ghost use Rattle.bac_npdu_parts.specs.Frames.{SpellsFrame, body_value};
 ghost use Rattle.bac_fields.specs.FrameFields.{placed_fields, FrameFits};
 ghost use Rattle.bac_c.specs.Outcomes.{IsHopeless};
 ghost use Rattle.bac_c.specs.InPlace.{HasRoomFor, IsFilledIf, IsMadeOf, IsMadeOfSome, IsInPlaceIfSome, octets_or};

@@ -11,10 +11,10 @@ use Rattle.bac_apdu.specs.declared.confirmed_request.RequestHead.{RequestHead}
 use Rattle.bac_apdu.specs.declared.segment.SegHead.{SegHead}
 use Rattle.bac_apdu.specs.declared.segment.SegHead.TheVariants.{Request, Ack}
 use Rattle.bac_apdu.specs.Apdus.{ApduValue, confirmed_request, unconfirmed_request, simple_ack, complex_ack, segment_ack, error, reject, abort, segment, SpellsServiceOf, head_of, SpellsBody as SpellsApduBody}
-use Rattle.bac_npdu.specs.declared.messages.port.Port.{Port}
-use Rattle.bac_npdu.specs.Messages.{MessageValue, who_is_router, i_am_router, i_could_be_router, reject_message, router_busy, router_available, init_table, init_table_ack, establish, disconnect, what_is_network_number, network_number_is, opaque}
-use Rattle.bac_npdu.specs.Addresses.{SourceValue, DestinationValue, HasAddress}
-use Rattle.bac_npdu.specs.Frames.{FrameValue, BodyValue, apdu, message, SpellsBody, SpellsFrame}
+use Rattle.bac_npdu_parts.specs.declared.messages.port.Port.{Port}
+use Rattle.bac_npdu_parts.specs.Messages.{MessageValue, who_is_router, i_am_router, i_could_be_router, reject_message, router_busy, router_available, init_table, init_table_ack, establish, disconnect, what_is_network_number, network_number_is, opaque}
+use Rattle.bac_npdu_parts.specs.Addresses.{SourceValue, DestinationValue, HasAddress}
+use Rattle.bac_npdu_parts.specs.Frames.{FrameValue, BodyValue, apdu, message, SpellsBody, SpellsFrame}
 use Rattle.bac_text.specs.Words.{number, truth as truth_text, listed as listed_text, optional as optional_text}
 use Rattle.bac_text.specs.WalkText.{blank}
 use Rattle.bac_text.specs.ServiceText.{service_text}

@@ -9,15 +9,15 @@ use Rattle.std.proofs.lemmas.Bool.{or_left}
 use Rattle.std.proofs.lemmas.Bool.Decides.{nat_tests}
 use Rattle.bac_tag.specs.HeadOctets.{octet, least_head}
 use Rattle.bac_tag.specs.Spelling.{AppendsLeast}
-use Rattle.bac_npdu.specs.declared.frame_head.Addressed.{Addressed}
-use Rattle.bac_npdu.specs.declared.frame_head.DestRef.{DestRef}
-use Rattle.bac_npdu.specs.Addresses.{SourceValue, destination_of, source_of, hops_of}
-use Rattle.bac_npdu.specs.Control.{least_control, least_of}
-use Rattle.bac_npdu.specs.FrameHeads.{address_read, destination_read}
-use Rattle.bac_npdu.specs.Frames.{BodyValue, apdu, message, SpellsBody, SpellsFrame, control_of, addresses_of, is_message, is_there}
-use Rattle.bac_npdu.proofs.FrameLemmas.{appends_frame}
+use Rattle.bac_npdu_parts.specs.declared.frame_head.Addressed.{Addressed}
+use Rattle.bac_npdu_parts.specs.declared.frame_head.DestRef.{DestRef}
+use Rattle.bac_npdu_parts.specs.Addresses.{SourceValue, destination_of, source_of, hops_of}
+use Rattle.bac_npdu_parts.specs.Control.{least_control, least_of}
+use Rattle.bac_npdu_parts.specs.FrameHeads.{address_read, destination_read}
+use Rattle.bac_npdu_parts.specs.Frames.{BodyValue, apdu, message, SpellsBody, SpellsFrame, control_of, addresses_of, is_message, is_there}
+use Rattle.bac_npdu_parts.proofs.FrameLemmas.{appends_frame}
 use Rattle.bac_apdu.specs.Apdus.{SpellsApdu}
-use Rattle.bac_npdu.specs.Messages.{SpellsMessage}
+use Rattle.bac_npdu_parts.specs.Messages.{SpellsMessage}
 use Rattle.bac_field_parts.specs.declared.field.Field.{Field}
 use Rattle.bac_fields.specs.declared.frame_heads.Front.{Front}
 use Rattle.bac_field_parts.specs.declared.making.Fault.{Fault}

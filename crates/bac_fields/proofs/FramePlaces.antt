@@ -19,13 +19,13 @@ use Rattle.bac_apdu.specs.declared.confirmed_request.RequestHead.{RequestHead}
 use Rattle.bac_apdu.specs.declared.segment.SegHead.{SegHead}
 use Rattle.bac_apdu.specs.declared.segment.SegHead.TheVariants.{Request, Ack}
 use Rattle.bac_apdu.specs.Apdus.{ApduValue, confirmed_request, unconfirmed_request, simple_ack, complex_ack, segment_ack, error, reject, abort, segment, head_of, SpellsServiceOf, SpellsBody as SpellsApduBody, SpellsApdu}
-use Rattle.bac_npdu.specs.declared.messages.port.Port.{Port}
-use Rattle.bac_npdu.specs.Messages.{MessageValue, who_is_router, i_am_router, i_could_be_router, reject_message, router_busy, router_available, init_table, init_table_ack, establish, disconnect, what_is_network_number, network_number_is, opaque, networks_of, network_or_none, ports_of, table_of, table_or_none, octets_of, SpellsMessage}
-use Rattle.bac_npdu.specs.Addresses.{SourceValue, DestinationValue, addressed, destination_of, source_of, hops_of}
-use Rattle.bac_npdu.specs.Control.{ControlValue, IsControl, Controlled, least_of}
-use Rattle.bac_npdu.specs.Frames.{FrameValue, BodyValue, apdu, message, control_of, addresses_of, SpellsBody, SpellsFrame}
-use Rattle.bac_npdu.proofs.WrittenLemmas.{least_append, least_octets, least_octets_then}
-use Rattle.bac_npdu.proofs.FrameLemmas.{control_spelled, frame_least}
+use Rattle.bac_npdu_parts.specs.declared.messages.port.Port.{Port}
+use Rattle.bac_npdu_parts.specs.Messages.{MessageValue, who_is_router, i_am_router, i_could_be_router, reject_message, router_busy, router_available, init_table, init_table_ack, establish, disconnect, what_is_network_number, network_number_is, opaque, networks_of, network_or_none, ports_of, table_of, table_or_none, octets_of, SpellsMessage}
+use Rattle.bac_npdu_parts.specs.Addresses.{SourceValue, DestinationValue, addressed, destination_of, source_of, hops_of}
+use Rattle.bac_npdu_parts.specs.Control.{ControlValue, IsControl, Controlled, least_of}
+use Rattle.bac_npdu_parts.specs.Frames.{FrameValue, BodyValue, apdu, message, control_of, addresses_of, SpellsBody, SpellsFrame}
+use Rattle.bac_npdu_parts.proofs.WrittenLemmas.{least_append, least_octets, least_octets_then}
+use Rattle.bac_npdu_parts.proofs.FrameLemmas.{control_spelled, frame_least}
 use Rattle.bac_field_parts.specs.declared.names.Name.{Name}
 use Rattle.bac_field_parts.specs.declared.names.Name.TheVariants as name
 use Rattle.bac_field_parts.specs.Fields.{FieldValue, Step, next, aside, pass, word, octet_field, two_octets_field, octets_field, counted_field, counter_field, address_field, item_steps, optional}

@@ -5,9 +5,9 @@ use Rattle.std.proofs.Common.{sym, ◌∙◌, ap, inl, inr}
 use Rattle.bac_tag.specs.Spelling.{Joined}
 use Rattle.bac_service.specs.Productions.{Optional}
 use Rattle.bac_apdu.specs.Apdus.{ApduValue, SpellsApdu}
-use Rattle.bac_npdu.specs.Addresses.{SourceValue, DestinationValue}
-use Rattle.bac_npdu.specs.Frames.{FrameValue, BodyValue, apdu, message, SpellsBody, SpellsFrame}
-use Rattle.bac_npdu.specs.Messages.{MessageValue, SpellsMessage}
+use Rattle.bac_npdu_parts.specs.Addresses.{SourceValue, DestinationValue}
+use Rattle.bac_npdu_parts.specs.Frames.{FrameValue, BodyValue, apdu, message, SpellsBody, SpellsFrame}
+use Rattle.bac_npdu_parts.specs.Messages.{MessageValue, SpellsMessage}
 use Rattle.bac_fields.specs.ApduFields.{apdu_steps}
 use Rattle.bac_field_parts.specs.Fields.{Step}
 use Rattle.bac_fields.specs.FrameSymbols.{frame_said, body_said, address_said, destination_of_parts}

@@ -1,7 +1,7 @@
 -- The fields of a network message tell it.
 use Rattle.std.specs.Prelude.{◌≡◌, ℕ, Option, Some, List, [], ◌∷◌, ◌++◌, refl}
 use Rattle.std.proofs.Common.{sym, ◌∙◌, ap, subst}
-use Rattle.bac_npdu.specs.Messages.{MessageValue, SpellsMessage}
+use Rattle.bac_npdu_parts.specs.Messages.{MessageValue, SpellsMessage}
 use Rattle.bac_fields.specs.MessageSymbols.{message_said, Layout, who_is, i_am, could_be, reject, busy, available, table, table_ack, establishing, disconnecting, number_wanted, number_told, plain, vendored, SaidIn, message_in, layout_said, layout_told}
 use Rattle.bac_field_parts.specs.Symbols.{no_number, no_octet_number, no_octets, number_said, contents_said}
 use Rattle.bac_field_parts.specs.Tables.{SpellsTable}

@@ -14,10 +14,10 @@ use Rattle.bac_apdu.specs.declared.confirmed_request.RequestHead.{RequestHead}
 use Rattle.bac_apdu.specs.declared.segment.SegHead.{SegHead}
 use Rattle.bac_apdu.specs.declared.segment.SegHead.TheVariants.{Request, Ack}
 use Rattle.bac_apdu.specs.Apdus.{ApduValue, confirmed_request, unconfirmed_request, simple_ack, complex_ack, segment_ack, error, reject, abort, segment, head_of, SpellsServiceOf, SpellsBody as SpellsApduBody}
-use Rattle.bac_npdu.specs.Messages.{MessageValue, opaque, octets_of, SpellsMessage}
-use Rattle.bac_npdu.specs.Addresses.{SourceValue, DestinationValue}
-use Rattle.bac_npdu.specs.Frames.{FrameValue, BodyValue, apdu, message, SpellsBody, SpellsFrame}
-use Rattle.bac_npdu.proofs.OnceLemmas.{message_one}
+use Rattle.bac_npdu_parts.specs.Messages.{MessageValue, opaque, octets_of, SpellsMessage}
+use Rattle.bac_npdu_parts.specs.Addresses.{SourceValue, DestinationValue}
+use Rattle.bac_npdu_parts.specs.Frames.{FrameValue, BodyValue, apdu, message, SpellsBody, SpellsFrame}
+use Rattle.bac_npdu_parts.proofs.OnceLemmas.{message_one}
 use Rattle.bac_field_parts.specs.declared.names.Name.TheVariants as name
 use Rattle.bac_field_parts.specs.Names.{number_of}
 use Rattle.bac_field_parts.specs.Fields.{FieldValue, Step, pass, fields_of, word, optional, held_field, address_field}

@@ -1,7 +1,7 @@
 -- The fields of a frame (clause 6.2).
 use Rattle.std.specs.Prelude.{ℕ, ◌+◌, Bool, Option, None, Some, List, [], ◌∷◌, ◌++◌, length}
-use Rattle.bac_npdu.specs.Addresses.{SourceValue, DestinationValue}
-use Rattle.bac_npdu.specs.Frames.{FrameValue, BodyValue, apdu, message}
+use Rattle.bac_npdu_parts.specs.Addresses.{SourceValue, DestinationValue}
+use Rattle.bac_npdu_parts.specs.Frames.{FrameValue, BodyValue, apdu, message}
 use Rattle.bac_field_parts.specs.declared.names.Name.TheVariants as name
 use Rattle.bac_field_parts.specs.declared.field.Field.{Field}
 use Rattle.bac_field_parts.specs.Fields.{FieldValue, Step, next, aside, pass, address_field, fields_of, placed, Fits}

@@ -1,5 +1,5 @@
 -- What was read before the body of a frame.
-use Rattle.bac_npdu.specs.FrameHeads.{address_read}
+use Rattle.bac_npdu_parts.specs.FrameHeads.{address_read}
 use Rattle.bac_fields.specs.declared.frame_heads.Front.{Front}
 use Rattle.bac_fields.specs.FrameSymbols.{HeadSaid, destination_parts}
 

@@ -3,9 +3,9 @@ use Rattle.std.specs.Prelude.{◌≡◌, ℕ, ◌+◌, ◌*◌, ◌<◌, ◌≤�
 use Rattle.std.specs.Option.{option_map_or, option_map}
 use Rattle.bac_tag.specs.Octets.{IsOctets}
 use Rattle.bac_tag.specs.Spelling.{AppendsLeast}
-use Rattle.bac_npdu.specs.declared.frame_head.DestRef.{DestRef}
-use Rattle.bac_npdu.specs.Addresses.{SourceValue, DestinationValue}
-use Rattle.bac_npdu.specs.Frames.{FrameValue, BodyValue, SpellsBody, SpellsFrame}
+use Rattle.bac_npdu_parts.specs.declared.frame_head.DestRef.{DestRef}
+use Rattle.bac_npdu_parts.specs.Addresses.{SourceValue, DestinationValue}
+use Rattle.bac_npdu_parts.specs.Frames.{FrameValue, BodyValue, SpellsBody, SpellsFrame}
 use Rattle.bac_field_parts.specs.declared.field.Field.{Field}
 use Rattle.bac_fields.specs.FrameFields.{frame_steps, body_steps}
 use Rattle.bac_field_parts.specs.PrimitiveFields.{truth}

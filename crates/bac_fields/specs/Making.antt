@@ -1,7 +1,7 @@
 -- What making a frame of fields gives.
 use Rattle.std.specs.Prelude.{◌≡◌, ℕ, List}
 use Rattle.bac_tag.specs.Spelling.{AppendsLeast}
-use Rattle.bac_npdu.specs.Frames.{FrameValue, SpellsFrame}
+use Rattle.bac_npdu_parts.specs.Frames.{FrameValue, SpellsFrame}
 use Rattle.bac_field_parts.specs.declared.field.Field.{Field}
 use Rattle.bac_field_parts.specs.declared.field_refusal.FieldRefusal.{FieldRefusal}
 use Rattle.bac_field_parts.specs.Symbols.{symbols_in}

@@ -2,9 +2,9 @@
 use Rattle.std.specs.Prelude.{ℕ, List, [], ◌∷◌, ◌++◌, length}
 use Rattle.std.specs.List.{flat_map}
 use Rattle.std.specs.Option.{option_map_or}
-use Rattle.bac_npdu.specs.declared.messages.port.Port.{Port}
-use Rattle.bac_npdu.specs.MessageTypes.{OpaqueNetValue}
-use Rattle.bac_npdu.specs.Messages.{MessageValue, who_is_router, i_am_router, i_could_be_router, reject_message, router_busy, router_available, init_table, init_table_ack, establish, disconnect, what_is_network_number, network_number_is, opaque}
+use Rattle.bac_npdu_parts.specs.declared.messages.port.Port.{Port}
+use Rattle.bac_npdu_parts.specs.MessageTypes.{OpaqueNetValue}
+use Rattle.bac_npdu_parts.specs.Messages.{MessageValue, who_is_router, i_am_router, i_could_be_router, reject_message, router_busy, router_available, init_table, init_table_ack, establish, disconnect, what_is_network_number, network_number_is, opaque}
 use Rattle.bac_field_parts.specs.declared.names.Name.TheVariants as name
 use Rattle.bac_field_parts.specs.Fields.{Step, next, optional, word, octet_field, two_octets_field, octets_field, counted_field, counter_field, item_steps}
 

@@ -1,8 +1,8 @@
 -- The symbols of network messages, and what the type of a message says of it (clause 6.4).
 use Rattle.std.specs.Prelude.{◌≡◌, ℕ, ◌<◌, nat_le, Bool, false, cond, nat_eq, Option, None, Some, List, [], ◌∷◌, ◌++◌}
-use Rattle.bac_npdu.specs.declared.messages.port.Port.{Port}
-use Rattle.bac_npdu.specs.Messages.{MessageValue, who_is_router, i_am_router, i_could_be_router, reject_message, router_busy, router_available, init_table, init_table_ack, establish, disconnect, what_is_network_number, network_number_is, opaque}
-use Rattle.bac_npdu.specs.MessageTypes.{is_typed}
+use Rattle.bac_npdu_parts.specs.declared.messages.port.Port.{Port}
+use Rattle.bac_npdu_parts.specs.Messages.{MessageValue, who_is_router, i_am_router, i_could_be_router, reject_message, router_busy, router_available, init_table, init_table_ack, establish, disconnect, what_is_network_number, network_number_is, opaque}
+use Rattle.bac_npdu_parts.specs.MessageTypes.{is_typed}
 use Rattle.bac_field_parts.specs.declared.field.Field.{Field}
 use Rattle.bac_fields.specs.MessageFields.{message_steps}
 use Rattle.bac_field_parts.specs.Symbols.{Symbol, finished, steps_said}

@@ -2,8 +2,8 @@
 
 ghost use Rattle.std.specs.Prelude.{◌≡◌, ◌<◌, ◌≤◌, ◌++◌, IfNone, IfSome, IsSome, OnOk, OnErr, drop, length};
 ghost use Rattle.bac_tag.specs.Spelling.{AppendsLeast};
-ghost use Rattle.bac_npdu.specs.FrameHeads.{frame_with};
-ghost use Rattle.bac_npdu.specs.Frames.{SpellsFrame, body_value, value_of};
+ghost use Rattle.bac_npdu_parts.specs.FrameHeads.{frame_with};
+ghost use Rattle.bac_npdu_parts.specs.Frames.{SpellsFrame, body_value, value_of};
 ghost use Rattle.bac_fields.specs.FrameFields.{placed_fields, FrameFits};
 
 use crate::frames::tell_frame;

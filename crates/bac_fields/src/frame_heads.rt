@@ -3,10 +3,10 @@
 ghost use Rattle.std.specs.Prelude.{◌≡◌, ◌≤◌, ◌<◌, ◌+◌, ◌*◌, ◌++◌, ◌∷◌, [], true, length, IfOk, IfErr, OnOk};
 ghost use Rattle.bac_tag.specs.HeadOctets.{least_head};
 ghost use Rattle.bac_tag.specs.Octets.{Extends};
-ghost use Rattle.bac_npdu.specs.Addresses.{addressed, destination_of, source_of, hops_of};
-ghost use Rattle.bac_npdu.specs.Control.{least_control};
-ghost use Rattle.bac_npdu.specs.FrameHeads.{address_read, destination_read};
-ghost use Rattle.bac_npdu.specs.Frames.{is_there, SpellsFrame};
+ghost use Rattle.bac_npdu_parts.specs.Addresses.{addressed, destination_of, source_of, hops_of};
+ghost use Rattle.bac_npdu_parts.specs.Control.{least_control};
+ghost use Rattle.bac_npdu_parts.specs.FrameHeads.{address_read, destination_read};
+ghost use Rattle.bac_npdu_parts.specs.Frames.{is_there, SpellsFrame};
 ghost use Rattle.bac_field_parts.specs.Names.{number_of};
 ghost use Rattle.bac_fields.specs.FrameSymbols.{frame_said, address_said, address_fits, destination_said, destination_fits, source_said, source_fits, destination_leads, source_leads, destination_parts, IsOptionalRead, HeadFits, IsHeadOf, IsLedStop};
 ghost use Rattle.bac_fields.specs.FrameFronts.{front_said};

@@ -2,9 +2,9 @@
 
 ghost use Rattle.std.specs.Prelude.{◌≤◌, ◌*◌, true, length, IfOk, IfErr};
 ghost use Rattle.bac_tag.specs.Octets.{Extends};
-ghost use Rattle.bac_npdu.specs.FrameHeads.{frame_with, address_read, destination_read};
-ghost use Rattle.bac_npdu.specs.Frames.{body_value};
-ghost use Rattle.bac_npdu.specs.Frames.{SpellsBody};
+ghost use Rattle.bac_npdu_parts.specs.FrameHeads.{frame_with, address_read, destination_read};
+ghost use Rattle.bac_npdu_parts.specs.Frames.{body_value};
+ghost use Rattle.bac_npdu_parts.specs.Frames.{SpellsBody};
 ghost use Rattle.bac_field_parts.specs.Fields.{Writes};
 ghost use Rattle.bac_fields.specs.FrameSymbols.{body_said, HeadFits, MadeAfter};
 ghost use Rattle.bac_fields.specs.FrameFronts.{front_said};
@@ -100,7 +100,7 @@ fn tell_addresses(
 }
 
 impl HasFields for Body {
-    ghost use Rattle.bac_npdu.specs.Frames.{body_value};
+    ghost use Rattle.bac_npdu_parts.specs.Frames.{body_value};
     ghost use Rattle.bac_fields.specs.FrameFields.{body_steps};
 
     ghost steps = { λ body. body_steps (body_value body) };
@@ -159,7 +159,7 @@ pub(crate) struct FrameFields;
 
 impl FromFields for FrameFields {
     ghost use Rattle.std.specs.Prelude.{true, Some, [], ◌∷◌};
-    ghost use Rattle.bac_npdu.specs.Frames.{FrameValue, SpellsFrame};
+    ghost use Rattle.bac_npdu_parts.specs.Frames.{FrameValue, SpellsFrame};
     ghost use Rattle.bac_fields.specs.FrameSymbols.{frame_said};
     ghost use Rattle.bac_fields.specs.Laws.Frames.{frame_lawful};
 

@@ -1,7 +1,7 @@
 //! Making a frame of fields.
 
 ghost use Rattle.std.specs.Prelude.{◌≡◌, IfOk, IfErr};
-ghost use Rattle.bac_npdu.specs.Frames.{value_of};
+ghost use Rattle.bac_npdu_parts.specs.Frames.{value_of};
 ghost use Rattle.bac_fields.specs.Making.{AreFieldsOf, MadeOf, IsFieldRefusal};
 
 use crate::frames::FrameFields;

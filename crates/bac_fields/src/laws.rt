@@ -2,7 +2,7 @@
 
 ghost use Rattle.std.specs.Prelude.{◌≡◌, ◌↔◌, ◌⊎◌, ℕ, ◌+◌, ◌*◌, ◌^◌, ◌<◌, ◌≤◌, List, length};
 ghost use Rattle.bac_tag.specs.Spelling.{IsLeast, IsViable, IsPartway, JoinedBy, OneOf};
-ghost use Rattle.bac_npdu.specs.Frames.{FrameValue, SpellsFrame};
+ghost use Rattle.bac_npdu_parts.specs.Frames.{FrameValue, SpellsFrame};
 ghost use Rattle.bac_text.specs.FrameText.{text};
 ghost use Rattle.bac_field_parts.specs.declared.field.Field.{Field};
 ghost use Rattle.bac_fields.specs.FrameFields.{fields, frame_steps, placed_fields, FrameFits};

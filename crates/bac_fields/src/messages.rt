@@ -39,7 +39,7 @@ fn network(number: u16) -> TwoOctets
 }
 
 impl HasFields for NetMessage {
-    ghost use Rattle.bac_npdu.specs.Messages.{message_value};
+    ghost use Rattle.bac_npdu_parts.specs.Messages.{message_value};
     ghost use Rattle.bac_fields.specs.MessageFields.{message_steps};
 
     ghost steps = { λ message. message_steps (message_value message) };
@@ -114,7 +114,7 @@ pub(crate) struct MessageFields;
 
 impl FromFields for MessageFields {
     ghost use Rattle.std.specs.Prelude.{true, Some, ◌∷◌, []};
-    ghost use Rattle.bac_npdu.specs.Messages.{MessageValue, SpellsMessage};
+    ghost use Rattle.bac_npdu_parts.specs.Messages.{MessageValue, SpellsMessage};
     ghost use Rattle.bac_fields.specs.MessageSymbols.{message_said};
     ghost use Rattle.bac_fields.specs.Laws.Layouts.{messages_lawful};
 

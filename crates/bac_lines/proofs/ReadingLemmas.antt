@@ -4,8 +4,8 @@ use Rattle.std.proofs.Common.{◌∙◌, sym, ap, subst, get_or}
 use Rattle.std.proofs.lemmas.List.{append-nil, append_cancel_right}
 use Rattle.bac_tag.specs.Octets.{IsOctets}
 use Rattle.bac_tag.specs.Spelling.{IsLeast}
-use Rattle.bac_npdu.specs.Frames.{FrameValue, SpellsFrame}
-use Rattle.bac_npdu.proofs.FrameLemmas.{behind_octets}
+use Rattle.bac_npdu_parts.specs.Frames.{FrameValue, SpellsFrame}
+use Rattle.bac_npdu_parts.proofs.FrameLemmas.{behind_octets}
 use Rattle.bac_text.specs.FrameText.{text}
 use Rattle.bac_field_parts.specs.declared.field.Field.{Field}
 use Rattle.bac_field_parts.specs.declared.field_refusal.FieldRefusal.{FieldRefusal}

@@ -2,7 +2,7 @@
 use Rattle.std.specs.Prelude.{◌≡◌, ℕ, ◌+◌, ◌≤◌, List, length, cond, nat_lt}
 use Rattle.bac_tag.specs.Spelling.{AppendsLeast, IsLeast}
 use Rattle.bac_tag.specs.Octets.{IsOctets}
-use Rattle.bac_npdu.specs.Frames.{FrameValue, SpellsFrame}
+use Rattle.bac_npdu_parts.specs.Frames.{FrameValue, SpellsFrame}
 use Rattle.bac_text.specs.FrameText.{text}
 use Rattle.bac_field_parts.specs.declared.field.Field.{Field}
 use Rattle.bac_fields.specs.Making.{AreFieldsOf}

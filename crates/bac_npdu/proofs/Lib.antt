@@ -1,24 +1,2 @@
-mod ControlLemmas
-pub mod WrittenLemmas
-mod MessageLemmas
-mod NumberLemmas
-pub mod FrameLemmas
-mod PartLemmas
-mod NetworksLemmas
-mod TablesLemmas
-mod UntypedLemmas
-mod WhoIsRouterLemmas
-mod LawLemmas
-mod CaseLemmas
-mod SameLemmas
-mod HeadLemmas
-mod PlaceLemmas
-mod HeadRefusedLemmas
-mod HeadReadLemmas
-mod BodyLemmas
-mod FrameReadLemmas
-pub mod OnceLemmas
-mod FormerLemmas
-mod SmallLemmas
+mod MeaningLemmas
 mod MemoryLemmas
-mod HeldLemmas

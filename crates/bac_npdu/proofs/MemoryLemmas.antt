@@ -1,12 +1,12 @@
 -- Memory that was refused to what is written of one side of a comparison.
-use Rattle.std.specs.Prelude.{◌≡◌, ◌⊎◌, ℕ, List}
+use Rattle.std.specs.Prelude.{◌≡◌, ℕ, List}
 use Rattle.std.proofs.Common.{inr, sym, ap, subst}
 use Rattle.bac_tag.specs.declared.refusals.Refusal.{Refusal}
 use Rattle.bac_tag.specs.declared.refusals.Why.TheVariants.{OutOfMemory}
 use Rattle.bac_tag.specs.Spelling.{IsSpelling}
 use Rattle.bac_npdu.specs.declared.meaning.Side.{Side}
-use Rattle.bac_npdu.specs.Frames.{SpellsFrame}
-use Rattle.bac_npdu.specs.Decoded.{IsReasoned}
+use Rattle.bac_npdu_parts.specs.Frames.{SpellsFrame}
+use Rattle.bac_npdu_parts.specs.Decoded.{IsReasoned}
 use Rattle.bac_npdu.specs.Meanings.{IsShortOfMemory}
 
 pub told_reasoned : {octets : List ℕ} {told : Side × Refusal} {side : Side} → told ≡ (side, record { place = 0; why = OutOfMemory }) → IsReasoned octets (record { place = 0; why = OutOfMemory }) → IsReasoned octets told.1

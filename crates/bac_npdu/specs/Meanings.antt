@@ -1,8 +1,8 @@
 -- What two lists mean, and canonical octets of what was read.
 use Rattle.std.specs.Prelude.{◌≡◌, ◌⊎◌, ℕ, false, Option, None, Some, List}
 use Rattle.bac_tag.specs.Spelling.{IsLeast, IsSpelling, HasMark}
-use Rattle.bac_npdu.specs.Frames.{FrameValue, SpellsFrame}
-use Rattle.bac_npdu.specs.Decoded.{begins_small}
+use Rattle.bac_npdu_parts.specs.Frames.{FrameValue, SpellsFrame}
+use Rattle.bac_npdu_parts.specs.Decoded.{begins_small}
 
 -- one frame has both spellings
 abbrev pub MeanTheSame : List ℕ → List ℕ → Type 0

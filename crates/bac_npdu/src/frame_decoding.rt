@@ -4,37 +4,19 @@ ghost use Rattle.std.specs.Prelude.{◌≡◌, ◌≢◌, ◌↔◌, false, IfOk
 ghost use Rattle.bac_tag.specs.declared.refusals.Why.TheVariants.{OutOfMemory};
 ghost use Rattle.bac_tag.specs.Octets.{joined_mark};
 ghost use Rattle.bac_tag.specs.Spelling.{HasMark, IsWholeRefusal};
-ghost use Rattle.bac_npdu.specs.FrameHeads.{frame_with};
-ghost use Rattle.bac_npdu.specs.Frames.{SpellsFrame, body_value, value_of};
-ghost use Rattle.bac_npdu.specs.Heads.{IsVersionPlace, IsAddressPlace};
-ghost use Rattle.bac_npdu.specs.Decoded.{begins_small, IsPduTypePlace, IsFrameWindowPlace, IsFrameReason, IsMade, IsVisited, IsDecoded, IsDecodedAlone};
-ghost use Rattle.bac_npdu.specs.HeadsRead.{IsBehind, IsControlMark, IsBodyVisited};
+ghost use Rattle.bac_npdu_parts.specs.FrameHeads.{frame_with};
+ghost use Rattle.bac_npdu_parts.specs.Frames.{SpellsFrame, body_value, value_of};
+ghost use Rattle.bac_npdu_parts.specs.Heads.{IsVersionPlace, IsAddressPlace};
+ghost use Rattle.bac_npdu_parts.specs.Decoded.{begins_small, IsPduTypePlace, IsFrameWindowPlace, IsFrameReason, IsMade, IsVisited, IsDecoded, IsDecodedAlone};
+ghost use Rattle.bac_npdu_parts.specs.HeadsRead.{IsBehind, IsBodyVisited};
 
-use crate::control::Control;
-use crate::frame::{Body, Frame};
-use crate::frame_head::FrameHead;
-use crate::frame_heads::read_head;
-use crate::message_decoding::decode_message;
 use crate::visiting::FrameVisitor;
 use bac_apdu::Apdu;
 use bac_apdu::layers::{ApduVisitor, visit_apdu};
+use bac_npdu_parts::layers::{decode_message, mark_of, read_head};
+use bac_npdu_parts::{Body, Frame, FrameHead};
 use bac_tag::{Refusal, Why};
 use std::alloc::Global;
-
-/// Returns the place of the control octet if an ignored bit of it is not 0, and None otherwise.
-#[inline(always)]
-pub(crate) fn mark_of(control: Control) -> Option<usize>
-    ensures { IsControlMark control.0 result }
-{
-    let least = Control::new(
-        control.has_message(),
-        control.has_destination(),
-        control.has_source(),
-        control.has_reply(),
-        control.priority(),
-    );
-    if control == least { None } else { Some(1) }
-}
 
 /// Returns the mark of a head of `size` octets with a body after it. `first` is the mark of the head alone, and
 /// `second` that of the body alone. A mark is a place within the octets, so the sum does not wrap.
@@ -78,9 +60,9 @@ impl<V: FrameVisitor> Behind<'_, V> {
 
 impl<V: FrameVisitor> ApduVisitor for Behind<'_, V> {
     ghost use Rattle.bac_tag.specs.Octets.{joined_mark};
-    ghost use Rattle.bac_npdu.specs.FrameHeads.{frame_with};
-    ghost use Rattle.bac_npdu.specs.Frames.{apdu};
-    ghost use Rattle.bac_npdu.specs.HeadsRead.{IsBehind};
+    ghost use Rattle.bac_npdu_parts.specs.FrameHeads.{frame_with};
+    ghost use Rattle.bac_npdu_parts.specs.Frames.{apdu};
+    ghost use Rattle.bac_npdu_parts.specs.HeadsRead.{IsBehind};
 
     type Place = V::Place;
 
@@ -125,7 +107,7 @@ fn visit_any<V: FrameVisitor>(
 {
     let read = read_head(octets)?;
     let (_, rest) = octets.split_at(read.size);
-    let head = FrameHead::of(&read);
+    let head = read.head();
     let behind = Behind {
         head: &head,
         mark: mark_of(read.control),
@@ -170,7 +152,7 @@ struct Keep {
 }
 
 impl FrameVisitor for Keep {
-    ghost use Rattle.bac_npdu.specs.Decoded.{IsKept};
+    ghost use Rattle.bac_npdu_parts.specs.Decoded.{IsKept};
 
     type Place = ();
 
@@ -227,7 +209,7 @@ struct KeepFrame {
 }
 
 impl FrameVisitor for KeepFrame {
-    ghost use Rattle.bac_npdu.specs.Decoded.{IsKeptAlone};
+    ghost use Rattle.bac_npdu_parts.specs.Decoded.{IsKeptAlone};
 
     type Place = ();
 

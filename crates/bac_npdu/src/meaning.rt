@@ -3,14 +3,13 @@
 ghost use Rattle.std.specs.Prelude.{◌≡◌, ◌≢◌, ◌↔◌, true, false, IfOk, IfErr};
 ghost use Rattle.bac_tag.specs.declared.refusals.Why.TheVariants.{OutOfMemory};
 ghost use Rattle.bac_tag.specs.Spelling.{HasMark, IsLeast, IsSpelling, IsWholeRefusal};
-ghost use Rattle.bac_npdu.specs.Frames.{SpellsFrame, value_of};
-ghost use Rattle.bac_npdu.specs.Decoded.{begins_small, IsReasoned};
+ghost use Rattle.bac_npdu_parts.specs.Frames.{SpellsFrame, value_of};
+ghost use Rattle.bac_npdu_parts.specs.Decoded.{begins_small, IsReasoned};
 ghost use Rattle.bac_npdu.specs.Meanings.{IsShortOfMemory, MeanTheSame};
 
-use crate::frame::Frame;
 use crate::frame_decoding::decode_marked;
-use crate::frame_encoding::encode_frame;
 use crate::laws::frames_have_one_value;
+use bac_npdu_parts::{Frame, encode_frame};
 use bac_tag::Refusal;
 use std::alloc::Global;
 

@@ -2,17 +2,16 @@
 
 ghost use Rattle.std.specs.Prelude.{◌≡◌, ◌≢◌, ◌↔◌, false, IsTrue, IfOk, IfErr};
 ghost use Rattle.bac_tag.specs.Spelling.{IsLeast, IsWholeRefusal, IsCanonical};
-ghost use Rattle.bac_npdu.specs.Frames.{SpellsFrame, value_of};
-ghost use Rattle.bac_npdu.specs.Heads.{IsVersionPlace, IsAddressPlace};
-ghost use Rattle.bac_npdu.specs.Decoded.{begins_small, IsPduTypePlace, IsFrameWindowPlace, IsFrameReason, IsReasoned};
+ghost use Rattle.bac_npdu_parts.specs.Frames.{SpellsFrame, value_of};
+ghost use Rattle.bac_npdu_parts.specs.Heads.{IsVersionPlace, IsAddressPlace};
+ghost use Rattle.bac_npdu_parts.specs.Decoded.{begins_small, IsPduTypePlace, IsFrameWindowPlace, IsFrameReason, IsReasoned};
 ghost use Rattle.bac_npdu.specs.Meanings.{IsNormalOf, IsFirstFlaw, IsShortOfMemory};
 
-use crate::frame::{Body, Frame};
-use crate::frame_decoding::{decode_marked, mark_of, visit_frame};
-use crate::frame_head::FrameHead;
-use crate::frame_heads::read_head;
+use crate::frame_decoding::{decode_marked, visit_frame};
 use crate::visiting::FrameVisitor;
 use bac_apdu::layers::is_canonical_apdu;
+use bac_npdu_parts::layers::{mark_of, read_head};
+use bac_npdu_parts::{Body, Frame, FrameHead};
 use bac_tag::{OutOfMemory, Refusal, Why};
 use std::alloc::Global;
 

@@ -1,11 +1,10 @@
 //! What is made of a frame where it was decoded.
 
 ghost use Rattle.std.specs.Prelude.{ℕ, Option};
-ghost use Rattle.bac_npdu.specs.FrameHeads.{frame_with};
-ghost use Rattle.bac_npdu.specs.Frames.{FrameValue, body_value};
+ghost use Rattle.bac_npdu_parts.specs.FrameHeads.{frame_with};
+ghost use Rattle.bac_npdu_parts.specs.Frames.{FrameValue, body_value};
 
-use crate::frame::Body;
-use crate::frame_head::FrameHead;
+use bac_npdu_parts::{Body, FrameHead};
 
 /// What is made of a frame where it was decoded. So the frame need not be put together. To put a frame together takes
 /// longer than to decode a short one.

@@ -6,7 +6,7 @@ use Rattle.bac_tag.specs.declared.refusals.Refusal.{Refusal}
 use Rattle.bac_tag.specs.declared.refusals.Why.TheVariants.{OutOfMemory, NotCanonical}
 use Rattle.bac_record.specs.Records.{Records, MOST, TooMany, end_of}
 use Rattle.bac_record.proofs.Unique.{unique}
-use Rattle.bac_npdu.specs.Frames.{FrameValue, SpellsFrame, value_of}
+use Rattle.bac_npdu_parts.specs.Frames.{FrameValue, SpellsFrame, value_of}
 use Rattle.bac_stream.specs.Judging.{IsCanonicalFor, Refuses}
 use Rattle.bac_stream.specs.Feeds.{Feed, Fed, Feeds, IsAnswer, taken_in, items_of, where_ok}
 use Rattle.bac_stream.specs.Intakes.{IntakeValue, Item, IsItem, GivesItsValue, TakesIn, FeedFails, fresh}

@@ -3,7 +3,7 @@ use Rattle.std.proofs.Common.{◌≡◌, ℕ, List, [], ◌∷◌, ◌++◌, Opt
 use Rattle.std.specs.Prelude.{Ok, Err}
 use Rattle.bac_tag.specs.declared.refusals.Why.{Why}
 use Rattle.bac_tag.specs.Spelling.{HasMark}
-use Rattle.bac_npdu.specs.Frames.{FrameValue, SpellsFrame}
+use Rattle.bac_npdu_parts.specs.Frames.{FrameValue, SpellsFrame}
 use Rattle.bac_stream.specs.Intakes.{IsItem, IsItemOf, IsItemPushed, Item}
 use Rattle.bac_stream.specs.Judging.{Accepts, Refuses}
 use Rattle.bac_stream.specs.declared.modes.Mode.{Mode}

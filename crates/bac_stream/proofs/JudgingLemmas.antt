@@ -8,9 +8,9 @@ use Rattle.bac_tag.specs.Octets.{IsMark}
 use Rattle.bac_tag.specs.Laws.Octets.{NoGreater-length}
 use Rattle.bac_tag.specs.Spelling.{IsLeast, HasMark}
 use Rattle.bac_tag.specs.Laws.Spelling.{IsLeast-one, unmarked_least}
-use Rattle.bac_npdu.specs.Heads.{IsVersionPlace, IsAddressPlace}
-use Rattle.bac_npdu.specs.Frames.{FrameValue, SpellsFrame}
-use Rattle.bac_npdu.specs.Decoded.{IsPduTypePlace, IsFrameWindowPlace, IsFrameReason, IsReasoned}
+use Rattle.bac_npdu_parts.specs.Heads.{IsVersionPlace, IsAddressPlace}
+use Rattle.bac_npdu_parts.specs.Frames.{FrameValue, SpellsFrame}
+use Rattle.bac_npdu_parts.specs.Decoded.{IsPduTypePlace, IsFrameWindowPlace, IsFrameReason, IsReasoned}
 use Rattle.bac_stream.specs.Judging.{IsCanonicalFor, IsCanonical, Accepts, IsJudged, IsRefused, IsHopeless, Refuses}
 use Rattle.bac_stream.specs.Lines.{IsChecked, said_of}
 use Rattle.bac_record.specs.Deals.{DealFails}

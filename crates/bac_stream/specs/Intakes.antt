@@ -4,8 +4,8 @@ use Rattle.std.specs.List.{AllZip}
 use Rattle.std.specs.Coded.{Coded, code_by, coded×, coded_ℕ, coded_list}
 use Rattle.bac_tag.specs.declared.refusals.Refusal.{Refusal}
 use Rattle.bac_tag.specs.declared.refusals.Why.TheVariants.{NotCanonical}
-use Rattle.bac_npdu.specs.declared.frame.Frame.{Frame}
-use Rattle.bac_npdu.specs.Frames.{FrameValue, value_of}
+use Rattle.bac_npdu_parts.specs.declared.frame.Frame.{Frame}
+use Rattle.bac_npdu_parts.specs.Frames.{FrameValue, value_of}
 use Rattle.bac_record.specs.Records.{RecordsUpTo, BeginsRecord, MOST, TooMany, end_of}
 use Rattle.bac_stream.specs.Judging.{Accepts, IsRefused, Refuses}
 use Rattle.bac_stream.specs.declared.modes.Mode.{Mode}

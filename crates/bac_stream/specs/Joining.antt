@@ -11,7 +11,7 @@ use Rattle.bac_service.specs.ServiceTable.{is_small}
 use Rattle.bac_apdu.specs.declared.segment.SegHead.{SegHead}
 use Rattle.bac_apdu.specs.declared.segment.SegHead.TheVariants.{Request, Ack}
 use Rattle.bac_apdu.specs.Apdus.{ApduValue, segment}
-use Rattle.bac_npdu.specs.Frames.{FrameValue, BodyValue, apdu}
+use Rattle.bac_npdu_parts.specs.Frames.{FrameValue, BodyValue, apdu}
 use Rattle.bac_segment.specs.declared.faults.Taken.TheVariants as taken
 use Rattle.bac_segment.specs.declared.faults.TakeFault.TheVariants as fault
 use Rattle.bac_segment.specs.Deliveries.{Delivery, key_of}

@@ -11,8 +11,8 @@ use Rattle.bac_record.specs.declared.dealing.DealFault.{DealFault}
 use Rattle.bac_record.specs.declared.dealing.DealFault.TheVariants.{Stop, Memory}
 use Rattle.bac_record.specs.Outputs.{Outputs}
 use Rattle.bac_record.specs.Records.{record_of, joined, IsRecord}
-use Rattle.bac_npdu.specs.FrameHeads.{frame_with}
-use Rattle.bac_npdu.specs.Frames.{FrameValue, SpellsFrame, body_value}
+use Rattle.bac_npdu_parts.specs.FrameHeads.{frame_with}
+use Rattle.bac_npdu_parts.specs.Frames.{FrameValue, SpellsFrame, body_value}
 use Rattle.bac_text.specs.FrameText.{text}
 use Rattle.bac_stream.specs.Judging.{Accepts, Refuses, IsCanonicalFor, IsCanonical}
 use Rattle.bac_stream.specs.declared.modes.Mode.{Mode}

@@ -1,7 +1,7 @@
 //! Segments that come in frames, joined to services (clause 5.2).
 
 ghost use Rattle.std.specs.Prelude.{◌≡◌, IfErr, MatchOption, None, Some, false};
-ghost use Rattle.bac_npdu.specs.Frames.{value_of};
+ghost use Rattle.bac_npdu_parts.specs.Frames.{value_of};
 ghost use Rattle.bac_segment.specs.Deliveries.{delivery};
 ghost use Rattle.bac_stream.specs.Joining.{DeskJoins, IsFromMessage, delivered, is_taken, kind_of};
 

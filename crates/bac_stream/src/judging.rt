@@ -1,8 +1,8 @@
 //! Which records are accepted, and what is appended for them.
 
 ghost use Rattle.std.specs.Prelude.{◌≡◌, ◌↔◌, ℕ, List, Option, None, IfErr, IfOk, OnErr, OnOk};
-ghost use Rattle.bac_npdu.specs.FrameHeads.{frame_with};
-ghost use Rattle.bac_npdu.specs.Frames.{FrameValue, body_value};
+ghost use Rattle.bac_npdu_parts.specs.FrameHeads.{frame_with};
+ghost use Rattle.bac_npdu_parts.specs.Frames.{FrameValue, body_value};
 ghost use Rattle.bac_record.specs.Deals.{DealFails};
 ghost use Rattle.bac_stream.specs.Judging.{IsAccepted, IsCanonical, IsRefused, Refuses};
 

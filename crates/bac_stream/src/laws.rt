@@ -5,7 +5,7 @@ ghost use Rattle.std.specs.List.{AllByRecursion, AllZip};
 ghost use Rattle.bac_tag.specs.declared.refusals.Refusal.{Refusal};
 ghost use Rattle.bac_tag.specs.declared.refusals.Why.TheVariants.{OutOfMemory};
 ghost use Rattle.bac_service.specs.Services.{ServiceValue, SpellsService};
-ghost use Rattle.bac_npdu.specs.Frames.{SpellsFrame};
+ghost use Rattle.bac_npdu_parts.specs.Frames.{SpellsFrame};
 ghost use Rattle.bac_npdu.specs.Meanings.{IsNormalOf, MeanTheSame};
 ghost use Rattle.bac_segment.specs.declared.cutting.CutPlan.{CutPlan};
 ghost use Rattle.bac_segment.specs.declared.keys.Key.{Key};

@@ -3,8 +3,8 @@
 ghost use Rattle.std.specs.Prelude.{◌≡◌, ◌≤◌, ◌+◌, ◌++◌, codes, IfOk, OnOk, OnErr, length, take};
 ghost use Rattle.std.specs.Fmt.{decimal};
 ghost use Rattle.bac_tag.specs.Octets.{Extends};
-ghost use Rattle.bac_npdu.specs.FrameHeads.{frame_with};
-ghost use Rattle.bac_npdu.specs.Frames.{body_value};
+ghost use Rattle.bac_npdu_parts.specs.FrameHeads.{frame_with};
+ghost use Rattle.bac_npdu_parts.specs.Frames.{body_value};
 ghost use Rattle.bac_text.specs.FrameText.{text};
 ghost use Rattle.bac_stream.specs.Lines.{ok, tolerated, refused, said_by, said_of, said_text, numbered};
 

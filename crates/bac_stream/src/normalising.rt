@@ -2,8 +2,8 @@
 
 ghost use Rattle.std.specs.Prelude.{◌≡◌, ◌≤◌, ◌++◌, IfErr, IfOk, OnErr, OnOk, MatchResult, List, ℕ, Some};
 ghost use Rattle.bac_tag.specs.Octets.{Extends};
-ghost use Rattle.bac_npdu.specs.FrameHeads.{frame_with};
-ghost use Rattle.bac_npdu.specs.Frames.{body_value};
+ghost use Rattle.bac_npdu_parts.specs.FrameHeads.{frame_with};
+ghost use Rattle.bac_npdu_parts.specs.Frames.{body_value};
 ghost use Rattle.bac_stream.specs.Judging.{IsCanonicalFor, IsCanonical, IsRefused, Refuses};
 ghost use Rattle.bac_stream.specs.Lines.{AppendsRecord, NormalisesTo};
 ghost use Rattle.bac_record.specs.Records.{Records, IsRecord, LONGEST};

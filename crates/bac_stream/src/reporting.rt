@@ -2,8 +2,8 @@
 
 ghost use Rattle.std.specs.Prelude.{◌≡◌, List, OnErr, OnOk, ℕ};
 ghost use Rattle.bac_tag.specs.declared.refusals.Refusal.{Refusal as RefusalValue};
-ghost use Rattle.bac_npdu.specs.FrameHeads.{frame_with};
-ghost use Rattle.bac_npdu.specs.Frames.{body_value};
+ghost use Rattle.bac_npdu_parts.specs.FrameHeads.{frame_with};
+ghost use Rattle.bac_npdu_parts.specs.Frames.{body_value};
 ghost use Rattle.bac_stream.specs.declared.modes.Mode.{Mode as ModeValue};
 ghost use Rattle.bac_stream.specs.Judging.{IsCanonical, IsRefused, Refuses};
 ghost use Rattle.bac_stream.specs.Lines.{IsReported, ReportsAs, Said, refused};

@@ -1,7 +1,7 @@
 -- The text of a frame.
 use Rattle.std.specs.Prelude.{ℕ, List, [], ◌∷◌, ◌++◌, codes}
-use Rattle.bac_npdu.specs.Addresses.{SourceValue, DestinationValue}
-use Rattle.bac_npdu.specs.Frames.{FrameValue, BodyValue, apdu, message}
+use Rattle.bac_npdu_parts.specs.Addresses.{SourceValue, DestinationValue}
+use Rattle.bac_npdu_parts.specs.Frames.{FrameValue, BodyValue, apdu, message}
 use Rattle.bac_record.specs.Digits.{hexadecimal}
 use Rattle.bac_text.specs.Words.{number, truth, field, optional}
 use Rattle.bac_text.specs.ApduText.{apdu_text}

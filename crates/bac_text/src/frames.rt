@@ -2,8 +2,8 @@
 
 ghost use Rattle.std.specs.Prelude.{◌≡◌, ◌≤◌, ◌++◌, ◌<◌, IfOk, OnOk, OnErr, length, take};
 ghost use Rattle.bac_tag.specs.Octets.{Extends};
-ghost use Rattle.bac_npdu.specs.FrameHeads.{frame_with};
-ghost use Rattle.bac_npdu.specs.Frames.{body_value, value_of};
+ghost use Rattle.bac_npdu_parts.specs.FrameHeads.{frame_with};
+ghost use Rattle.bac_npdu_parts.specs.Frames.{body_value, value_of};
 ghost use Rattle.bac_text.specs.FrameText.{address_text, text};
 ghost use Rattle.bac_text.specs.Words.{field, number, truth};
 
@@ -72,7 +72,7 @@ impl HasText for DestRef<'_> {
 }
 
 impl HasText for Body {
-    ghost use Rattle.bac_npdu.specs.Frames.{body_value};
+    ghost use Rattle.bac_npdu_parts.specs.Frames.{body_value};
     ghost use Rattle.bac_text.specs.FrameText.{body_text};
 
     ghost text = { λ body. body_text (body_value body) };

@@ -17,7 +17,7 @@ mod tables;
 
 /// `net type=TT`, TT two hexadecimal digits, and the fields.
 impl HasText for NetMessage {
-    ghost use Rattle.bac_npdu.specs.Messages.{message_value};
+    ghost use Rattle.bac_npdu_parts.specs.Messages.{message_value};
     ghost use Rattle.bac_text.specs.MessageText.{message_text};
 
     ghost text = { λ message. message_text (message_value message) };

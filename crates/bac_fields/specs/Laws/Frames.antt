@@ -9,12 +9,12 @@ use Rattle.bac_tag.specs.Laws.Octets.{octets_front, octets_back}
 use Rattle.bac_tag.specs.Spelling.{Joined, OneOf}
 use Rattle.bac_tag.proofs.HeadOctetLemmas.{part_spelled, parts_are, headed_rest}
 use Rattle.bac_service.specs.Productions.{Optional, IsInhabited}
-use Rattle.bac_npdu.specs.Addresses.{SourceValue, DestinationValue, addressed, destination_of, source_of, hops_of, HasAddress}
-use Rattle.bac_npdu.specs.Control.{least_of}
-use Rattle.bac_npdu.specs.Frames.{FrameValue, BodyValue, apdu, message, SpellsBody, SpellsFrame, control_of, addresses_of}
-use Rattle.bac_npdu.proofs.FrameLemmas.{control_spelled}
+use Rattle.bac_npdu_parts.specs.Addresses.{SourceValue, DestinationValue, addressed, destination_of, source_of, hops_of, HasAddress}
+use Rattle.bac_npdu_parts.specs.Control.{least_of}
+use Rattle.bac_npdu_parts.specs.Frames.{FrameValue, BodyValue, apdu, message, SpellsBody, SpellsFrame, control_of, addresses_of}
+use Rattle.bac_npdu_parts.proofs.FrameLemmas.{control_spelled}
 use Rattle.bac_apdu.specs.Apdus.{ApduValue, SpellsApdu}
-use Rattle.bac_npdu.specs.Messages.{MessageValue, SpellsMessage}
+use Rattle.bac_npdu_parts.specs.Messages.{MessageValue, SpellsMessage}
 use Rattle.bac_field_parts.specs.declared.field.Field.{Field}
 use Rattle.bac_field_parts.specs.PrimitiveFields.{truth}
 use Rattle.bac_fields.specs.ApduSymbols.{apdu_said, apdu_leads}

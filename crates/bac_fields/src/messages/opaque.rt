@@ -1,7 +1,7 @@
 //! The fields of messages whose type has no layout (clause 6.2.3).
 
 ghost use Rattle.std.specs.Prelude.{◌≡◌, nat_le, ℕ, List, true, false};
-ghost use Rattle.bac_npdu.specs.MessageTypes.{is_typed};
+ghost use Rattle.bac_npdu_parts.specs.MessageTypes.{is_typed};
 ghost use Rattle.bac_field_parts.specs.declared.names.Name.TheVariants as name;
 ghost use Rattle.bac_fields.specs.MessageSymbols.{IsOpaqueType};
 ghost use Rattle.bac_fields.specs.Laws.NetworkMessages.{opaque_type_inhabited};

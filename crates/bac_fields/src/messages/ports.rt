@@ -1,7 +1,7 @@
 //! The fields of routing tables (clauses 6.4.7 and 6.4.8).
 
 ghost use Rattle.std.specs.Prelude.{List};
-ghost use Rattle.bac_npdu.specs.declared.messages.port.Port.{Port};
+ghost use Rattle.bac_npdu_parts.specs.declared.messages.port.Port.{Port};
 ghost use Rattle.bac_field_parts.specs.declared.names.Name.TheVariants as name;
 ghost use Rattle.bac_fields.specs.MessageFields.{ports_steps};
 

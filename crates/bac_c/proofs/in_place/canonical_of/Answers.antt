@@ -1,5 +1,5 @@
-use Rattle.bac_npdu.specs.FrameHeads.{frame_with}
-use Rattle.bac_npdu.specs.Frames.{SpellsFrame, body_value}
+use Rattle.bac_npdu_parts.specs.FrameHeads.{frame_with}
+use Rattle.bac_npdu_parts.specs.Frames.{SpellsFrame, body_value}
 use Rattle.bac_c.proofs.FrameLemmas.{least_alone}
 use Rattle.bac_c.proofs.in_place.canonical_of.Goals as goal
 

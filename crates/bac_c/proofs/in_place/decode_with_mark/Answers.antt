@@ -1,7 +1,7 @@
 use Rattle.std.proofs.Common.{ℕ, sym, subst}
 use Rattle.std.specs.Prelude.{Option}
-use Rattle.bac_npdu.specs.FrameHeads.{frame_with}
-use Rattle.bac_npdu.specs.Frames.{body_value}
+use Rattle.bac_npdu_parts.specs.FrameHeads.{frame_with}
+use Rattle.bac_npdu_parts.specs.Frames.{body_value}
 use Rattle.bac_c.specs.InPlace.{IsMadeOf}
 use Rattle.bac_c.proofs.in_place.decode_with_mark.Goals as goal
 

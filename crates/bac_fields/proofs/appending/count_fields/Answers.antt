@@ -1,6 +1,6 @@
 use Rattle.std.proofs.Common.{ap, ◌∙◌, [], zero-add}
-use Rattle.bac_npdu.specs.FrameHeads.{frame_with}
-use Rattle.bac_npdu.specs.Frames.{body_value}
+use Rattle.bac_npdu_parts.specs.FrameHeads.{frame_with}
+use Rattle.bac_npdu_parts.specs.Frames.{body_value}
 use Rattle.bac_fields.specs.FrameFields.{frame_steps}
 use Rattle.bac_fields.proofs.ToldLemmas.{count-told}
 use Rattle.bac_fields.proofs.appending.count_fields.Goals as goal

@@ -1,6 +1,6 @@
 use Rattle.std.proofs.Common.{◌≡◌, ◌++◌, length, drop, refl, sym, ap, ◌∙◌, zero-add, arith}
-use Rattle.bac_npdu.specs.FrameHeads.{frame_with}
-use Rattle.bac_npdu.specs.Frames.{body_value}
+use Rattle.bac_npdu_parts.specs.FrameHeads.{frame_with}
+use Rattle.bac_npdu_parts.specs.Frames.{body_value}
 use Rattle.bac_fields.specs.FrameFields.{frame_steps, placed_fields}
 use Rattle.bac_fields.proofs.ToldLemmas.{count-told, writes_all, writes_where_it_fits, if_none}
 use Rattle.bac_fields.proofs.appending.write_fields_at_once.Goals as goal

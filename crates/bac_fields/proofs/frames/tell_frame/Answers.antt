@@ -1,5 +1,5 @@
 use Rattle.std.proofs.Common.{◌≡◌}
-use Rattle.bac_npdu.specs.FrameHeads.{address_read, destination_read}
+use Rattle.bac_npdu_parts.specs.FrameHeads.{address_read, destination_read}
 use Rattle.bac_fields.specs.FrameFields.{control_steps, addresses_steps}
 use Rattle.bac_field_parts.proofs.FieldLemmas.{writes_then, writes_none, writes_same}
 use Rattle.bac_fields.proofs.frames.tell_frame.Goals as goal

@@ -1,4 +1,4 @@
-use Rattle.bac_npdu.specs.Frames.{value_of}
+use Rattle.bac_npdu_parts.specs.Frames.{value_of}
 use Rattle.bac_lines.proofs.ReadingLemmas.{frame_read}
 use Rattle.bac_lines.proofs.reading.frame_of_line.Goals as goal
 

@@ -1,6 +1,6 @@
 use Rattle.std.specs.Prelude.{◌<◌, ℕ, slice_index}
 use Rattle.std.proofs.Common.{arith}
-use Rattle.bac_npdu.proofs.FrameReadLemmas.{kept_decoded}
+use Rattle.bac_npdu_parts.proofs.FrameReadLemmas.{kept_decoded}
 use Rattle.bac_npdu.proofs.frame_decoding.decode_any.Goals as goal
 
 pub returns : goal.returns

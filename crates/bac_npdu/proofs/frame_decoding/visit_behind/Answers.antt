@@ -1,8 +1,8 @@
 use Rattle.std.specs.Prelude.{None, refl}
 use Rattle.std.proofs.lemmas.Result.{err_from_is_err_and}
-use Rattle.bac_npdu.specs.Frames.{message}
-use Rattle.bac_npdu.specs.Messages.{message_value}
-use Rattle.bac_npdu.proofs.BodyLemmas.{message_refused, message_found, apdu_visited}
+use Rattle.bac_npdu_parts.specs.Frames.{message}
+use Rattle.bac_npdu_parts.specs.Messages.{message_value}
+use Rattle.bac_npdu_parts.proofs.BodyLemmas.{message_refused, message_found, apdu_visited}
 use Rattle.bac_npdu.proofs.frame_decoding.visit_behind.Goals as goal
 
 pub returns-in_err-message : goal.returns-in_err-message

@@ -1,4 +1,4 @@
-use Rattle.bac_npdu.proofs.OnceLemmas.{meaning_told}
+use Rattle.bac_npdu.proofs.MeaningLemmas.{meaning_told}
 use Rattle.bac_npdu.proofs.laws.canonical_octets_tell_the_meaning.Goals as goal
 
 pub returns : goal.returns

@@ -1,4 +1,4 @@
-use Rattle.bac_npdu.proofs.OnceLemmas.{normal_once}
+use Rattle.bac_npdu.proofs.MeaningLemmas.{normal_once}
 use Rattle.bac_npdu.proofs.laws.normalised_twice_is_once.Goals as goal
 
 pub returns : goal.returns

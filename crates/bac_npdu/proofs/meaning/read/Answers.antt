@@ -1,7 +1,7 @@
 use Rattle.std.specs.Prelude.{◌<◌, ℕ, slice_index}
 use Rattle.std.proofs.Common.{arith}
-use Rattle.bac_npdu.specs.Frames.{value_of}
-use Rattle.bac_npdu.proofs.FrameReadLemmas.{spelled_memory}
+use Rattle.bac_npdu_parts.specs.Frames.{value_of}
+use Rattle.bac_npdu_parts.proofs.FrameReadLemmas.{spelled_memory}
 use Rattle.bac_npdu.proofs.meaning.read.Goals as goal
 
 pub returns-in-Ok-clause-unwritten : goal.returns-in-Ok-clause-unwritten

@@ -1,8 +1,8 @@
 use Rattle.std.specs.Prelude.{◌≡◌, ◌↔◌, true}
 use Rattle.std.proofs.Common.{rules, inl}
 use Rattle.std.proofs.lemmas.Result.{err_from_is_err_and}
-use Rattle.bac_npdu.specs.Frames.{value_of}
-use Rattle.bac_npdu.proofs.OnceLemmas.{least_itself, same_compared}
+use Rattle.bac_npdu_parts.specs.Frames.{value_of}
+use Rattle.bac_npdu.proofs.MeaningLemmas.{least_itself, same_compared}
 use Rattle.bac_npdu.proofs.MemoryLemmas.{told_reasoned, told_short, told_behind}
 use Rattle.bac_npdu.proofs.meaning.same_meaning.Goals as goal
 

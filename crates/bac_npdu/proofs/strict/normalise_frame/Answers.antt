@@ -1,7 +1,6 @@
-use Rattle.std.specs.Prelude.{◌<◌, ℕ, slice_index, refl}
-use Rattle.std.proofs.Common.{arith, inl, inr}
+use Rattle.std.proofs.Common.{inl}
 use Rattle.std.proofs.lemmas.Result.{err_from_is_err_and}
-use Rattle.bac_npdu.proofs.FrameReadLemmas.{normalised, spelled_memory}
+use Rattle.bac_npdu.proofs.MeaningLemmas.{normalised}
 use Rattle.bac_npdu.proofs.strict.normalise_frame.Goals as goal
 
 pub returns-in-Ok-2-clause-written : goal.returns-in-Ok-2-clause-written

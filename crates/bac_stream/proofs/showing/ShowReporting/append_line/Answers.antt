@@ -1,6 +1,6 @@
 use Rattle.std.proofs.lemmas.Result.{on_ok_weaker}
-use Rattle.bac_npdu.specs.FrameHeads.{frame_with}
-use Rattle.bac_npdu.specs.Frames.{body_value}
+use Rattle.bac_npdu_parts.specs.FrameHeads.{frame_with}
+use Rattle.bac_npdu_parts.specs.Frames.{body_value}
 use Rattle.bac_stream.specs.Lines.{shown}
 use Rattle.bac_stream.proofs.showing.ShowReporting.append_line.Goals as goal
 

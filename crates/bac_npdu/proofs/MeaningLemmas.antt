@@ -1,0 +1,36 @@
+-- What two lists mean, and canonical octets of what was read.
+use Rattle.std.specs.Prelude.{◌≡◌, ◌↔◌, ℕ, Bool, true, Option, Some, None, List}
+use Rattle.std.proofs.Common.{sym, ◌∙◌, subst}
+use Rattle.bac_tag.specs.Spelling.{IsLeast, HasMark}
+use Rattle.bac_tag.specs.Laws.Spelling.{IsLeast-one}
+use Rattle.bac_npdu_parts.specs.Frames.{FrameValue, SpellsFrame}
+use Rattle.bac_npdu.specs.Meanings.{IsNormalised, MeanTheSame, IsNormalOf}
+
+-- what is written of a frame that octets with this mark spell
+pub normalised : (f : FrameValue) (octets : List ℕ) (mark : Option ℕ) (written : List ℕ) → HasMark (SpellsFrame f) octets mark → IsNormalised f octets mark written → IsLeast (SpellsFrame f) written
+normalised f octets None written h n = subst (IsLeast (SpellsFrame f)) (sym (n ∙ h.is_mark)) h.is_least
+normalised f octets (Some place) written h n = n
+
+-- octets without a mark are their own canonical octets
+pub least_itself : (f : FrameValue) (b : List ℕ) (mark : Option ℕ) → mark ≡ None → HasMark (SpellsFrame f) b mark → IsLeast (SpellsFrame f) b
+least_itself f b None e h = subst (IsLeast (SpellsFrame f)) (sym h.is_mark) h.is_least
+least_itself f b (Some place) e h = absurd (let i : Some place ≡ None = e in cc)
+
+module _ (frames : (f g : FrameValue) (b : List ℕ) → SpellsFrame f b → SpellsFrame g b → f ≡ g) where
+  -- canonical octets of both sides are equal exactly where the sides mean the same
+  pub same_told : (x y : FrameValue) (l r b c : List ℕ) → SpellsFrame x l → SpellsFrame y r → IsLeast (SpellsFrame x) b → IsLeast (SpellsFrame y) c → (b ≡ c) ↔ MeanTheSame l r
+  same_told x y l r b c p q s t = (
+    λ e. let same = frames x y c (subst (SpellsFrame x) e s.member) t.member in (x, p, subst (λ (f : FrameValue). SpellsFrame f r) (sym same) q),
+    λ m. let same = frames x m.0 l p m.1 ∙ frames m.0 y r m.2 q in IsLeast-one (SpellsFrame y) b c (subst (λ (f : FrameValue). IsLeast (SpellsFrame f) b) same s) t,
+  )
+
+  pub meaning_told : (b c d e : List ℕ) → IsNormalOf b d → IsNormalOf c e → MeanTheSame b c ↔ (d ≡ e)
+  meaning_told b c d e p q = let told = same_told p.0 q.0 b c d e p.1 q.1 p.2 q.2 in (told.1, told.0)
+
+  -- the same, where a comparison tells whether they are equal
+  pub same_compared : (x y : FrameValue) (l r b c : List ℕ) (t : Bool) → SpellsFrame x l → SpellsFrame y r → IsLeast (SpellsFrame x) b → IsLeast (SpellsFrame y) c → (t ≡ true) ↔ (b ≡ c) → (t ≡ true) ↔ MeanTheSame l r
+  same_compared x y l r b c t p q s u e = let told = same_told x y l r b c p q s u in (λ h. told.0 (e.0 h), λ m. e.1 (told.1 m))
+
+  -- canonical octets of canonical octets are the same
+  pub normal_once : (b c d : List ℕ) → IsNormalOf b c → IsNormalOf c d → c ≡ d
+  normal_once b c d p q = let same = frames p.0 q.0 c p.2.member q.1 in IsLeast-one (SpellsFrame q.0) c d (subst (λ (f : FrameValue). IsLeast (SpellsFrame f) c) same p.2) q.2

@@ -1,6 +1,0 @@
-use Rattle.std.proofs.Common.{arith}
-use Rattle.bac_npdu.proofs.ControlLemmas.{flag_is}
-use Rattle.bac_npdu.proofs.control.Control.has_reply.Goals as goal
-
-pub returns : goal.returns
-returns c = flag_is c.args.self.0 2 c.contains.result (omega arith) (c.contains.ensures tt)

@@ -1,5 +1,0 @@
-use Rattle.bac_npdu.proofs.LawLemmas.{frame_no_longer}
-use Rattle.bac_npdu.proofs.laws.canonical_octets_are_no_longer.Goals as goal
-
-pub returns : goal.returns
-returns c = frame_no_longer

@@ -1,4 +1,0 @@
-use Rattle.bac_npdu.proofs.laws.canonical_octets_give_the_frame_back.Goals as goal
-
-pub returns : goal.returns
-returns c = λ f g b least spelled. c.frames_have_one_value.ensures g f b spelled least.member

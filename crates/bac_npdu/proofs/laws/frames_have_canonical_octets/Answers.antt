@@ -1,5 +1,0 @@
-use Rattle.bac_npdu.proofs.LawLemmas.{frame_canonical}
-use Rattle.bac_npdu.proofs.laws.frames_have_canonical_octets.Goals as goal
-
-pub returns : goal.returns
-returns c = frame_canonical c.apdus_have_canonical_octets.ensures

@@ -1,6 +1,0 @@
-use Rattle.bac_npdu.specs.Messages.{message_value}
-use Rattle.bac_npdu.proofs.HeldLemmas.{message_held}
-use Rattle.bac_npdu.proofs.laws.held_messages_have_canonical_octets.Goals as goal
-
-pub returns : goal.returns
-returns c = message_held (message_value c.args.message.now) c.held_message_fits.ensures.formed c.held_message_fits.ensures.parts

@@ -1,0 +1,96 @@
+-- The octets of what a program holds are octets, and so they are a spelling.
+use Rattle.std.specs.Prelude.{◌≡◌, ℕ, suc, ◌+◌, ◌<◌, Option, Some, None, List, [], ◌∷◌, ◌++◌, length, map, take, refl}
+use Rattle.std.proofs.Common.{get_or, sym, ap, subst, ◌∙◌, arith}
+use Rattle.std.proofs.Math.Seq.{take-suc}
+use Rattle.bac_tag.specs.Octets.{IsOctets}
+use Rattle.bac_tag.specs.Laws.Octets.{NoGreater-same}
+use Rattle.bac_tag.specs.Spelling.{IsLeast}
+use Rattle.bac_tag.specs.HeadOctets.{Part, octet, least_head, AreParts}
+use Rattle.bac_tag.proofs.HeadOctetLemmas.{headed_least}
+use Rattle.bac_npdu_parts.specs.declared.messages.port.Port.{Port}
+use Rattle.bac_npdu_parts.specs.Addresses.{SourceValue, DestinationValue, HasAddress, two_octets, counted, addressed, destination_of, source_of, hops_of}
+use Rattle.bac_npdu_parts.specs.MessageTypes.{OpaqueNetValue}
+use Rattle.bac_npdu_parts.specs.Messages.{MessageValue, opaque, networks_of, network_or_none, ports_of, octets_of, IsMessage, SpellsMessage}
+use Rattle.bac_npdu_parts.specs.Control.{least_of}
+use Rattle.bac_npdu_parts.specs.Frames.{BodyValue, FrameValue, control_of, addresses_of, SpellsBody, SpellsFrame}
+use Rattle.bac_npdu_parts.proofs.FrameLemmas.{frame_least}
+use Rattle.bac_npdu_parts.proofs.WrittenLemmas.{ports_append}
+
+-- ---- parts one after the other
+
+parts_then : (ps qs : List Part) → AreParts ps → AreParts qs → AreParts (ps ++ qs)
+parts_then [] qs h k = k
+parts_then (p ∷ ps) qs h k = (h.0, parts_then ps qs h.1 k)
+
+octets_parts : (octets : List ℕ) → IsOctets octets → AreParts (map octet octets)
+octets_parts [] h = tt
+octets_parts (o ∷ octets) h = (h.0, octets_parts octets h.1)
+
+number_parts : (n : ℕ) (ps : List Part) → n < 65536 → AreParts ps → AreParts (two_octets n ps)
+number_parts n ps h k = (omega (arith, h), (omega arith, k))
+
+counted_parts : (octets : List ℕ) (ps : List Part) → length octets < 256 → IsOctets octets → AreParts ps → AreParts (counted octets ps)
+counted_parts octets ps few h k = (few, parts_then (map octet octets) ps (octets_parts octets h) k)
+
+-- ---- networks, ports, opaque messages
+
+pub networks_held : (ns : List ℕ) → ((k : ℕ) → k < length ns → get_or ns k 0 < 65536) → AreParts (networks_of ns)
+networks_held [] small = tt
+networks_held (n ∷ ns) small = number_parts n (networks_of ns) (small 0 (omega arith)) (networks_held ns (λ k lt. small (suc k) (omega (arith, lt))))
+
+pub port_held : (port : Port) (octets : List ℕ) → octets ≡ port.info → port.network < 65536 → port.id < 256 → length octets < 256 → IsOctets octets → AreParts (ports_of (port ∷ []))
+port_held port octets e n i few h =
+    number_parts port.network (octet port.id ∷ counted port.info []) n
+    (i, counted_parts port.info [] (subst (λ (l : List ℕ). length l < 256) e few) (subst IsOctets e h) tt)
+
+-- the ports so far, and the next
+pub ports_next : (ports : List Port) (i : ℕ) (port : Port) → port ≡ get_or ports i port → i < length ports → AreParts (ports_of (take i ports)) → AreParts (ports_of (port ∷ [])) → AreParts (ports_of (take (i + 1) ports))
+ports_next ports i port e lt h k =
+    let next : i + 1 ≡ suc i = omega arith in
+    let all : ports_of (take (i + 1) ports) ≡ ports_of (take i ports) ++ ports_of (get_or ports i port ∷ [])
+    = ap (λ (n : ℕ). ports_of (take n ports)) next ∙ ap (λ (l : List Port). ports_of l) (take-suc ports i port lt) ∙ ports_append (take i ports) (get_or ports i port ∷ []) in
+    subst AreParts (sym all) (parts_then (ports_of (take i ports)) (ports_of (get_or ports i port ∷ [])) h (subst (λ (p : Port). AreParts (ports_of (p ∷ []))) e k))
+
+pub opaque_held : (message : OpaqueNetValue) (kind : ℕ) (vendor : Option ℕ) (octets : List ℕ) → kind ≡ message.kind → vendor ≡ message.vendor → octets ≡ message.octets → kind < 256 → AreParts (network_or_none vendor) → IsOctets octets → AreParts (octets_of (opaque message))
+opaque_held message kind vendor octets e f g k v h =
+    (subst (λ (n : ℕ). n < 256) e k, parts_then (network_or_none message.vendor) (map octet message.octets) (subst (λ (w : Option ℕ). AreParts (network_or_none w)) f v) (octets_parts message.octets (subst IsOctets g h)))
+
+-- ---- addresses
+
+pub address_held : (network : ℕ) (address octets : List ℕ) → octets ≡ address → network < 65536 → length octets < 256 → IsOctets octets → AreParts (addressed network address [])
+address_held network address octets e n few h = number_parts network (counted address []) n (counted_parts address [] (subst (λ (l : List ℕ). length l < 256) e few) (subst IsOctets e h) tt)
+
+-- an address, and what comes after it
+address_then : (network : ℕ) (address : List ℕ) (ps : List Part) → AreParts (addressed network address []) → AreParts ps → AreParts (addressed network address ps)
+address_then network address ps h k = (h.0, (h.1.0, (h.1.1.0, octets_then address h.1.1.1)))
+  where
+    octets_then : (octets : List ℕ) → AreParts (map octet octets ++ []) → AreParts (map octet octets ++ ps)
+    octets_then [] h = k
+    octets_then (o ∷ octets) h = (h.0, octets_then octets h.1)
+
+destination_then : (d : Option DestinationValue) (ps : List Part) → AreParts (destination_of d []) → AreParts ps → AreParts (destination_of d ps)
+destination_then None ps h k = k
+destination_then (Some d) ps h k = address_then d.network d.address ps h k
+
+source_then : (s : Option SourceValue) (ps : List Part) → AreParts (source_of s []) → AreParts ps → AreParts (source_of s ps)
+source_then None ps h k = k
+source_then (Some s) ps h k = address_then s.network s.address ps h k
+
+-- ---- the least spelling
+
+-- there is nothing after a head
+nothing_least : IsLeast (λ (rest : List ℕ). rest ≡ []) []
+nothing_least = record { member = refl; least = λ c e. NoGreater-same [] c (sym e) }
+
+pub message_held : (m : MessageValue) → IsMessage m → AreParts (octets_of m) → (b : List ℕ) × IsLeast (SpellsMessage m) b
+message_held m formed parts =
+    let all = headed_least (octets_of m) (λ rest. rest ≡ []) [] parts nothing_least in
+    (least_head (octets_of m) ++ [], record { member = (formed, all.member); least = λ c k. all.least c k.1 })
+
+module _ (f : FrameValue) (priority : f.priority < 4) (destination : AreParts (destination_of f.destination [])) (hops : AreParts (hops_of f.destination)) (source : AreParts (source_of f.source [])) (some : HasAddress f.source) where
+  addresses_held : AreParts (addresses_of f)
+  addresses_held = destination_then f.destination (source_of f.source (hops_of f.destination)) destination (source_then f.source (hops_of f.destination) source hops)
+
+  pub frame_held : (x : BodyValue) → f.body ≡ x → (b : List ℕ) × IsLeast (SpellsBody x) b → (b : List ℕ) × IsLeast (SpellsFrame f) b
+  frame_held x e body =
+      (1 ∷ least_of (control_of f) ∷ (least_head (addresses_of f) ++ body.0), frame_least f body.0 some priority addresses_held (subst (λ (y : BodyValue). IsLeast (SpellsBody y) body.0) (sym e) body.1))

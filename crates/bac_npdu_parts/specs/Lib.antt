@@ -1,0 +1,14 @@
+pub mod Addresses
+pub mod MessageTypes
+pub mod Ports
+pub mod Messages
+pub mod Control
+pub mod Frames
+pub mod FrameHeads
+pub mod Heads
+pub mod Decoded
+pub mod HeadsRead
+pub mod Cases
+pub mod Refused
+pub mod FormerFrames
+pub mod Laws
