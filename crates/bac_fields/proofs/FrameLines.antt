@@ -183,7 +183,7 @@ frame_prints f b h =
     let line : List ℕ = codes " " ++ body_text f.body in
     same_line (sym (append_assoc control (destination ++ source) line) ∙ ap (λ l. l ++ line) (sym (append_assoc control destination source)))
     (both (control_line f.priority f.reply)
-    (both (same_line (ap (λ l. destination ++ l) (append-nil source)) (both (destination_line (source_size f.source) f.destination) (both (source_line f.source h.0) (hops_line f.destination))))
+    (both (same_line (ap (λ l. destination ++ l) (append-nil source)) (both (destination_line (source_size f.source) f.destination) (both (source_line f.source h.has_address) (hops_line f.destination))))
     (body_line f.body body.0 body.1)))
 
 -- the line of a frame is its fields, printed

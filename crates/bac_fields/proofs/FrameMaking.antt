@@ -11,11 +11,11 @@ use Rattle.bac_tag.specs.HeadOctets.{octet, least_head}
 use Rattle.bac_tag.specs.Spelling.{AppendsLeast}
 use Rattle.bac_npdu_parts.specs.declared.frame_head.Addressed.{Addressed}
 use Rattle.bac_npdu_parts.specs.declared.frame_head.DestRef.{DestRef}
-use Rattle.bac_npdu_parts.specs.Addresses.{SourceValue, destination_of, source_of, hops_of}
+use Rattle.bac_npdu_parts.specs.Addresses.{SourceValue, destination_octets, source_octets, hops_octets}
 use Rattle.bac_npdu_parts.specs.Control.{least_control, least_of}
 use Rattle.bac_npdu_parts.specs.FrameHeads.{address_read, destination_read}
-use Rattle.bac_npdu_parts.specs.Frames.{BodyValue, apdu, message, SpellsBody, SpellsFrame, control_of, addresses_of, is_message, is_there}
-use Rattle.bac_npdu_parts.proofs.FrameLemmas.{appends_frame}
+use Rattle.bac_npdu_parts.specs.Frames.{BodyValue, apdu, message, SpellsBody, SpellsFrame, is_message, is_there}
+use Rattle.bac_npdu_parts.proofs.FrameLemmas.{least_before, appends_frame}
 use Rattle.bac_apdu.specs.Apdus.{SpellsApdu}
 use Rattle.bac_npdu_parts.specs.Messages.{SpellsMessage}
 use Rattle.bac_field_parts.specs.declared.field.Field.{Field}
@@ -26,15 +26,11 @@ use Rattle.bac_fields.specs.MessageSymbols.{message_said}
 use Rattle.bac_fields.specs.FrameFronts.{front_said}
 use Rattle.bac_fields.specs.FrameSymbols.{frame_said, body_said, HeadSaid, HeadFits, head_said, IfThere, destination_parts, frame_of_parts, address_said, address_fits, hops_fit, destination_said, destination_fits, destination_leads, source_said, source_fits, source_leads, control_said, control_fits, IsOptionalRead, IsLedStop, IsHeadOf, MadeAfter}
 use Rattle.bac_field_parts.specs.Symbols.{Symbol, symbols_in, taken_symbols, lead_in, has, number_said, Read, Unwritten, Made, Language, Lawful, IsStop, IfStop, behind}
-use Rattle.bac_fields.specs.Laws.Frames.{head_parts, address_lawful, destination_lawful, source_lawful, body_lawful, body_leads, from_source_said, FromSource, from_source_lawful, control_stops, optional_stops, optional_stopped}
+use Rattle.bac_fields.specs.Laws.Frames.{head_spelled, address_lawful, destination_lawful, source_lawful, body_lawful, body_leads, from_source_said, FromSource, from_source_lawful, control_stops, optional_stops, optional_stopped}
 use Rattle.bac_field_parts.specs.Laws.Making.{symbols_after, symbols_length, stop_then, stop_behind}
 use Rattle.bac_field_parts.specs.Laws.Numbers.{number_lawful, numbers_stop_first, numbers_stop_second, read_behind}
 
 -- ---- what the octets before the body are
-
-pub octets_least : (octets : List ℕ) → least_head (map octet octets ++ []) ≡ octets
-octets_least [] = refl
-octets_least (n ∷ octets) = ap (λ (l : List ℕ). n ∷ l) (octets_least octets)
 
 pub on_ok : {T E P : Type 0} (r : Result T E) → false ≡ is_err r → OnOk r P → P
 on_ok (Ok x) e h = h
@@ -49,26 +45,26 @@ not_forty n e same = let clash : false ≡ option_eq nat_eq (Some 40) (Some 40) 
 
 module _ (reply : Bool) (priority : ℕ) (body : BodyValue) (old : List ℕ) where
   front_is : (to : Option DestRef) (from : Option Addressed)
-      → old ++ 1 ∷ least_control (is_message body) (is_there to) (is_there from) reply priority ∷ least_head (destination_of (destination_read to) (source_of (address_read from) (hops_of (destination_read to))))
-      ≡ old ++ 1 ∷ least_of (control_of (frame_of_parts ((priority, reply), (destination_parts to, address_read from)) body)) ∷ least_head (addresses_of (frame_of_parts ((priority, reply), (destination_parts to, address_read from)) body))
+      → old ++ 1 ∷ least_control (is_message body) (is_there to) (is_there from) reply priority ∷ (destination_octets (destination_read to) ++ (source_octets (address_read from) ++ hops_octets (destination_read to)))
+      ≡ old ++ least_before (frame_of_parts ((priority, reply), (destination_parts to, address_read from)) body)
   front_is None None = refl
   front_is None (Some from) = refl
   front_is (Some to) None = refl
   front_is (Some to) (Some from) = refl
 
 module _ (front : Front) (fits : HeadFits (front_said front)) (body : BodyValue) (old mid new : List ℕ) (small : (k : ℕ) (d : ℕ) → k < length new → get_or new k d < 256)
-    (written : mid ≡ old ++ 1 ∷ least_control (is_message body) (is_there front.to) (is_there front.from) front.reply front.priority ∷ least_head (destination_of (destination_read front.to) (source_of (address_read front.from) (hops_of (destination_read front.to))))) where
+    (written : mid ≡ old ++ 1 ∷ least_control (is_message body) (is_there front.to) (is_there front.from) front.reply front.priority ∷ (destination_octets (destination_read front.to) ++ (source_octets (address_read front.from) ++ hops_octets (destination_read front.to)))) where
   pub appends_after : AppendsLeast (SpellsBody body) mid new → AppendsLeast (SpellsFrame (frame_of_parts (front_said front) body)) old new
   appends_after L =
-      appends_frame (frame_of_parts (front_said front) body) old mid new small (head_parts (destination_parts front.to) (address_read front.from) fits.1.0 fits.1.1).1 fits.0.0
+      appends_frame (frame_of_parts (front_said front) body) old mid new small (head_spelled (destination_parts front.to) (address_read front.from) fits.1.0 fits.1.1).1 fits.0.0
       (written ∙ front_is front.reply front.priority body old front.to front.from) L
 
 module _ (front : Front) (fits : HeadFits (front_said front)) (es : List Symbol) (n : ℕ) (old mid new : List ℕ) (small : (k : ℕ) (d : ℕ) → k < length new → get_or new k d < 256) where
-  pub message_after : mid ≡ old ++ 1 ∷ least_control true (is_there front.to) (is_there front.from) front.reply front.priority ∷ least_head (destination_of (destination_read front.to) (source_of (address_read front.from) (hops_of (destination_read front.to))))
+  pub message_after : mid ≡ old ++ 1 ∷ least_control true (is_there front.to) (is_there front.from) front.reply front.priority ∷ (destination_octets (destination_read front.to) ++ (source_octets (address_read front.from) ++ hops_octets (destination_read front.to)))
       → Made message_said SpellsMessage es n mid new → MadeAfter (front_said front) es n old new
   message_after written m = record { body = message m.value; within = m.within; is_said = m.is_said; appended = appends_after front fits (message m.value) old mid new small written m.appended }
 
-  pub apdu_after : mid ≡ old ++ 1 ∷ least_control false (is_there front.to) (is_there front.from) front.reply front.priority ∷ least_head (destination_of (destination_read front.to) (source_of (address_read front.from) (hops_of (destination_read front.to))))
+  pub apdu_after : mid ≡ old ++ 1 ∷ least_control false (is_there front.to) (is_there front.from) front.reply front.priority ∷ (destination_octets (destination_read front.to) ++ (source_octets (address_read front.from) ++ hops_octets (destination_read front.to)))
       → Made apdu_said SpellsApdu es n mid new → MadeAfter (front_said front) es n old new
   apdu_after written m = record { body = apdu m.value; within = m.within; is_said = m.is_said; appended = appends_after front fits (apdu m.value) old mid new small written m.appended }
 

@@ -21,11 +21,11 @@ use Rattle.bac_apdu.specs.declared.segment.SegHead.TheVariants.{Request, Ack}
 use Rattle.bac_apdu.specs.Apdus.{ApduValue, confirmed_request, unconfirmed_request, simple_ack, complex_ack, segment_ack, error, reject, abort, segment, head_of, SpellsServiceOf, SpellsBody as SpellsApduBody, SpellsApdu}
 use Rattle.bac_npdu_parts.specs.declared.messages.port.Port.{Port}
 use Rattle.bac_npdu_parts.specs.Messages.{MessageValue, who_is_router, i_am_router, i_could_be_router, reject_message, router_busy, router_available, init_table, init_table_ack, establish, disconnect, what_is_network_number, network_number_is, opaque, networks_of, network_or_none, ports_of, table_of, table_or_none, octets_of, SpellsMessage}
-use Rattle.bac_npdu_parts.specs.Addresses.{SourceValue, DestinationValue, addressed, destination_of, source_of, hops_of}
-use Rattle.bac_npdu_parts.specs.Control.{ControlValue, IsControl, Controlled, least_of}
+use Rattle.bac_npdu_parts.specs.Addresses.{SourceValue, DestinationValue, address_octets, destination_octets, source_octets, hops_octets}
+use Rattle.bac_npdu_parts.specs.Control.{ControlValue, least_of}
 use Rattle.bac_npdu_parts.specs.Frames.{FrameValue, BodyValue, apdu, message, control_of, addresses_of, SpellsBody, SpellsFrame}
 use Rattle.bac_npdu_parts.proofs.WrittenLemmas.{least_append, least_octets, least_octets_then}
-use Rattle.bac_npdu_parts.proofs.FrameLemmas.{control_spelled, frame_least}
+use Rattle.bac_npdu_parts.proofs.FrameLemmas.{least_before, control_spelled, frame_least}
 use Rattle.bac_field_parts.specs.declared.names.Name.{Name}
 use Rattle.bac_field_parts.specs.declared.names.Name.TheVariants as name
 use Rattle.bac_field_parts.specs.Fields.{FieldValue, Step, next, aside, pass, word, octet_field, two_octets_field, octets_field, counted_field, counter_field, address_field, item_steps, optional}
@@ -282,37 +282,6 @@ apdu_laid a b h =
 
 -- ---- frames
 
--- the octets of addresses: network, length, address
-abbrev address_octets : ℕ → List ℕ → List ℕ
-address_octets network address = network / 256 ∷ network % 256 ∷ length address ∷ address
-
-abbrev destination_octets : Option DestinationValue → List ℕ
-destination_octets None = []
-destination_octets (Some d) = address_octets d.network d.address
-
-abbrev source_octets : Option SourceValue → List ℕ
-source_octets None = []
-source_octets (Some s) = address_octets s.network s.address
-
-abbrev hops_octets : Option DestinationValue → List ℕ
-hops_octets None = []
-hops_octets (Some d) = d.hops ∷ []
-
-addressed_octets : (network : ℕ) (address : List ℕ) (ps : List Part) → least_head (addressed network address ps) ≡ address_octets network address ++ least_head ps
-addressed_octets network address ps = ap (λ l. network / 256 ∷ network % 256 ∷ length address ∷ l) (least_octets_then address ps)
-
-hops_least : (d : Option DestinationValue) → least_head (hops_of d) ≡ hops_octets d
-hops_least None = refl
-hops_least (Some d) = refl
-
-source_least : (s : Option SourceValue) (d : Option DestinationValue) → least_head (source_of s (hops_of d)) ≡ source_octets s ++ hops_octets d
-source_least None d = hops_least d
-source_least (Some s) d = addressed_octets s.network s.address (hops_of d) ∙ ap (λ l. address_octets s.network s.address ++ l) (hops_least d)
-
-addresses_least : (d : Option DestinationValue) (s : Option SourceValue) → least_head (destination_of d (source_of s (hops_of d))) ≡ destination_octets d ++ (source_octets s ++ hops_octets d)
-addresses_least None s = source_least s None
-addresses_least (Some d) s = addressed_octets d.network d.address (source_of s (hops_of (Some d))) ∙ ap (λ l. address_octets d.network d.address ++ l) (source_least s (Some d))
-
 source_lays : (s : Option SourceValue) → Lays (source_steps s) (source_octets s)
 source_lays None = lays_nothing
 source_lays (Some s) = lays_next (address_field name.Source s.network s.address)
@@ -336,20 +305,13 @@ control_lays c small =
     lays_both (lays_pass 1 (1 ∷ []) refl)
     (lays_aside 0 name.NetworkPriority c.priority refl (omega arith) is.priority (lays_aside 0 name.ReplyExpected (truth c.reply) refl (omega arith) (is.reply ∙ sym (truth_bit c.reply)) (lays_pass 1 (least_of c ∷ []) refl)))
 
-controlled : (c : ControlValue) (Body : List ℕ → Type 0) (b : List ℕ) → Controlled c Body b → (o : ℕ) × IsControl c o × (d : List ℕ) × Body d
-controlled c Body [] h = absurd h
-controlled c Body (o ∷ b) h = (o, h.0, b, h.1)
-
 body_laid : (body : BodyValue) (b : List ℕ) → SpellsBody body b → Placed (SpellsBody body) (body_steps body)
 body_laid (apdu a) b h = apdu_laid a b h
 body_laid (message m) b h = record { octets = least_head (octets_of m); is_least = message_spelled m b h; lays = (message_tells m).lays; few = message_few m }
 
 -- the body of a frame is spelled
 pub body_of : (f : FrameValue) (b : List ℕ) → SpellsFrame f b → (d : List ℕ) × SpellsBody f.body d
-body_of f b h =
-    let rest = headed_rest (octet 1 ∷ []) (Controlled (control_of f) (Headed (addresses_of f) (SpellsBody f.body))) b h.1 in
-    let behind = controlled (control_of f) (Headed (addresses_of f) (SpellsBody f.body)) rest.0 rest.1 in
-    headed_rest (addresses_of f) (SpellsBody f.body) behind.2 behind.3
+body_of f b h = (h.body, h.is_body)
 
 -- an address has at most two fields, and at least four octets
 addresses_few : (d : Option DestinationValue) (s : Option SourceValue) → count (addresses_steps d s) ≤ 2 * length (destination_octets d ++ (source_octets s ++ hops_octets d))
@@ -360,24 +322,13 @@ addresses_few (Some d) (Some s) = omega (arith, length-append d.address (source_
 
 frame_laid : (f : FrameValue) (b : List ℕ) → SpellsFrame f b → Placed (SpellsFrame f) (frame_steps f)
 frame_laid f b h =
-    let rest = headed_rest (octet 1 ∷ []) (Controlled (control_of f) (Headed (addresses_of f) (SpellsBody f.body))) b h.1 in
-    let behind = controlled (control_of f) (Headed (addresses_of f) (SpellsBody f.body)) rest.0 rest.1 in
-    let small : f.priority < 4 = omega (arith, behind.1.priority) in
-    let parts = parts_are (addresses_of f) (SpellsBody f.body) behind.2 behind.3 in
-    let spelled = headed_rest (addresses_of f) (SpellsBody f.body) behind.2 behind.3 in
-    let body = body_laid f.body spelled.0 spelled.1 in
+    let small : f.priority < 4 = omega (arith, h.is_control.priority) in
+    let body = body_laid f.body h.body h.is_body in
     record {
-      octets = 1 ∷ least_of (control_of f) ∷ (least_head (addresses_of f) ++ body.octets);
-      is_least = frame_least f body.octets h.0 small parts body.is_least;
-      lays = lays_both (control_lays (control_of f) small) (lays_both (lays_same (sym (addresses_least f.destination f.source)) (addresses_lay f.destination f.source)) body.lays);
-      few = omega (
-        arith,
-        body.few,
-        addresses_few f.destination f.source,
-        ap length (addresses_least f.destination f.source),
-        length-append (least_head (addresses_of f)) body.octets,
-        count-append (addresses_steps f.destination f.source) (body_steps f.body),
-      );
+      octets = least_before f ++ body.octets;
+      is_least = frame_least f body.octets h.has_address small h.are_octets body.is_least;
+      lays = lays_both (control_lays (control_of f) small) (lays_both (addresses_lay f.destination f.source) body.lays);
+      few = omega (arith, body.few, addresses_few f.destination f.source, length-append (addresses_of f) body.octets, count-append (addresses_steps f.destination f.source) (body_steps f.body));
     }
 
 -- each field is at its place in the canonical octets

@@ -1,9 +1,8 @@
 //! What the fields before the body of a frame say, and its octets (clause 6.2.2).
 
 ghost use Rattle.std.specs.Prelude.{◌≡◌, ◌≤◌, ◌<◌, ◌+◌, ◌*◌, ◌++◌, ◌∷◌, [], true, length, IfOk, IfErr, OnOk};
-ghost use Rattle.bac_tag.specs.HeadOctets.{least_head};
 ghost use Rattle.bac_tag.specs.Octets.{Extends};
-ghost use Rattle.bac_npdu_parts.specs.Addresses.{addressed, destination_of, source_of, hops_of};
+ghost use Rattle.bac_npdu_parts.specs.Addresses.{address_octets, destination_octets, source_octets, hops_octets};
 ghost use Rattle.bac_npdu_parts.specs.Control.{least_control};
 ghost use Rattle.bac_npdu_parts.specs.FrameHeads.{address_read, destination_read};
 ghost use Rattle.bac_npdu_parts.specs.Frames.{is_there, SpellsFrame};
@@ -143,7 +142,7 @@ pub(crate) fn read_front<'a>(
 /// Appends a network, the number of octets of an address on it, and the address.
 fn append_address(network: u16, address: &[u8], out: &mut Vec<u8>) -> Result<(), OutOfMemory>
     requires { length address.now < 256 }
-    ensures written { OnOk result (out.new.items ≡ out.old.items ++ least_head (addressed network address.now [])) }
+    ensures written { OnOk result (out.new.items ≡ out.old.items ++ address_octets network address.now) }
     ensures kept { Extends out.old.items out.new.items }
 {
     let count = address.len() as u8;
@@ -159,7 +158,7 @@ pub(crate) fn append_front(
     out: &mut Vec<u8>,
 ) -> Result<(), OutOfMemory>
     requires { HeadFits (front_said front.now) }
-    ensures written { OnOk result (out.new.items ≡ out.old.items ++ 1 ∷ least_control message (is_there front.now.to) (is_there front.now.from) front.now.reply front.now.priority ∷ least_head (destination_of (destination_read front.now.to) (source_of (address_read front.now.from) (hops_of (destination_read front.now.to))))) }
+    ensures written { OnOk result (out.new.items ≡ out.old.items ++ 1 ∷ least_control message (is_there front.now.to) (is_there front.now.from) front.now.reply front.now.priority ∷ (destination_octets (destination_read front.now.to) ++ (source_octets (address_read front.now.from) ++ hops_octets (destination_read front.now.to)))) }
     ensures kept { Extends out.old.items out.new.items }
 {
     let control = 128 * u8::from(message)

@@ -1,15 +1,13 @@
 -- What begins a frame: by what its body is, and by its parts.
 use Rattle.std.specs.Prelude.{◌≡◌, ◌↔◌, ℕ, Bool, true, false, List, [], ◌∷◌, ◌++◌, refl}
-use Rattle.std.proofs.Common.{inl, inr, ◌⊎◌, sym, ap, subst, arith}
-use Rattle.bac_tag.specs.HeadOctets.{Headed}
+use Rattle.std.proofs.Common.{inl, inr, ◌⊎◌, sym, ◌∙◌, ap, subst, append-nil, arith}
 use Rattle.bac_tag.specs.Spelling.{IsViable, IsPartway, JoinedBy}
 use Rattle.bac_tag.specs.Laws.Spelling.{viable-JoinedBy}
 use Rattle.bac_tag.proofs.BehindLemmas.{viable_as}
 use Rattle.bac_apdu.specs.Apdus.{reject}
-use Rattle.bac_apdu.proofs.CaseLemmas.{headed_splits, headed_joins}
 use Rattle.bac_npdu_parts.specs.Messages.{what_is_network_number}
-use Rattle.bac_npdu_parts.specs.Control.{ControlValue, Controlled}
-use Rattle.bac_npdu_parts.specs.Frames.{FrameValue, BodyValue, apdu, message, is_message, is_there, addresses_of, SpellsBody, SpellsFrame}
+use Rattle.bac_npdu_parts.specs.Control.{ControlValue, IsControl}
+use Rattle.bac_npdu_parts.specs.Frames.{FrameValue, BodyValue, apdu, message, is_message, is_there, addresses_of, SpellsFrame}
 use Rattle.bac_npdu_parts.specs.FrameHeads.{HeadValue, frame_with}
 use Rattle.bac_npdu_parts.specs.HeadsRead.{SpellsBodyOf}
 use Rattle.bac_npdu_parts.specs.Cases.{SpellsWithApdu, SpellsWithMessage, SpellsHead, SpellsAfter}
@@ -39,11 +37,16 @@ body_after false = (apdu (reject 0 0), 96 ∷ 0 ∷ 0 ∷ [], (refl, ((refl, tt,
 
 -- a frame is its head, and what can come after it
 apart : (f : FrameValue) (b : List ℕ) → SpellsFrame f b → (p : FrameValue × BodyValue) × JoinedBy SpellsHead SpellsAfter p b
-apart f [] h = absurd h.1
-apart f (v ∷ []) h = absurd h.1.1
-apart f (v ∷ o ∷ b) h =
-    let j = headed_splits (addresses_of f) (SpellsBody f.body) b h.1.1.1 in
-    ((f, f.body), record { front = v ∷ o ∷ j.front; back = j.back; first = (h.0, (h.1.0, (h.1.1.0, j.first))); second = (refl, j.second); octets = ap (λ (l : List ℕ). v ∷ o ∷ l) j.octets })
+apart f b h = (
+  (f, f.body),
+  record {
+    front = 1 ∷ h.control ∷ (addresses_of f ++ []);
+    back = h.body;
+    first = record { control = h.control; body = []; octets_are = refl; is_control = h.is_control; are_octets = h.are_octets; has_address = h.has_address; is_body = refl };
+    second = (refl, h.is_body);
+    octets = h.octets_are ∙ ap (λ (l : List ℕ). 1 ∷ h.control ∷ (l ++ h.body)) (sym (append-nil (addresses_of f)));
+  },
+)
 
 -- the same head before another body
 abbrev other_body : FrameValue → BodyValue → FrameValue
@@ -53,10 +56,15 @@ abbrev control_says : FrameValue → Bool → ControlValue
 control_says f m = record { message = m; destination = is_there f.destination; source = is_there f.source; reply = f.reply; priority = f.priority }
 
 joined_with : (f : FrameValue) (x : BodyValue) (front back : List ℕ) → SpellsHead f front → SpellsAfter f x back → SpellsFrame (other_body f x) (front ++ back)
-joined_with f x [] back h k = absurd h.1
-joined_with f x (v ∷ []) back h k = absurd h.1.1
-joined_with f x (v ∷ o ∷ front) back h k =
-    (h.0, (h.1.0, subst (λ (m : Bool). Controlled (control_says f m) (Headed (addresses_of f) (SpellsBody x)) (o ∷ (front ++ back))) (sym k.0) (h.1.1.0, headed_joins (addresses_of f) (SpellsBody x) front back h.1.1.1 k.1)))
+joined_with f x front back h k = record {
+  control = h.control;
+  body = back;
+  octets_are = ap (λ (l : List ℕ). l ++ back) (h.octets_are ∙ ap (λ (l : List ℕ). 1 ∷ h.control ∷ l) (ap (λ (l : List ℕ). addresses_of f ++ l) h.is_body ∙ append-nil (addresses_of f)));
+  is_control = subst (λ (m : Bool). IsControl (control_says f m) h.control) (sym k.0) h.is_control;
+  are_octets = h.are_octets;
+  has_address = h.has_address;
+  is_body = k.1;
+}
 
 together : (p : FrameValue × BodyValue) (b : List ℕ) → JoinedBy SpellsHead SpellsAfter p b → (f : FrameValue) × SpellsFrame f b
 together p b j = (other_body p.0 p.1, subst (SpellsFrame (other_body p.0 p.1)) (sym j.octets) (joined_with p.0 p.1 j.front j.back j.first j.second))

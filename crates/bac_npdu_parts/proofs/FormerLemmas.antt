@@ -1,29 +1,25 @@
 -- Frames as they were spelled before.
-use Rattle.std.specs.Prelude.{◌↔◌, ℕ, List, [], ◌∷◌}
-use Rattle.bac_tag.specs.HeadOctets.{octet, Headed}
+use Rattle.std.specs.Prelude.{◌≡◌, ◌↔◌, ℕ, List, refl}
+use Rattle.std.proofs.Common.{sym, ◌∙◌}
 use Rattle.bac_apdu.specs.Apdus.{ApduValue, SpellsApdu}
 use Rattle.bac_apdu.specs.FormerApdus.{SpellsFormerApdu, IsKept as IsKeptApdu}
-use Rattle.bac_apdu.proofs.FormerLemmas.{headed_same}
-use Rattle.bac_npdu_parts.specs.Control.{ControlValue, Controlled}
-use Rattle.bac_npdu_parts.specs.Frames.{BodyValue, apdu, message, FrameValue, control_of, addresses_of, SpellsBody, SpellsFrame}
-use Rattle.bac_npdu_parts.specs.FormerFrames.{SpellsFormerBody, SpellsFormerFrame, IsKept}
+use Rattle.bac_npdu_parts.specs.MessageTypes.{is_typed}
+use Rattle.bac_npdu_parts.specs.Messages.{MessageValue, opaque, SpellsMessage}
+use Rattle.bac_npdu_parts.specs.Frames.{BodyValue, apdu, message, FrameValue, SpellsBody, SpellsFrame}
+use Rattle.bac_npdu_parts.specs.FormerFrames.{had_layout, type_of, SpellsFormerMessage, SpellsFormerBody, SpellsFormerFrame, IsKept}
+use Rattle.bac_npdu_parts.proofs.FrameLemmas.{framed_as}
 
--- where what stands behind the control octet agrees, so does the whole
-controlled_same : (v : ControlValue) (A B : List ℕ → Type 0) (b c : List ℕ) → ((d e : List ℕ) → A d → A e ↔ B e) → Controlled v A b → Controlled v A c ↔ Controlled v B c
-controlled_same v A B [] c same h = absurd h
-controlled_same v A B (o ∷ b) [] same h = (λ x. x, λ x. x)
-controlled_same v A B (o ∷ b) (p ∷ c) same h = (λ x. (x.0, (same b c h.1).0 x.1), λ x. (x.0, (same b c h.1).1 x.1))
+-- a message of a type that had a layout then as it has now; the second line is that of each other variant
+message_same : (m : MessageValue) (b : List ℕ) → had_layout (type_of m) ≡ is_typed (type_of m) → SpellsFormerMessage m b ↔ SpellsMessage m b
+message_same (opaque m) b e = (λ s. ((sym e ∙ s.0.0, s.0.1), s.1), λ s. ((e ∙ s.0.0, s.0.1), s.1))
+message_same _ b e = (λ s. (tt, s.1), λ s. (refl, s.1))
 
 module _ (spelled : (v : ApduValue) (b c : List ℕ) → IsKeptApdu v → SpellsFormerApdu v b → SpellsFormerApdu v c ↔ SpellsApdu v c) where
   body_same : (x : BodyValue) (b c : List ℕ) → IsKept x → SpellsFormerBody x b → SpellsFormerBody x c ↔ SpellsBody x c
   body_same (apdu a) b c k p = spelled a b c k p
-  body_same (message m) b c k p = (λ q. q, λ q. q)
+  body_same (message m) b c k p = message_same m c k
 
   pub frame_same : (f : FrameValue) (b c : List ℕ) → IsKept f.body → SpellsFormerFrame f b → SpellsFormerFrame f c ↔ SpellsFrame f c
   frame_same f b c k p =
-      let former = Headed (addresses_of f) (SpellsFormerBody f.body) in
-      let now = Headed (addresses_of f) (SpellsBody f.body) in
-      let addressed = λ (d e : List ℕ). headed_same (addresses_of f) (SpellsFormerBody f.body) (SpellsBody f.body) d e (λ x y. body_same f.body x y k) in
-      let controlled = λ (d e : List ℕ). controlled_same (control_of f) former now d e addressed in
-      let whole = headed_same (octet 1 ∷ []) (Controlled (control_of f) former) (Controlled (control_of f) now) b c controlled p.1 in
-      (λ x. (x.0, whole.0 x.1), λ x. (x.0, whole.1 x.1))
+      let same = λ (d : List ℕ). body_same f.body p.body d k p.is_body in
+      (framed_as f c (λ d. (same d).0), framed_as f c (λ d. (same d).1))

@@ -13,23 +13,21 @@ use Rattle.bac_tag.specs.Laws.Octets.{octets_at, octets_front, octets_back, mark
 use Rattle.bac_tag.specs.Refusals.{behind}
 use Rattle.bac_tag.specs.Laws.Spelling.{unmarked_least}
 use Rattle.bac_tag.specs.Spelling.{IsLeast, HasMark, IsWholeRefusal, IsCanonical}
-use Rattle.bac_tag.specs.HeadOctets.{HasBit, least_head}
-use Rattle.bac_tag.proofs.HeadOctetLemmas.{parts_are}
+use Rattle.bac_tag.specs.HeadOctets.{HasBit}
 use Rattle.bac_tag.proofs.BehindLemmas.{whole_body}
 use Rattle.bac_apdu.specs.FirstOctet.{IsTypePlace, IsWindowPlace}
 use Rattle.bac_apdu.specs.Decoded.{IsApduReason, begins_small as begins_small_apdu}
 use Rattle.bac_npdu_parts.specs.declared.frame.Frame.{Frame}
-use Rattle.bac_npdu_parts.specs.Addresses.{SourceValue, DestinationValue, destination_of, source_of, hops_of, HasAddress}
+use Rattle.bac_npdu_parts.specs.Addresses.{SourceValue, DestinationValue, HasAddress, address_of, source_octets, hops_octets}
 use Rattle.bac_npdu_parts.specs.Control.{least_control, least_of}
-use Rattle.bac_npdu_parts.specs.Frames.{BodyValue, FrameValue, is_there, is_message, control_of, addresses_of, SpellsBody, SpellsFrame}
+use Rattle.bac_npdu_parts.specs.Frames.{BodyValue, FrameValue, is_there, is_message, control_of, SpellsBody, SpellsFrame}
 use Rattle.bac_npdu_parts.specs.Heads.{says_message, says_destination, says_source, source_place, body_place, HasHead}
 use Rattle.bac_npdu_parts.specs.Decoded.{few_octets, begins_small_message, begins_small, IsReasoned, IsRefused, IsKept, IsKeptAlone, IsDecoded, IsDecodedAlone}
-use Rattle.bac_npdu_parts.specs.FrameHeads.{HeadValue, frame_with, address_of, IsLong, IsShort}
-use Rattle.bac_npdu_parts.specs.HeadsRead.{from_octets, hops_octets, behind_control, IsHead, control_at, IsControlMark, IsBehind, SpellsBodyOf, IsBodyFound, IsBodyRefused}
-use Rattle.bac_npdu_parts.proofs.WrittenLemmas.{least_octets_then}
+use Rattle.bac_npdu_parts.specs.FrameHeads.{HeadValue, frame_with, IsLong, IsShort}
+use Rattle.bac_npdu_parts.specs.HeadsRead.{behind_control, IsHead, control_at, IsControlMark, IsBehind, SpellsBodyOf, IsBodyFound, IsBodyRefused}
 use Rattle.bac_npdu_parts.proofs.HeadLemmas.{addresses_agree, flag_once, flag_told}
 use Rattle.bac_npdu_parts.proofs.PlaceLemmas.{addresses, at_body, length_at, as_address}
-use Rattle.bac_npdu_parts.proofs.FrameLemmas.{frame_least}
+use Rattle.bac_npdu_parts.proofs.FrameLemmas.{least_before, frame_least, framed_tail, framed_long}
 use Rattle.bac_npdu_parts.proofs.HeadRefusedLemmas.{frame_of, frame_every, parts_of, head_then}
 
 -- ---- the octets in front of the body
@@ -38,19 +36,7 @@ abbrev pub front_of : ℕ → Option DestinationValue → Option SourceValue →
 front_of c d s = 1 ∷ c ∷ addresses d s
 
 pub front_then : (c : ℕ) (d : Option DestinationValue) (s : Option SourceValue) (b : List ℕ) → 1 ∷ c ∷ behind_control d s b ≡ front_of c d s ++ b
-front_then c d s b = sym (ap (λ (l : List ℕ). 1 ∷ c ∷ l) (append_assoc (from_octets (address_of d)) (from_octets s ++ hops_octets d) b ∙ ap (λ (l : List ℕ). from_octets (address_of d) ++ l) (append_assoc (from_octets s) (hops_octets d) b)))
-
-least_hops : (d : Option DestinationValue) → least_head (hops_of d) ≡ hops_octets d
-least_hops None = refl
-least_hops (Some d) = refl
-
-least_from : (s : Option SourceValue) (d : Option DestinationValue) → least_head (source_of s (hops_of d)) ≡ from_octets s ++ hops_octets d
-least_from None d = least_hops d
-least_from (Some s) d = ap (λ (l : List ℕ). s.network / 256 ∷ s.network % 256 ∷ length s.address ∷ l) (least_octets_then s.address (hops_of d) ∙ ap (λ (l : List ℕ). s.address ++ l) (least_hops d))
-
-least_addresses : (d : Option DestinationValue) (s : Option SourceValue) → least_head (destination_of d (source_of s (hops_of d))) ≡ addresses d s
-least_addresses None s = least_from s None
-least_addresses (Some d) s = ap (λ (l : List ℕ). d.network / 256 ∷ d.network % 256 ∷ length d.address ∷ l) (least_octets_then d.address (source_of s (hops_of (Some d))) ∙ ap (λ (l : List ℕ). d.address ++ l) (least_from s (Some d)))
+front_then c d s b = sym (ap (λ (l : List ℕ). 1 ∷ c ∷ l) (append_assoc (source_octets (address_of d)) (source_octets s ++ hops_octets d) b ∙ ap (λ (l : List ℕ). source_octets (address_of d) ++ l) (append_assoc (source_octets s) (hops_octets d) b)))
 
 -- the mark of the octets in front of the body
 front_mark : (c : ℕ) (d : Option DestinationValue) (s : Option SourceValue) (m : Option ℕ) → IsControlMark c m → IsMark (front_of c d s) (front_of (least_of (control_at c)) d s) m
@@ -121,7 +107,7 @@ module _ (octets : List ℕ) (small : (k : ℕ) → slice_index octets k < 256) 
 
   source_size : (s' : SourceValue) → s ≡ Some s' → slice_index octets (source_place octets + 2) ≡ length s'.address
   source_size s' e =
-      ap (λ (l : List ℕ). slice_index l (source_place l + 2)) told ∙ length_at c (address_of d) (from_octets s ++ (hops_octets d ++ rest)) (as_address c d h.destination) ∙ ap (λ (x : Option SourceValue). slice_index (from_octets x ++ (hops_octets d ++ rest)) 2) e
+      ap (λ (l : List ℕ). slice_index l (source_place l + 2)) told ∙ length_at c (address_of d) (source_octets s ++ (hops_octets d ++ rest)) (as_address c d h.destination) ∙ ap (λ (x : Option SourceValue). slice_index (source_octets x ++ (hops_octets d ++ rest)) 2) e
 
   has_head : HasHead octets
   has_head = record {
@@ -190,16 +176,11 @@ module _ (octets : List ℕ) (small : (k : ℕ) → slice_index octets k < 256) 
         let spelled = spelled_there x (e.is, e.spelled) in
         let low = least_of (control_at c) in
         let back = e.marked.least in
-        let parts = parts_are (addresses_of f) (SpellsBody f.body) (behind_control d s rest) spelled.1.1.1 in
-        let all = frame_least f back h.address (omega arith) parts e.marked.is_least in
-        let same : 1 ∷ least_of (control_of f) ∷ (least_head (addresses_of f) ++ back) ≡ front_of low d s ++ back =
-        ap (λ (k : ℕ). 1 ∷ k ∷ (least_head (addresses_of f) ++ back)) (least_there x e.is) ∙ front_same low back in
+        let all = frame_least f back h.address (omega arith) spelled.are_octets e.marked.is_least in
+        let same : least_before f ++ back ≡ front_of low d s ++ back = ap (λ (k : ℕ). 1 ∷ k ∷ (addresses d s ++ back)) (least_there x e.is) in
         let at : length (front_of c d s) ≡ n = omega (arith, size, long, size_of) in
         let mark_is : IsMark (front_of c d s ++ rest) (front_of low d s ++ back) (joined_mark o n mark) = subst (λ (k : ℕ). IsMark (front_of c d s ++ rest) (front_of low d s ++ back) (joined_mark o k mark)) at (mark-append (front_of c d s) rest (front_of low d s) back o mark (front_mark c d s o control) e.marked.is_mark) in
         (subst (SpellsFrame f) (sym told) spelled, record { least = front_of low d s ++ back; is_least = subst (IsLeast (SpellsFrame f)) same all; is_mark = subst (λ (l : List ℕ). IsMark l (front_of low d s ++ back) (joined_mark o n mark)) (sym parted) mark_is })
-      where
-        front_same : (low : ℕ) (back : List ℕ) → 1 ∷ low ∷ (least_head (destination_of d (source_of s (hops_of d))) ++ back) ≡ front_of low d s ++ back
-        front_same low back = ap (λ (l : List ℕ). 1 ∷ low ∷ (l ++ back)) (least_addresses d s)
 
   -- ---- addresses
 
@@ -215,7 +196,7 @@ module _ (octets : List ℕ) (small : (k : ℕ) → slice_index octets k < 256) 
     where
       short : (x : Option SourceValue) → s ≡ x → IsShort x
       short None e = tt
-      short (Some x) e = (subst (λ (y : Option SourceValue). IsOctets (from_octets y ++ (hops_octets d ++ []))) e (octets_back (from_octets (address_of d)) (from_octets s ++ (hops_octets d ++ [])) are_addresses)).1.1.0
+      short (Some x) e = (subst (λ (y : Option SourceValue). IsOctets (source_octets y ++ (hops_octets d ++ []))) e (octets_back (source_octets (address_of d)) (source_octets s ++ (hops_octets d ++ [])) are_addresses)).1.1.0
 
   -- ---- memory that was refused
 
@@ -311,19 +292,20 @@ within X x b size (Some place) fits h = omega (arith, fits, h.is_mark.0)
 -- the head of a frame that the octets spell
 head_there : (v c : ℕ) (b : List ℕ) (f : FrameValue) → SpellsFrame f (v ∷ c ∷ b) → (rest : List ℕ) × IsHead (v ∷ c ∷ b) c f.destination f.source rest
 head_there v c b f p =
-    let q = parts_of f c b (p.0, ((refl, omega arith), p.1.1)) in
-    (q.rest, record { octets_are = ap (λ (n : ℕ). n ∷ c ∷ b) p.1.0.0 ∙ ap (λ (l : List ℕ). 1 ∷ c ∷ l) q.octets_are; destination = q.control.destination; source = q.control.source; address = q.address })
+    let one = (framed_tail f v c b p).0 in
+    let q = parts_of f c b (subst (λ (n : ℕ). SpellsFrame f (n ∷ c ∷ b)) one p) in
+    (q.rest, record { octets_are = ap (λ (n : ℕ). n ∷ c ∷ b) one ∙ ap (λ (l : List ℕ). 1 ∷ c ∷ l) q.octets_are; destination = q.control.destination; source = q.control.source; address = q.address })
 
 -- memory was refused to what is written of a frame that the octets spell
 pub spelled_memory : (octets : List ℕ) → ((k : ℕ) → slice_index octets k < 256) → (f : FrameValue) → SpellsFrame f octets → IsReasoned octets (record { place = 0; why = OutOfMemory })
-spelled_memory [] small f p = absurd p.1
-spelled_memory (v ∷ []) small f p = absurd p.1.1
+spelled_memory [] small f p = absurd (omega (arith, framed_long f [] p))
+spelled_memory (v ∷ []) small f p = absurd (omega (arith, framed_long f (v ∷ []) p))
 spelled_memory (v ∷ c ∷ b) small f p = let head = head_there v c b f p in memory_reasoned (v ∷ c ∷ b) small c f.destination f.source head.0 head.1
 
 -- memory was refused to a long address of a frame that the octets spell
 pub kept_memory : (octets : List ℕ) → ((k : ℕ) → slice_index octets k < 256) → (f : FrameValue) → SpellsFrame f octets → IsLong (address_of f.destination) ⊎ IsLong f.source → IsRefused octets (record { place = 0; why = OutOfMemory })
-kept_memory [] small f p long = absurd p.1
-kept_memory (v ∷ []) small f p long = absurd p.1.1
+kept_memory [] small f p long = absurd (omega (arith, framed_long f [] p))
+kept_memory (v ∷ []) small f p long = absurd (omega (arith, framed_long f (v ∷ []) p))
 kept_memory (v ∷ c ∷ b) small f p long = told long
   where
     head : (rest : List ℕ) × IsHead (v ∷ c ∷ b) c f.destination f.source rest
@@ -335,7 +317,7 @@ kept_memory (v ∷ c ∷ b) small f p long = told long
 
 -- what keeping a frame gives is what decoding it gives
 pub kept_decoded : (octets : List ℕ) → ((k : ℕ) → slice_index octets k < 256) → (f : FrameValue) (mark : Option ℕ) (made : Result (Frame × Option ℕ) Refusal) → SpellsFrame f octets → HasMark (SpellsFrame f) octets mark → IsKept f mark made → IsDecoded octets made
-kept_decoded octets small f mark (Ok found) p h e = record { spelled = subst (λ (g : FrameValue). SpellsFrame g octets) (sym e.0) p; marked = rw (e.0, e.1) h }
+kept_decoded octets small f mark (Ok found) p h e = record { spelled = subst (λ (g : FrameValue). SpellsFrame g octets) (sym e.0) p; marked = subst (λ (g : FrameValue). HasMark (SpellsFrame g) octets found.1) (sym e.0) (subst (HasMark (SpellsFrame f) octets) (sym e.1) h) }
 kept_decoded octets small f mark (Err refusal) p h e = subst (IsRefused octets) (sym e.0) (kept_memory octets small f p e.1)
 
 pub kept_alone_decoded : (octets : List ℕ) → ((k : ℕ) → slice_index octets k < 256) → (f : FrameValue) (made : Result Frame Refusal) → SpellsFrame f octets → IsKeptAlone f made → IsDecodedAlone octets made

@@ -9,15 +9,15 @@ use Rattle.bac_tag.specs.Spelling.{IsViable, IsWholeRefusal}
 use Rattle.bac_tag.specs.HeadOctets.{HasBit}
 use Rattle.bac_tag.proofs.BehindLemmas.{viable_shorter, whole_short, whole_hopeless}
 use Rattle.bac_apdu.specs.Apdus.{reject}
-use Rattle.bac_npdu_parts.specs.Addresses.{SourceValue, DestinationValue, HasAddress}
+use Rattle.bac_npdu_parts.specs.Addresses.{SourceValue, DestinationValue, HasAddress, address_of, address_octets, source_octets, hops_octets}
 use Rattle.bac_npdu_parts.specs.Messages.{what_is_network_number}
 use Rattle.bac_npdu_parts.specs.Control.{IsControl}
-use Rattle.bac_npdu_parts.specs.Frames.{BodyValue, apdu, message, FrameValue, is_there, is_message, control_of, SpellsBody, SpellsFrame}
+use Rattle.bac_npdu_parts.specs.Frames.{BodyValue, apdu, message, FrameValue, is_there, is_message, control_of, addresses_of, SpellsBody, SpellsFrame}
 use Rattle.bac_npdu_parts.specs.Heads.{says_destination, says_source, source_place, hops_place, body_place}
 use Rattle.bac_npdu_parts.specs.Decoded.{IsReasoned, IsRefused}
-use Rattle.bac_npdu_parts.specs.FrameHeads.{address_of}
-use Rattle.bac_npdu_parts.specs.HeadsRead.{address_octets, from_octets, hops_octets, behind_control, IsCutAddress}
-use Rattle.bac_npdu_parts.proofs.HeadLemmas.{addresses_every, addresses_only, from_agrees, flag_once, flag_told, flag_is}
+use Rattle.bac_npdu_parts.specs.HeadsRead.{behind_control, IsCutAddress}
+use Rattle.bac_npdu_parts.proofs.FrameLemmas.{framed_tail, framed_long}
+use Rattle.bac_npdu_parts.proofs.HeadLemmas.{addresses_then, from_agrees, flag_once, flag_told, flag_is}
 use Rattle.bac_npdu_parts.proofs.PlaceLemmas.{at_source, at_hops, length_at, as_address, behind_at, source_near, source_far, hops_far}
 
 -- ---- a frame for every head
@@ -30,7 +30,8 @@ pub frame_every : (c : ℕ) (d : Option DestinationValue) (s : Option SourceValu
     → HasAddress s → IsOctets (behind_control d s []) → SpellsBody x b → SpellsFrame (frame_of c d s x) (1 ∷ c ∷ behind_control d s b)
 frame_every c d s x b lt m h k a o spelled =
     let control : IsControl (control_of (frame_of c d s x)) c = record { small = lt; message = m; destination = h; source = k; reply = flag_is 2 c; priority = refl } in
-    (a, ((refl, omega arith), (control, addresses_every d s (SpellsBody x) b o spelled)))
+    let are : IsOctets (addresses_of (frame_of c d s x)) = subst IsOctets (sym (addresses_then d s []) ∙ append-nil (addresses_of (frame_of c d s x))) o in
+    record { control = c; body = b; octets_are = ap (λ (l : List ℕ). 1 ∷ c ∷ l) (sym (addresses_then d s b)); is_control = control; are_octets = are; has_address = a; is_body = spelled }
 
 -- a body for either flag
 any_body : Bool → BodyValue
@@ -54,8 +55,8 @@ any_spelled false = ((refl, tt, tt, tt, tt), ((refl, omega arith), ((refl, omega
 -- the head alone, and what stands behind it
 pub head_then : (d : Option DestinationValue) (s : Option SourceValue) (b : List ℕ) → behind_control d s [] ++ b ≡ behind_control d s b
 head_then d s b =
-    append_assoc (from_octets (address_of d)) (from_octets s ++ (hops_octets d ++ [])) b
-    ∙ ap (λ (l : List ℕ). from_octets (address_of d) ++ l) (append_assoc (from_octets s) (hops_octets d ++ []) b ∙ ap (λ (l : List ℕ). from_octets s ++ l) (append_assoc (hops_octets d) [] b))
+    append_assoc (source_octets (address_of d)) (source_octets s ++ (hops_octets d ++ [])) b
+    ∙ ap (λ (l : List ℕ). source_octets (address_of d) ++ l) (append_assoc (source_octets s) (hops_octets d ++ []) b ∙ ap (λ (l : List ℕ). source_octets s ++ l) (append_assoc (hops_octets d) [] b))
 
 -- every head begins a frame
 pub head_viable : (c : ℕ) (d : Option DestinationValue) (s : Option SourceValue) → c < 256 → HasBit 5 (Some (is_there d)) c → HasBit 3 (Some (is_there s)) c → HasAddress s → IsOctets (behind_control d s []) → IsViable SpellsFrame (1 ∷ c ∷ behind_control d s [])
@@ -144,10 +145,10 @@ plain : IsViable SpellsFrame (1 ∷ 0 ∷ [])
 plain = head_viable 0 None None (omega arith) refl refl tt tt
 
 nothing_spelled : (f : FrameValue) → SpellsFrame f [] → ⊥
-nothing_spelled f p = p.1
+nothing_spelled f p = omega (arith, framed_long f [] p)
 
 version_spelled : (f : FrameValue) (o : ℕ) → SpellsFrame f (o ∷ []) → ⊥
-version_spelled f o p = p.1.1
+version_spelled f o p = omega (arith, framed_long f (o ∷ []) p)
 
 pub nothing_refused : (octets : List ℕ) → length octets < 1 → IsRefused octets (record { place = length octets; why = Short })
 nothing_refused [] lt = short_refused [] (viable_shorter SpellsFrame [] (1 ∷ 0 ∷ []) plain) nothing_spelled (omega (arith, source_near []))
@@ -173,7 +174,7 @@ version_short (o ∷ p ∷ b) some e lt = absurd (omega (arith, lt))
 pub version_refused : (octets : List ℕ) → 1 ≤ length octets → slice_index octets 0 ≢ 1 → IsRefused octets (record { place = 0; why = Version })
 version_refused [] some ne = absurd (omega (arith, some))
 version_refused (o ∷ b) some ne = record {
-  refused = λ _. whole_hopeless SpellsFrame [] o b Version (λ e. let i : Version ≡ Short = e in cc) (λ e. let i : Version ≡ Trailing = e in cc) (viable_shorter SpellsFrame [] (1 ∷ 0 ∷ []) plain) nothing_spelled (λ f d p. ne p.1.0.0);
+  refused = λ _. whole_hopeless SpellsFrame [] o b Version (λ e. let i : Version ≡ Short = e in cc) (λ e. let i : Version ≡ Trailing = e in cc) (viable_shorter SpellsFrame [] (1 ∷ 0 ∷ []) plain) nothing_spelled (λ f d p. ne (ap (λ (l : List ℕ). slice_index l 0) p.octets_are));
   memory = λ w. absurd (let i : Version ≡ OutOfMemory = w in cc);
   reasoned = record {
     of_version = (λ e. (refl, some, ne), λ p. refl);
@@ -195,17 +196,17 @@ pub record HasParts (f : FrameValue) (c : ℕ) (b : List ℕ) : Type 0 where
 
 pub parts_of : (f : FrameValue) (c : ℕ) (b : List ℕ) → SpellsFrame f (1 ∷ c ∷ b) → HasParts f c b
 parts_of f c b p =
-    let q = addresses_only f.destination f.source (SpellsBody f.body) b p.1.1.1 in
-    record { control = p.1.1.0; rest = q.0; octets_are = q.1; address = p.0; body = q.2 }
+    let (one, same, behind) = framed_tail f 1 c b p in
+    record { control = subst (IsControl (control_of f)) (sym same) p.is_control; rest = p.body; octets_are = behind ∙ addresses_then f.destination f.source p.body; address = p.has_address; body = p.is_body }
 
 -- behind the octets of the destination stands the source
-pub source_behind : (f : FrameValue) (c : ℕ) (g : Option SourceValue) (r : List ℕ) (h : HasBit 5 (Some (is_there g)) c) (p : HasParts f c (from_octets g ++ r)) → (address_of f.destination ≡ g) × (from_octets f.source ++ (hops_octets f.destination ++ p.rest) ≡ r)
+pub source_behind : (f : FrameValue) (c : ℕ) (g : Option SourceValue) (r : List ℕ) (h : HasBit 5 (Some (is_there g)) c) (p : HasParts f c (source_octets g ++ r)) → (address_of f.destination ≡ g) × (source_octets f.source ++ (hops_octets f.destination ++ p.rest) ≡ r)
 source_behind f c g r h p =
-    from_agrees (address_of f.destination) g (from_octets f.source ++ (hops_octets f.destination ++ p.rest)) r
+    from_agrees (address_of f.destination) g (source_octets f.source ++ (hops_octets f.destination ++ p.rest)) r
     (flag_once 5 c (is_there (address_of f.destination)) (is_there g) (as_address c f.destination p.control.destination) h) (sym p.octets_are)
 
 -- a source whose length stands there
-source_told : (s : Option SourceValue) (c : ℕ) (more r : List ℕ) → HasBit 3 (Some true) c → HasBit 3 (Some (is_there s)) c → HasAddress s → from_octets s ++ more ≡ r → (3 ≤ length r) × (1 ≤ slice_index r 2) × (3 + slice_index r 2 ≤ length r)
+source_told : (s : Option SourceValue) (c : ℕ) (more r : List ℕ) → HasBit 3 (Some true) c → HasBit 3 (Some (is_there s)) c → HasAddress s → source_octets s ++ more ≡ r → (3 ≤ length r) × (1 ≤ slice_index r 2) × (3 + slice_index r 2 ≤ length r)
 source_told None c more r h k a e = absurd (let i : true ≡ false = flag_once 3 c true false h k in cc)
 source_told (Some s) c more r h k a e =
     let told : (3 ≤ length (address_octets s.network s.address ++ more)) × (1 ≤ length s.address) × (3 + length s.address ≤ length (address_octets s.network s.address ++ more)) = (omega arith, a, omega (arith, length-append s.address more)) in
@@ -252,7 +253,7 @@ unfolding any_source
 any_address true = omega arith
 any_address false = tt
 
-any_from : (f : Bool) → IsOctets (from_octets (any_source f))
+any_from : (f : Bool) → IsOctets (source_octets (any_source f))
 unfolding any_source
 any_from true = (omega arith, (omega arith, (omega arith, (omega arith, tt))))
 any_from false = tt
@@ -261,40 +262,40 @@ any_from false = tt
 
 module _ (c : ℕ) (g : Option SourceValue) (h : HasBit 5 (Some (is_there g)) c) where
   -- a source goes on behind the octets: the head does
-  cut_viable : (s : Option SourceValue) (r more : List ℕ) → c < 256 → HasBit 3 (Some (is_there s)) c → HasAddress s → IsOctets (from_octets g) → IsOctets (from_octets s) → from_octets s ++ hops_octets (with_hops g) ≡ r ++ more → IsViable SpellsFrame (1 ∷ c ∷ (from_octets g ++ r))
+  cut_viable : (s : Option SourceValue) (r more : List ℕ) → c < 256 → HasBit 3 (Some (is_there s)) c → HasAddress s → IsOctets (source_octets g) → IsOctets (source_octets s) → source_octets s ++ hops_octets (with_hops g) ≡ r ++ more → IsViable SpellsFrame (1 ∷ c ∷ (source_octets g ++ r))
   cut_viable s r more lt k a o p e =
       let d = with_hops g in
       let there : HasBit 5 (Some (is_there d)) c = subst (λ (f : Bool). HasBit 5 (Some f) c) (sym (hops_there g)) h in
-      let q = octets_append (from_octets s) (hops_octets d) p (hops_are_octets g) in
-      let all = octets_append (from_octets g) (from_octets s ++ hops_octets d) o q in
-      let is : behind_control d s [] ≡ from_octets g ++ (from_octets s ++ hops_octets d) =
-      ap (λ (x : Option SourceValue). from_octets x ++ (from_octets s ++ (hops_octets d ++ []))) (hops_address g) ∙ ap (λ (l : List ℕ). from_octets g ++ (from_octets s ++ l)) (append-nil (hops_octets d)) in
+      let q = octets_append (source_octets s) (hops_octets d) p (hops_are_octets g) in
+      let all = octets_append (source_octets g) (source_octets s ++ hops_octets d) o q in
+      let is : behind_control d s [] ≡ source_octets g ++ (source_octets s ++ hops_octets d) =
+      ap (λ (x : Option SourceValue). source_octets x ++ (source_octets s ++ (hops_octets d ++ []))) (hops_address g) ∙ ap (λ (l : List ℕ). source_octets g ++ (source_octets s ++ l)) (append-nil (hops_octets d)) in
       let v = head_viable c d s lt there k a (subst IsOctets (sym is) all) in
-      let to : behind_control d s [] ≡ (from_octets g ++ r) ++ more = is ∙ ap (λ (l : List ℕ). from_octets g ++ l) e ∙ sym (append_assoc (from_octets g) r more) in
-      viable_shorter SpellsFrame (1 ∷ c ∷ (from_octets g ++ r)) more (subst (λ (l : List ℕ). IsViable SpellsFrame (1 ∷ c ∷ l)) to v)
+      let to : behind_control d s [] ≡ (source_octets g ++ r) ++ more = is ∙ ap (λ (l : List ℕ). source_octets g ++ l) e ∙ sym (append_assoc (source_octets g) r more) in
+      viable_shorter SpellsFrame (1 ∷ c ∷ (source_octets g ++ r)) more (subst (λ (l : List ℕ). IsViable SpellsFrame (1 ∷ c ∷ l)) to v)
 
-  source_viable : (r : List ℕ) → c < 256 → HasBit 3 (Some true) c → IsOctets (from_octets g) → IsOctets r → IsCutAddress r → IsViable SpellsFrame (1 ∷ c ∷ (from_octets g ++ r))
+  source_viable : (r : List ℕ) → c < 256 → HasBit 3 (Some true) c → IsOctets (source_octets g) → IsOctets r → IsCutAddress r → IsViable SpellsFrame (1 ∷ c ∷ (source_octets g ++ r))
   source_viable r lt k o p cut =
       let w = goes_on r p cut in
       let s : Option SourceValue = Some (record { network = w.network; address = w.address }) in
       let x = hops_octets (with_hops g) in
       cut_viable s r (w.more ++ x) lt k w.some o w.octets (ap (λ (l : List ℕ). l ++ x) w.octets_are ∙ append_assoc r w.more x)
 
-  source_none : (r : List ℕ) → HasBit 3 (Some true) c → IsCutAddress r → (f : FrameValue) → SpellsFrame f (1 ∷ c ∷ (from_octets g ++ r)) → ⊥
+  source_none : (r : List ℕ) → HasBit 3 (Some true) c → IsCutAddress r → (f : FrameValue) → SpellsFrame f (1 ∷ c ∷ (source_octets g ++ r)) → ⊥
   source_none r k cut f p =
-      let q = parts_of f c (from_octets g ++ r) p in
+      let q = parts_of f c (source_octets g ++ r) p in
       let b = source_behind f c g r h q in
       let t = source_told f.source c (hops_octets f.destination ++ q.rest) r k q.control.source q.address b.1 in
       omega (arith, cut t.0, t.2)
 
-  pub source_cut : (r : List ℕ) → HasBit 3 (Some true) c → IsOctets (1 ∷ c ∷ (from_octets g ++ r)) → IsCutAddress r → IsRefused (1 ∷ c ∷ (from_octets g ++ r)) (record { place = length (1 ∷ c ∷ (from_octets g ++ r)); why = Short })
+  pub source_cut : (r : List ℕ) → HasBit 3 (Some true) c → IsOctets (1 ∷ c ∷ (source_octets g ++ r)) → IsCutAddress r → IsRefused (1 ∷ c ∷ (source_octets g ++ r)) (record { place = length (1 ∷ c ∷ (source_octets g ++ r)); why = Short })
   source_cut r k o cut =
-      let octets = 1 ∷ c ∷ (from_octets g ++ r) in
-      let size : length octets ≡ 2 + length (from_octets g) + length r = omega (arith, length-append (from_octets g) r) in
+      let octets = 1 ∷ c ∷ (source_octets g ++ r) in
+      let size : length octets ≡ 2 + length (source_octets g) + length r = omega (arith, length-append (source_octets g) r) in
       let far = source_far octets (flag_told 3 c true k) in
       let few : length r < 3 + slice_index r 2 = cut_below r cut in
       let lt : length octets < body_place octets = omega (arith, far, few, size, at_source c g r h, length_at c g r h) in
-      short_refused octets (source_viable r o.1.0 k (octets_front (from_octets g) r o.1.1) (octets_back (from_octets g) r o.1.1) cut) (source_none r k cut) lt
+      short_refused octets (source_viable r o.1.0 k (octets_front (source_octets g) r o.1.1) (octets_back (source_octets g) r o.1.1) cut) (source_none r k cut) lt
     where
       cut_below : (r : List ℕ) → IsCutAddress r → length r < 3 + slice_index r 2
       cut_below [] cut = omega arith
@@ -302,36 +303,36 @@ module _ (c : ℕ) (g : Option SourceValue) (h : HasBit 5 (Some (is_there g)) c)
       cut_below (x ∷ y ∷ []) cut = omega arith
       cut_below (x ∷ y ∷ z ∷ r) cut = cut (omega arith)
 
-  pub hops_cut : (s : Option SourceValue) → is_there g ≡ true → HasBit 3 (Some (is_there s)) c → HasAddress s → IsOctets (1 ∷ c ∷ (from_octets g ++ from_octets s)) → IsRefused (1 ∷ c ∷ (from_octets g ++ from_octets s)) (record { place = length (1 ∷ c ∷ (from_octets g ++ from_octets s)); why = Short })
+  pub hops_cut : (s : Option SourceValue) → is_there g ≡ true → HasBit 3 (Some (is_there s)) c → HasAddress s → IsOctets (1 ∷ c ∷ (source_octets g ++ source_octets s)) → IsRefused (1 ∷ c ∷ (source_octets g ++ source_octets s)) (record { place = length (1 ∷ c ∷ (source_octets g ++ source_octets s)); why = Short })
   hops_cut s t k a o =
-      let octets = 1 ∷ c ∷ (from_octets g ++ from_octets s) in
-      let v = cut_viable s (from_octets s) (hops_octets (with_hops g)) o.1.0 k a (octets_front (from_octets g) (from_octets s) o.1.1) (octets_back (from_octets g) (from_octets s) o.1.1) refl in
+      let octets = 1 ∷ c ∷ (source_octets g ++ source_octets s) in
+      let v = cut_viable s (source_octets s) (hops_octets (with_hops g)) o.1.0 k a (octets_front (source_octets g) (source_octets s) o.1.1) (octets_back (source_octets g) (source_octets s) o.1.1) refl in
       let says : HasBit 5 (Some true) c = subst (λ (f : Bool). HasBit 5 (Some f) c) t h in
-      let at : hops_place octets ≡ 2 + length (from_octets g) + length (from_octets s) = subst (λ (l : List ℕ). hops_place (1 ∷ c ∷ (from_octets g ++ l)) ≡ 2 + length (from_octets g) + length (from_octets s)) (append-nil (from_octets s)) (at_hops c g s [] h k) in
-      let lt : length octets < body_place octets = omega (arith, at, hops_far octets (flag_told 5 c true says), length-append (from_octets g) (from_octets s)) in
+      let at : hops_place octets ≡ 2 + length (source_octets g) + length (source_octets s) = subst (λ (l : List ℕ). hops_place (1 ∷ c ∷ (source_octets g ++ l)) ≡ 2 + length (source_octets g) + length (source_octets s)) (append-nil (source_octets s)) (at_hops c g s [] h k) in
+      let lt : length octets < body_place octets = omega (arith, at, hops_far octets (flag_told 5 c true says), length-append (source_octets g) (source_octets s)) in
       short_refused octets v none lt
     where
       wanted : (d : Option DestinationValue) (rest : List ℕ) → is_there d ≡ true → hops_octets d ++ rest ≡ [] → ⊥
       wanted None rest t e = let i : false ≡ true = t in cc
       wanted (Some d) rest t e = omega (arith, ap (λ (l : List ℕ). length l) e)
 
-      none : (f : FrameValue) → SpellsFrame f (1 ∷ c ∷ (from_octets g ++ from_octets s)) → ⊥
+      none : (f : FrameValue) → SpellsFrame f (1 ∷ c ∷ (source_octets g ++ source_octets s)) → ⊥
       none f p =
-          let q = parts_of f c (from_octets g ++ from_octets s) p in
-          let b = source_behind f c g (from_octets s) h q in
-          let e = from_agrees f.source s (hops_octets f.destination ++ q.rest) [] (flag_once 3 c (is_there f.source) (is_there s) q.control.source k) (b.1 ∙ sym (append-nil (from_octets s))) in
+          let q = parts_of f c (source_octets g ++ source_octets s) p in
+          let b = source_behind f c g (source_octets s) h q in
+          let e = from_agrees f.source s (hops_octets f.destination ++ q.rest) [] (flag_once 3 c (is_there f.source) (is_there s) q.control.source k) (b.1 ∙ sym (append-nil (source_octets s))) in
           let says : HasBit 5 (Some true) c = subst (λ (x : Bool). HasBit 5 (Some x) c) t h in
           wanted f.destination q.rest (flag_once 5 c (is_there f.destination) true q.control.destination says) e.1
 
-  pub address_refused : (x y : ℕ) (r : List ℕ) → HasBit 3 (Some true) c → IsOctets (1 ∷ c ∷ (from_octets g ++ (x ∷ y ∷ 0 ∷ r))) → IsRefused (1 ∷ c ∷ (from_octets g ++ (x ∷ y ∷ 0 ∷ r))) (record { place = 4 + length (from_octets g); why = Address })
+  pub address_refused : (x y : ℕ) (r : List ℕ) → HasBit 3 (Some true) c → IsOctets (1 ∷ c ∷ (source_octets g ++ (x ∷ y ∷ 0 ∷ r))) → IsRefused (1 ∷ c ∷ (source_octets g ++ (x ∷ y ∷ 0 ∷ r))) (record { place = 4 + length (source_octets g); why = Address })
   address_refused x y r k o = record {
-    refused = λ _. subst (λ (l : List ℕ). IsWholeRefusal SpellsFrame (1 ∷ c ∷ l) (record { place = 4 + length (from_octets g); why = Address })) (append_assoc (from_octets g) (x ∷ y ∷ []) (0 ∷ r))
+    refused = λ _. subst (λ (l : List ℕ). IsWholeRefusal SpellsFrame (1 ∷ c ∷ l) (record { place = 4 + length (source_octets g); why = Address })) (append_assoc (source_octets g) (x ∷ y ∷ []) (0 ∷ r))
         (subst (λ (n : ℕ). IsWholeRefusal SpellsFrame (front ++ 0 ∷ r) (record { place = n; why = Address })) size
-        (whole_hopeless SpellsFrame front 0 r Address (λ e. let i : Address ≡ Short = e in cc) (λ e. let i : Address ≡ Trailing = e in cc) (source_viable (x ∷ y ∷ []) o.1.0 k (octets_front (from_octets g) more o.1.1) (two.0, (two.1.0, tt)) cut) (source_none (x ∷ y ∷ []) k cut) hopeless));
+        (whole_hopeless SpellsFrame front 0 r Address (λ e. let i : Address ≡ Short = e in cc) (λ e. let i : Address ≡ Trailing = e in cc) (source_viable (x ∷ y ∷ []) o.1.0 k (octets_front (source_octets g) more o.1.1) (two.0, (two.1.0, tt)) cut) (source_none (x ∷ y ∷ []) k cut) hopeless));
     memory = λ w. absurd (let i : Address ≡ OutOfMemory = w in cc);
     reasoned = record {
       of_version = (λ e. absurd (let i : Address ≡ Version = e in cc), λ p. absurd (omega (arith, p.0)));
-      of_address = (λ e. (refl, says, omega (arith, at), omega (arith, length-append (from_octets g) more), length_is), λ p. refl);
+      of_address = (λ e. (refl, says, omega (arith, at), omega (arith, length-append (source_octets g) more), length_is), λ p. refl);
       of_type = (λ e. absurd (let i : Address ≡ PduType = e in cc), λ p. absurd (let l = p.0.source says in omega (arith, l, length_at c g more h)));
       of_window = (λ e. absurd (let i : Address ≡ Window = e in cc), λ p. absurd (let l = p.0.source says in omega (arith, l, length_at c g more h)));
       others = inr (inl refl);
@@ -342,30 +343,30 @@ module _ (c : ℕ) (g : Option SourceValue) (h : HasBit 5 (Some (is_there g)) c)
       more = x ∷ y ∷ 0 ∷ r
 
       front : List ℕ
-      front = 1 ∷ c ∷ (from_octets g ++ (x ∷ y ∷ []))
+      front = 1 ∷ c ∷ (source_octets g ++ (x ∷ y ∷ []))
 
-      says : says_source (1 ∷ c ∷ (from_octets g ++ (x ∷ y ∷ 0 ∷ r))) ≡ true
+      says : says_source (1 ∷ c ∷ (source_octets g ++ (x ∷ y ∷ 0 ∷ r))) ≡ true
       says = flag_told 3 c true k
 
-      at : source_place (1 ∷ c ∷ (from_octets g ++ (x ∷ y ∷ 0 ∷ r))) ≡ 2 + length (from_octets g)
+      at : source_place (1 ∷ c ∷ (source_octets g ++ (x ∷ y ∷ 0 ∷ r))) ≡ 2 + length (source_octets g)
       at = at_source c g (x ∷ y ∷ 0 ∷ r) h
 
-      length_is : slice_index (1 ∷ c ∷ (from_octets g ++ (x ∷ y ∷ 0 ∷ r))) (4 + length (from_octets g)) ≡ 0
-      length_is = ap (λ (n : ℕ). slice_index (1 ∷ c ∷ (from_octets g ++ (x ∷ y ∷ 0 ∷ r))) n) (let e : 4 + length (from_octets g) ≡ 2 + length (from_octets g) + 2 = omega arith in e) ∙ behind_at c 2 (from_octets g) (x ∷ y ∷ 0 ∷ r)
+      length_is : slice_index (1 ∷ c ∷ (source_octets g ++ (x ∷ y ∷ 0 ∷ r))) (4 + length (source_octets g)) ≡ 0
+      length_is = ap (λ (n : ℕ). slice_index (1 ∷ c ∷ (source_octets g ++ (x ∷ y ∷ 0 ∷ r))) n) (let e : 4 + length (source_octets g) ≡ 2 + length (source_octets g) + 2 = omega arith in e) ∙ behind_at c 2 (source_octets g) (x ∷ y ∷ 0 ∷ r)
 
-      size : length (1 ∷ c ∷ (from_octets g ++ (x ∷ y ∷ []))) ≡ 4 + length (from_octets g)
-      size = omega (arith, length-append (from_octets g) (x ∷ y ∷ []))
+      size : length (1 ∷ c ∷ (source_octets g ++ (x ∷ y ∷ []))) ≡ 4 + length (source_octets g)
+      size = omega (arith, length-append (source_octets g) (x ∷ y ∷ []))
 
       two : IsOctets (x ∷ y ∷ 0 ∷ r)
-      two = octets_back (from_octets g) (x ∷ y ∷ 0 ∷ r) o.1.1
+      two = octets_back (source_octets g) (x ∷ y ∷ 0 ∷ r) o.1.1
 
       cut : IsCutAddress (x ∷ y ∷ [])
       cut = λ le. absurd (omega (arith, le))
 
-      hopeless : (f : FrameValue) (b : List ℕ) → SpellsFrame f ((1 ∷ c ∷ (from_octets g ++ (x ∷ y ∷ []))) ++ 0 ∷ b) → ⊥
+      hopeless : (f : FrameValue) (b : List ℕ) → SpellsFrame f ((1 ∷ c ∷ (source_octets g ++ (x ∷ y ∷ []))) ++ 0 ∷ b) → ⊥
       hopeless f b p =
-          let s : SpellsFrame f (1 ∷ c ∷ (from_octets g ++ (x ∷ y ∷ 0 ∷ b))) = subst (λ (l : List ℕ). SpellsFrame f (1 ∷ c ∷ l)) (append_assoc (from_octets g) (x ∷ y ∷ []) (0 ∷ b)) p in
-          let q = parts_of f c (from_octets g ++ (x ∷ y ∷ 0 ∷ b)) s in
+          let s : SpellsFrame f (1 ∷ c ∷ (source_octets g ++ (x ∷ y ∷ 0 ∷ b))) = subst (λ (l : List ℕ). SpellsFrame f (1 ∷ c ∷ l)) (append_assoc (source_octets g) (x ∷ y ∷ []) (0 ∷ b)) p in
+          let q = parts_of f c (source_octets g ++ (x ∷ y ∷ 0 ∷ b)) s in
           let e = source_behind f c g (x ∷ y ∷ 0 ∷ b) h q in
           let t = source_told f.source c (hops_octets f.destination ++ q.rest) (x ∷ y ∷ 0 ∷ b) k q.control.source q.address e.1 in
           omega (arith, t.1)
@@ -382,14 +383,14 @@ destination_cut c b h o cut = short_refused (1 ∷ c ∷ b) viable none (far b c
         below (x ∷ y ∷ []) cut = omega arith
         below (x ∷ y ∷ z ∷ b) cut = cut (omega arith)
 
-    wanted : (d : Option DestinationValue) (l : List ℕ) → is_there d ≡ true → b ≡ from_octets (address_of d) ++ l → ⊥
+    wanted : (d : Option DestinationValue) (l : List ℕ) → is_there d ≡ true → b ≡ source_octets (address_of d) ++ l → ⊥
     wanted None l t e = let i : false ≡ true = t in cc
     wanted (Some d) l t e = not_cut d.network d.address l b e cut
 
     none : (f : FrameValue) → SpellsFrame f (1 ∷ c ∷ b) → ⊥
     none f p =
         let q = parts_of f c b p in
-        wanted f.destination (from_octets f.source ++ (hops_octets f.destination ++ q.rest)) (flag_once 5 c (is_there f.destination) true q.control.destination h) q.octets_are
+        wanted f.destination (source_octets f.source ++ (hops_octets f.destination ++ q.rest)) (flag_once 5 c (is_there f.destination) true q.control.destination h) q.octets_are
 
     viable : IsViable SpellsFrame (1 ∷ c ∷ b)
     viable =
@@ -398,7 +399,7 @@ destination_cut c b h o cut = short_refused (1 ∷ c ∷ b) viable none (far b c
         let f = nat_eq (c / 2 ^ 3 % 2) 1 in
         let s = any_source f in
         let k : HasBit 3 (Some (is_there s)) c = subst (λ (x : Bool). HasBit 3 (Some x) c) (sym (any_there f)) (flag_is 3 c) in
-        let all = cut_viable c g h s (from_octets s ++ hops_octets (with_hops g)) [] o.1.0 k (any_address f) w.octets (any_from f) (sym (append-nil (from_octets s ++ hops_octets (with_hops g)))) in
-        let x = from_octets s ++ hops_octets (with_hops g) in
-        let to : from_octets g ++ x ≡ b ++ (w.more ++ x) = ap (λ (l : List ℕ). l ++ x) w.octets_are ∙ append_assoc b w.more x in
+        let all = cut_viable c g h s (source_octets s ++ hops_octets (with_hops g)) [] o.1.0 k (any_address f) w.octets (any_from f) (sym (append-nil (source_octets s ++ hops_octets (with_hops g)))) in
+        let x = source_octets s ++ hops_octets (with_hops g) in
+        let to : source_octets g ++ x ≡ b ++ (w.more ++ x) = ap (λ (l : List ℕ). l ++ x) w.octets_are ∙ append_assoc b w.more x in
         viable_shorter SpellsFrame (1 ∷ c ∷ b) (w.more ++ x) (subst (λ (l : List ℕ). IsViable SpellsFrame (1 ∷ c ∷ l)) to all)

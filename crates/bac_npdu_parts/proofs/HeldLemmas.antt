@@ -1,19 +1,18 @@
 -- The octets of what a program holds are octets, and so they are a spelling.
-use Rattle.std.specs.Prelude.{◌≡◌, ℕ, suc, ◌+◌, ◌<◌, Option, Some, None, List, [], ◌∷◌, ◌++◌, length, map, take, refl}
+use Rattle.std.specs.Prelude.{◌≡◌, ℕ, suc, ◌+◌, ◌<◌, Option, List, [], ◌∷◌, ◌++◌, length, map, take, refl}
 use Rattle.std.proofs.Common.{get_or, sym, ap, subst, ◌∙◌, arith}
 use Rattle.std.proofs.Math.Seq.{take-suc}
 use Rattle.bac_tag.specs.Octets.{IsOctets}
-use Rattle.bac_tag.specs.Laws.Octets.{NoGreater-same}
+use Rattle.bac_tag.specs.Laws.Octets.{NoGreater-same, octets_append}
 use Rattle.bac_tag.specs.Spelling.{IsLeast}
 use Rattle.bac_tag.specs.HeadOctets.{Part, octet, least_head, AreParts}
 use Rattle.bac_tag.proofs.HeadOctetLemmas.{headed_least}
 use Rattle.bac_npdu_parts.specs.declared.messages.port.Port.{Port}
-use Rattle.bac_npdu_parts.specs.Addresses.{SourceValue, DestinationValue, HasAddress, two_octets, counted, addressed, destination_of, source_of, hops_of}
+use Rattle.bac_npdu_parts.specs.Addresses.{HasAddress, two_octets, counted, address_octets, source_octets, destination_octets, hops_octets}
 use Rattle.bac_npdu_parts.specs.MessageTypes.{OpaqueNetValue}
 use Rattle.bac_npdu_parts.specs.Messages.{MessageValue, opaque, networks_of, network_or_none, ports_of, octets_of, IsMessage, SpellsMessage}
-use Rattle.bac_npdu_parts.specs.Control.{least_of}
-use Rattle.bac_npdu_parts.specs.Frames.{BodyValue, FrameValue, control_of, addresses_of, SpellsBody, SpellsFrame}
-use Rattle.bac_npdu_parts.proofs.FrameLemmas.{frame_least}
+use Rattle.bac_npdu_parts.specs.Frames.{BodyValue, FrameValue, addresses_of, SpellsBody, SpellsFrame}
+use Rattle.bac_npdu_parts.proofs.FrameLemmas.{least_before, frame_least}
 use Rattle.bac_npdu_parts.proofs.WrittenLemmas.{ports_append}
 
 -- ---- parts one after the other
@@ -57,24 +56,8 @@ opaque_held message kind vendor octets e f g k v h =
 
 -- ---- addresses
 
-pub address_held : (network : ℕ) (address octets : List ℕ) → octets ≡ address → network < 65536 → length octets < 256 → IsOctets octets → AreParts (addressed network address [])
-address_held network address octets e n few h = number_parts network (counted address []) n (counted_parts address [] (subst (λ (l : List ℕ). length l < 256) e few) (subst IsOctets e h) tt)
-
--- an address, and what comes after it
-address_then : (network : ℕ) (address : List ℕ) (ps : List Part) → AreParts (addressed network address []) → AreParts ps → AreParts (addressed network address ps)
-address_then network address ps h k = (h.0, (h.1.0, (h.1.1.0, octets_then address h.1.1.1)))
-  where
-    octets_then : (octets : List ℕ) → AreParts (map octet octets ++ []) → AreParts (map octet octets ++ ps)
-    octets_then [] h = k
-    octets_then (o ∷ octets) h = (h.0, octets_then octets h.1)
-
-destination_then : (d : Option DestinationValue) (ps : List Part) → AreParts (destination_of d []) → AreParts ps → AreParts (destination_of d ps)
-destination_then None ps h k = k
-destination_then (Some d) ps h k = address_then d.network d.address ps h k
-
-source_then : (s : Option SourceValue) (ps : List Part) → AreParts (source_of s []) → AreParts ps → AreParts (source_of s ps)
-source_then None ps h k = k
-source_then (Some s) ps h k = address_then s.network s.address ps h k
+pub address_held : (network : ℕ) (address octets : List ℕ) → octets ≡ address → network < 65536 → length octets < 256 → IsOctets octets → IsOctets (address_octets network address)
+address_held network address octets e n few h = (omega (arith, n), (omega arith, (subst (λ (l : List ℕ). length l < 256) e few, subst IsOctets e h)))
 
 -- ---- the least spelling
 
@@ -87,10 +70,9 @@ message_held m formed parts =
     let all = headed_least (octets_of m) (λ rest. rest ≡ []) [] parts nothing_least in
     (least_head (octets_of m) ++ [], record { member = (formed, all.member); least = λ c k. all.least c k.1 })
 
-module _ (f : FrameValue) (priority : f.priority < 4) (destination : AreParts (destination_of f.destination [])) (hops : AreParts (hops_of f.destination)) (source : AreParts (source_of f.source [])) (some : HasAddress f.source) where
-  addresses_held : AreParts (addresses_of f)
-  addresses_held = destination_then f.destination (source_of f.source (hops_of f.destination)) destination (source_then f.source (hops_of f.destination) source hops)
+module _ (f : FrameValue) (priority : f.priority < 4) (destination : IsOctets (destination_octets f.destination)) (hops : IsOctets (hops_octets f.destination)) (source : IsOctets (source_octets f.source)) (some : HasAddress f.source) where
+  addresses_held : IsOctets (addresses_of f)
+  addresses_held = octets_append (destination_octets f.destination) (source_octets f.source ++ hops_octets f.destination) destination (octets_append (source_octets f.source) (hops_octets f.destination) source hops)
 
   pub frame_held : (x : BodyValue) → f.body ≡ x → (b : List ℕ) × IsLeast (SpellsBody x) b → (b : List ℕ) × IsLeast (SpellsFrame f) b
-  frame_held x e body =
-      (1 ∷ least_of (control_of f) ∷ (least_head (addresses_of f) ++ body.0), frame_least f body.0 some priority addresses_held (subst (λ (y : BodyValue). IsLeast (SpellsBody y) body.0) (sym e) body.1))
+  frame_held x e body = (least_before f ++ body.0, frame_least f body.0 some priority addresses_held (subst (λ (y : BodyValue). IsLeast (SpellsBody y) body.0) (sym e) body.1))

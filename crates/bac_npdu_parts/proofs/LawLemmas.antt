@@ -1,15 +1,13 @@
 -- Laws of frames.
-use Rattle.std.specs.Prelude.{◌≡◌, ℕ, ◌≤◌, List, [], ◌∷◌, ◌++◌, length}
+use Rattle.std.specs.Prelude.{◌≡◌, ℕ, ◌≤◌, List, [], ◌++◌, length}
 use Rattle.std.proofs.Common.{inl, inr, arith}
 use Rattle.bac_tag.specs.Octets.{NoGreater}
 use Rattle.bac_tag.specs.Spelling.{IsLeast}
-use Rattle.bac_tag.specs.HeadOctets.{least_head}
-use Rattle.bac_tag.proofs.HeadOctetLemmas.{parts_are, headed_rest}
+use Rattle.bac_tag.proofs.HeadOctetLemmas.{parts_are}
 use Rattle.bac_apdu.specs.Apdus.{ApduValue, SpellsApdu}
 use Rattle.bac_npdu_parts.specs.Messages.{MessageValue, octets_of, SpellsMessage}
-use Rattle.bac_npdu_parts.specs.Control.{least_of}
-use Rattle.bac_npdu_parts.specs.Frames.{BodyValue, apdu, message, FrameValue, control_of, addresses_of, SpellsBody, SpellsFrame}
-use Rattle.bac_npdu_parts.proofs.FrameLemmas.{frame_least}
+use Rattle.bac_npdu_parts.specs.Frames.{BodyValue, apdu, message, FrameValue, SpellsBody, SpellsFrame}
+use Rattle.bac_npdu_parts.proofs.FrameLemmas.{least_before, frame_least}
 use Rattle.bac_npdu_parts.proofs.HeldLemmas.{message_held}
 
 no_longer : (c b : List ℕ) → NoGreater c b → length c ≤ length b
@@ -28,9 +26,6 @@ module _ (apdus : (v : ApduValue) (b : List ℕ) → SpellsApdu v b → (c : Lis
   body_canonical (message m) b p = message_canonical m b p
 
   pub frame_canonical : (f : FrameValue) (b : List ℕ) → SpellsFrame f b → (c : List ℕ) × IsLeast (SpellsFrame f) c
-  frame_canonical f [] s = absurd s.1
-  frame_canonical f (v ∷ []) s = absurd s.1.1
-  frame_canonical f (v ∷ o ∷ b) s =
-      let rest = headed_rest (addresses_of f) (SpellsBody f.body) b s.1.1.1 in
-      let body = body_canonical f.body rest.0 rest.1 in
-      (1 ∷ least_of (control_of f) ∷ (least_head (addresses_of f) ++ body.0), frame_least f body.0 s.0 (omega (arith, s.1.1.0.priority)) (parts_are (addresses_of f) (SpellsBody f.body) b s.1.1.1) body.1)
+  frame_canonical f b s =
+      let body = body_canonical f.body s.body s.is_body in
+      (least_before f ++ body.0, frame_least f body.0 s.has_address (omega (arith, s.is_control.priority)) s.are_octets body.1)

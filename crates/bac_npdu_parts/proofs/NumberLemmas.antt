@@ -3,9 +3,7 @@ use Rattle.std.specs.Prelude.{ℕ, Option, Some, None, List, [], ◌∷◌, ◌+
 use Rattle.bac_tag.specs.Octets.{IsOctets}
 use Rattle.bac_tag.specs.HeadOctets.{Part, typed, limits, octet, window, least_head, AreParts}
 use Rattle.bac_npdu_parts.specs.declared.messages.port.Port.{Port}
-use Rattle.bac_npdu_parts.specs.Addresses.{SourceValue, DestinationValue, destination_of, source_of, hops_of}
 use Rattle.bac_npdu_parts.specs.Messages.{MessageValue, who_is_router, i_am_router, i_could_be_router, reject_message, router_busy, router_available, init_table, init_table_ack, establish, disconnect, what_is_network_number, network_number_is, opaque, networks_of, network_or_none, ports_of, table_or_none, octets_of}
-use Rattle.bac_npdu_parts.specs.Frames.{FrameValue, addresses_of}
 
 abbrev pub IsNumber : Part → Type 0
 IsNumber (octet n) = Unit {0}
@@ -65,18 +63,3 @@ message_numbers (disconnect x) = (tt, (tt, (tt, tt)))
 message_numbers what_is_network_number = (tt, tt)
 message_numbers (network_number_is x y) = (tt, (tt, (tt, (tt, tt))))
 message_numbers (opaque m) = (tt, vendor_then m.vendor m.octets)
-
-hops_numbers : (d : Option DestinationValue) → AreNumbers (hops_of d)
-hops_numbers None = tt
-hops_numbers (Some d) = (tt, tt)
-
-source_numbers : (s : Option SourceValue) (ps : List Part) → AreNumbers ps → AreNumbers (source_of s ps)
-source_numbers None ps n = n
-source_numbers (Some s) ps n = (tt, (tt, (tt, octets_then s.address ps n)))
-
-destination_numbers : (d : Option DestinationValue) (ps : List Part) → AreNumbers ps → AreNumbers (destination_of d ps)
-destination_numbers None ps n = n
-destination_numbers (Some d) ps n = (tt, (tt, (tt, octets_then d.address ps n)))
-
-pub addresses_numbers : (f : FrameValue) → AreNumbers (addresses_of f)
-addresses_numbers f = destination_numbers f.destination (source_of f.source (hops_of f.destination)) (source_numbers f.source (hops_of f.destination) (hops_numbers f.destination))

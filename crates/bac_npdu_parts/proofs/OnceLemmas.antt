@@ -11,14 +11,20 @@ use Rattle.bac_npdu_parts.specs.MessageTypes.{OpaqueNetValue, is_typed, IsVendor
 use Rattle.bac_npdu_parts.specs.Messages.{MessageValue, who_is_router, i_am_router, i_could_be_router, reject_message, router_busy, router_available, init_table, init_table_ack, establish, disconnect, what_is_network_number, network_number_is, opaque, networks_of, network_or_none, ports_of, table_of, table_or_none, SpellsMessage}
 use Rattle.bac_npdu_parts.specs.Addresses.{SourceValue, DestinationValue}
 use Rattle.bac_npdu_parts.specs.Frames.{BodyValue, apdu, message, FrameValue, is_there, is_message, SpellsBody, SpellsFrame}
-use Rattle.bac_npdu_parts.proofs.HeadLemmas.{octets_only, cons_same, addresses_agree, flag_once}
+use Rattle.bac_npdu_parts.proofs.HeadLemmas.{cons_same, addresses_agree, flag_once}
 use Rattle.bac_npdu_parts.proofs.MessageLemmas.{nothing_spells}
 use Rattle.bac_npdu_parts.proofs.HeadRefusedLemmas.{parts_of}
+use Rattle.bac_npdu_parts.proofs.FrameLemmas.{framed_tail, framed_long}
 
 -- ---- network messages, read from their octets
 
 abbrev pub End : List ℕ → Type 0
 End rest = rest ≡ []
+
+octets_only : (xs : List ℕ) (ps : List Part) (B : List ℕ → Type 0) (b : List ℕ) → Headed (map octet xs ++ ps) B b → (rest : List ℕ) × (b ≡ xs ++ rest) × Headed ps B rest
+octets_only [] ps B b h = (b, refl, h)
+octets_only (x ∷ xs) ps B [] h = absurd h
+octets_only (x ∷ xs) ps B (o ∷ b) h = let q = octets_only xs ps B b h.1 in (q.0, cons_same o x b (xs ++ q.0) h.0.0 q.1, q.2)
 
 number_at : ℕ → List ℕ → ℕ
 number_at k b = 256 * slice_index b k + slice_index b (suc k)
@@ -192,11 +198,11 @@ module _ (apdus : (v w : ApduValue) (b : List ℕ) → SpellsApdu v b → Spells
   body_one (message m) (apdu w) b e p q = absurd (let i : true ≡ false = e in cc)
 
   pub frame_one : (f g : FrameValue) (b : List ℕ) → SpellsFrame f b → SpellsFrame g b → f ≡ g
-  frame_one f g [] p q = absurd p.1
-  frame_one f g (v ∷ []) p q = absurd p.1.1
+  frame_one f g [] p q = absurd (omega (arith, framed_long f [] p))
+  frame_one f g (v ∷ []) p q = absurd (omega (arith, framed_long f (v ∷ []) p))
   frame_one f g (v ∷ c ∷ b) p q =
-      let x = parts_of f c b (subst (λ (n : ℕ). SpellsFrame f (n ∷ c ∷ b)) p.1.0.0 p) in
-      let y = parts_of g c b (subst (λ (n : ℕ). SpellsFrame g (n ∷ c ∷ b)) q.1.0.0 q) in
+      let x = parts_of f c b (subst (λ (n : ℕ). SpellsFrame f (n ∷ c ∷ b)) (framed_tail f v c b p).0 p) in
+      let y = parts_of g c b (subst (λ (n : ℕ). SpellsFrame g (n ∷ c ∷ b)) (framed_tail g v c b q).0 q) in
       let agree = addresses_agree f.destination g.destination f.source g.source x.rest y.rest (flag_once 5 c (is_there f.destination) (is_there g.destination) x.control.destination y.control.destination) (flag_once 3 c (is_there f.source) (is_there g.source) x.control.source y.control.source) (sym x.octets_are ∙ y.octets_are) in
       let body = body_one f.body g.body y.rest (flag_once 7 c (is_message f.body) (is_message g.body) x.control.message y.control.message) (subst (SpellsBody f.body) agree.2 x.body) y.body in
       frame_same f g (flag_once 2 c f.reply g.reply x.control.reply y.control.reply) (sym x.control.priority ∙ y.control.priority) agree.0 agree.1 body

@@ -3,14 +3,13 @@ use Rattle.std.specs.Prelude.{◌≡◌, ℕ, ◌+◌, ◌≤◌, cond, Bool, tr
 use Rattle.std.proofs.Common.{sym, ◌∙◌, ap, subst, arith}
 use Rattle.std.proofs.lemmas.List.{length-append, get_or-append-add}
 use Rattle.bac_tag.specs.HeadOctets.{HasBit}
-use Rattle.bac_npdu_parts.specs.Addresses.{SourceValue, DestinationValue}
+use Rattle.bac_npdu_parts.specs.Addresses.{SourceValue, DestinationValue, address_of, address_octets, source_octets, hops_octets}
 use Rattle.bac_npdu_parts.specs.Frames.{is_there}
 use Rattle.bac_npdu_parts.specs.Heads.{says_destination, says_source, source_place, hops_place, body_place}
-use Rattle.bac_npdu_parts.specs.FrameHeads.{address_of}
-use Rattle.bac_npdu_parts.specs.HeadsRead.{address_octets, from_octets, hops_octets, behind_control}
+use Rattle.bac_npdu_parts.specs.HeadsRead.{behind_control}
 use Rattle.bac_npdu_parts.proofs.HeadLemmas.{flag_told}
 
-pub at_source : (c : ℕ) (g : Option SourceValue) (b : List ℕ) → HasBit 5 (Some (is_there g)) c → source_place (1 ∷ c ∷ (from_octets g ++ b)) ≡ 2 + length (from_octets g)
+pub at_source : (c : ℕ) (g : Option SourceValue) (b : List ℕ) → HasBit 5 (Some (is_there g)) c → source_place (1 ∷ c ∷ (source_octets g ++ b)) ≡ 2 + length (source_octets g)
 at_source c None b h = ap (λ (f : Bool). cond f (5 + slice_index (1 ∷ c ∷ b) 4) 2) (flag_told 5 c false h)
 at_source c (Some s) b h = ap (λ (f : Bool). cond f (5 + length s.address) 2) (flag_told 5 c true h) ∙ omega arith
 
@@ -20,20 +19,20 @@ behind_at c k a b =
     let at : 2 + length a + k ≡ length (1 ∷ c ∷ a) + k = omega arith in
     ap (λ (n : ℕ). slice_index (1 ∷ c ∷ (a ++ b)) n) at ∙ get_or-append-add (1 ∷ c ∷ a) b k 0
 
-pub length_at : (c : ℕ) (g : Option SourceValue) (b : List ℕ) → HasBit 5 (Some (is_there g)) c → slice_index (1 ∷ c ∷ (from_octets g ++ b)) (source_place (1 ∷ c ∷ (from_octets g ++ b)) + 2) ≡ slice_index b 2
-length_at c g b h = ap (λ (n : ℕ). slice_index (1 ∷ c ∷ (from_octets g ++ b)) (n + 2)) (at_source c g b h) ∙ behind_at c 2 (from_octets g) b
+pub length_at : (c : ℕ) (g : Option SourceValue) (b : List ℕ) → HasBit 5 (Some (is_there g)) c → slice_index (1 ∷ c ∷ (source_octets g ++ b)) (source_place (1 ∷ c ∷ (source_octets g ++ b)) + 2) ≡ slice_index b 2
+length_at c g b h = ap (λ (n : ℕ). slice_index (1 ∷ c ∷ (source_octets g ++ b)) (n + 2)) (at_source c g b h) ∙ behind_at c 2 (source_octets g) b
 
 hops_of_source : (octets : List ℕ) (f : Bool) → says_source octets ≡ f → hops_place octets ≡ cond f (source_place octets + 3 + slice_index octets (source_place octets + 2)) (source_place octets)
 hops_of_source octets f e = ap (λ (g : Bool). cond g (source_place octets + 3 + slice_index octets (source_place octets + 2)) (source_place octets)) e
 
 pub at_hops : (c : ℕ) (g s : Option SourceValue) (b : List ℕ) → HasBit 5 (Some (is_there g)) c → HasBit 3 (Some (is_there s)) c
-    → hops_place (1 ∷ c ∷ (from_octets g ++ (from_octets s ++ b))) ≡ 2 + length (from_octets g) + length (from_octets s)
+    → hops_place (1 ∷ c ∷ (source_octets g ++ (source_octets s ++ b))) ≡ 2 + length (source_octets g) + length (source_octets s)
 at_hops c g None b h k =
-    let o = 1 ∷ c ∷ (from_octets g ++ b) in
+    let o = 1 ∷ c ∷ (source_octets g ++ b) in
     hops_of_source o false (flag_told 3 c false k) ∙ at_source c g b h ∙ omega arith
 at_hops c g (Some s) b h k =
     let more = address_octets s.network s.address ++ b in
-    let o = 1 ∷ c ∷ (from_octets g ++ more) in
+    let o = 1 ∷ c ∷ (source_octets g ++ more) in
     let p = hops_of_source o true (flag_told 3 c true k) in
     let q = at_source c g more h in
     let r : slice_index o (source_place o + 2) ≡ length s.address = length_at c g more h in
@@ -51,10 +50,10 @@ as_address c d h = subst (λ (f : Bool). HasBit 5 (Some f) c) (sym (is_address d
 
 -- the octets of destination, source and hop count
 abbrev pub addresses : Option DestinationValue → Option SourceValue → List ℕ
-addresses d s = from_octets (address_of d) ++ (from_octets s ++ hops_octets d)
+addresses d s = source_octets (address_of d) ++ (source_octets s ++ hops_octets d)
 
-pub length-addresses : (d : Option DestinationValue) (s : Option SourceValue) → length (addresses d s) ≡ length (from_octets (address_of d)) + length (from_octets s) + length (hops_octets d)
-length-addresses d s = omega (arith, length-append (from_octets (address_of d)) (from_octets s ++ hops_octets d), length-append (from_octets s) (hops_octets d))
+pub length-addresses : (d : Option DestinationValue) (s : Option SourceValue) → length (addresses d s) ≡ length (source_octets (address_of d)) + length (source_octets s) + length (hops_octets d)
+length-addresses d s = omega (arith, length-append (source_octets (address_of d)) (source_octets s ++ hops_octets d), length-append (source_octets s) (hops_octets d))
 
 pub at_body : (c : ℕ) (d : Option DestinationValue) (s : Option SourceValue) (b : List ℕ) → HasBit 5 (Some (is_there d)) c → HasBit 3 (Some (is_there s)) c
     → body_place (1 ∷ c ∷ behind_control d s b) ≡ 2 + length (addresses d s)

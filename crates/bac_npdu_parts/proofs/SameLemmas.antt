@@ -1,10 +1,9 @@
 -- Frames are equal exactly where they are the same frame.
-use Rattle.std.proofs.Common.{◌≡◌, ℕ, Bool, true, false, ◌&&◌, nat_eq, Option, None, Some, List, [], ◌∷◌, refl, ap}
+use Rattle.std.proofs.Common.{◌≡◌, ℕ, Bool, true, false, ◌&&◌, nat_eq, Option, None, Some, List, refl, ap}
 use Rattle.std.specs.Bool.{Decides, beq}
 use Rattle.std.specs.Option.{option_eq}
 use Rattle.std.specs.Cmp.{unsigned_Decides, booleans_Decides}
 use Rattle.std.specs.Cmp.Lexicographic.{pointwise, bytes_decides}
-use Rattle.bac_tag.proofs.HeadOctetLemmas.{headed_rest}
 use Rattle.bac_data.specs.OpenValue.{Elements, AreElements}
 use Rattle.bac_data.specs.Spells.{SpellsOpen}
 use Rattle.bac_service.proofs.SameLemmas.{Decided, by_parts, both, options, pairs}
@@ -23,7 +22,7 @@ use Rattle.bac_npdu_parts.specs.MessageTypes.{same_opaque_net}
 use Rattle.bac_npdu_parts.specs.Ports.{same_ports}
 use Rattle.bac_npdu_parts.specs.Laws.Same.{tables_decided, opaque_net_decided}
 use Rattle.bac_npdu_parts.specs.Messages.{who_is_router, i_am_router, i_could_be_router, reject_message, router_busy, router_available, init_table, init_table_ack, establish, disconnect, network_number_is, opaque, message_value}
-use Rattle.bac_npdu_parts.specs.Frames.{FrameValue, apdu, message, destination_value, body_value, addresses_of, SpellsBody, SpellsFrame, value_of}
+use Rattle.bac_npdu_parts.specs.Frames.{FrameValue, apdu, message, destination_value, body_value, SpellsBody, SpellsFrame, value_of}
 
 -- ---- what the derives answer
 
@@ -130,9 +129,7 @@ message_tells a b = (λ h. absurd (cc h), λ e. absurd (cc e))
 
 -- the body after its head
 body_spelled : (f : FrameValue) (c : List ℕ) → SpellsFrame f c → (d : List ℕ) × SpellsBody f.body d
-body_spelled f [] s = absurd s.1
-body_spelled f (v ∷ []) s = absurd s.1.1
-body_spelled f (v ∷ o ∷ b) s = headed_rest (addresses_of f) (SpellsBody f.body) b s.1.1.1
+body_spelled f c s = (s.body, s.is_body)
 
 module _ (open_only : (number : ℕ) (v : Elements) (b : List ℕ) → SpellsOpen 32 number v b → AreElements v) where
   body_tells : (a b : Body) (c d : List ℕ) → SpellsBody (body_value a) c → SpellsBody (body_value b) d → Decides (same_body a b) (body_value a ≡ body_value b)

@@ -26,23 +26,28 @@ two_octets n ps = octet (n / 256) ∷ octet (n % 256) ∷ ps
 abbrev pub counted : List ℕ → List Part → List Part
 counted octets ps = octet (length octets) ∷ map octet octets ++ ps
 
--- network, length, address
-abbrev pub addressed : ℕ → List ℕ → List Part → List Part
-addressed network address ps = two_octets network (counted address ps)
+-- network, length and address
+abbrev pub address_octets : ℕ → List ℕ → List ℕ
+address_octets network address = network / 256 ∷ network % 256 ∷ length address ∷ address
+
+-- a destination without its hop count
+abbrev pub address_of : Option DestinationValue → Option SourceValue
+address_of None = None
+address_of (Some d) = Some (record { network = d.network; address = d.address })
+
+-- where there is an address
+abbrev pub source_octets : Option SourceValue → List ℕ
+source_octets None = []
+source_octets (Some s) = address_octets s.network s.address
 
 -- of a destination, where there is one, all but the hop count
-abbrev pub destination_of : Option DestinationValue → List Part → List Part
-destination_of None ps = ps
-destination_of (Some d) ps = addressed d.network d.address ps
-
-abbrev pub source_of : Option SourceValue → List Part → List Part
-source_of None ps = ps
-source_of (Some s) ps = addressed s.network s.address ps
+abbrev pub destination_octets : Option DestinationValue → List ℕ
+destination_octets d = source_octets (address_of d)
 
 -- the hop count belongs to the destination, and stands behind the source
-abbrev pub hops_of : Option DestinationValue → List Part
-hops_of None = []
-hops_of (Some d) = octet d.hops ∷ []
+abbrev pub hops_octets : Option DestinationValue → List ℕ
+hops_octets None = []
+hops_octets (Some d) = d.hops ∷ []
 
 -- the address of a source is not empty
 abbrev pub HasAddress : Option SourceValue → Type 0

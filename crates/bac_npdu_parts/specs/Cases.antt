@@ -1,11 +1,8 @@
 -- A frame by what its body is, and by its parts (clause 6.2).
-use Rattle.std.specs.Prelude.{◌≡◌, ℕ, List, [], ◌∷◌}
-use Rattle.bac_tag.specs.HeadOctets.{octet, Headed}
+use Rattle.std.specs.Prelude.{◌≡◌, ℕ, List, []}
 use Rattle.bac_apdu.specs.Apdus.{ApduValue}
-use Rattle.bac_npdu_parts.specs.Addresses.{HasAddress}
 use Rattle.bac_npdu_parts.specs.Messages.{MessageValue}
-use Rattle.bac_npdu_parts.specs.Control.{Controlled}
-use Rattle.bac_npdu_parts.specs.Frames.{FrameValue, BodyValue, apdu, message, is_message, control_of, addresses_of, SpellsFrame}
+use Rattle.bac_npdu_parts.specs.Frames.{FrameValue, BodyValue, apdu, message, is_message, Framed, SpellsFrame}
 use Rattle.bac_npdu_parts.specs.FrameHeads.{HeadValue, frame_with}
 use Rattle.bac_npdu_parts.specs.HeadsRead.{SpellsBodyOf}
 
@@ -21,7 +18,7 @@ SpellsWithMessage (head, m) = SpellsFrame (frame_with head (message m))
 
 -- the lists that spell what comes before the body of a frame: version, control octet, addresses
 abbrev pub SpellsHead : FrameValue → List ℕ → Type 0
-SpellsHead f b = HasAddress f.source × Headed (octet 1 ∷ []) (Controlled (control_of f) (Headed (addresses_of f) (λ rest. rest ≡ []))) b
+SpellsHead f = Framed f (λ rest. rest ≡ [])
 
 -- the lists that spell what comes after this head: a network message where the control octet says so, else an APDU
 abbrev pub SpellsAfter : FrameValue → BodyValue → List ℕ → Type 0

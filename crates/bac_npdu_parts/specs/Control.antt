@@ -1,5 +1,5 @@
 -- The control octet (clause 6.2.2).
-use Rattle.std.specs.Prelude.{◌≡◌, ℕ, ◌+◌, ◌*◌, ◌%◌, ◌<◌, Bool, Some, List, [], ◌∷◌}
+use Rattle.std.specs.Prelude.{◌≡◌, ℕ, ◌+◌, ◌*◌, ◌%◌, ◌<◌, Bool, Some}
 use Rattle.bac_tag.specs.HeadOctets.{bit_of, HasBit}
 
 -- whether a network message, a destination, a source are there, whether a reply is expected; the priority
@@ -18,11 +18,6 @@ pub record IsControl (c : ControlValue) (o : ℕ) : Type 0 where
   pub source : HasBit 3 (Some c.source) o
   pub reply : HasBit 2 (Some c.reply) o
   pub priority : o % 4 ≡ c.priority
-
--- a control octet, and behind it a body
-abbrev pub Controlled : ControlValue → (List ℕ → Type 0) → List ℕ → Type 0
-Controlled c Body [] = ⊥
-Controlled c Body (o ∷ b) = IsControl c o × Body b
 
 -- the octet with bits 6 and 4 0
 abbrev pub least_control : Bool → Bool → Bool → Bool → ℕ → ℕ

@@ -8,9 +8,9 @@ use Rattle.bac_apdu.specs.FirstOctet.{IsTypePlace, IsWindowPlace}
 use Rattle.bac_apdu.specs.Decoded.{IsApduReason, begins_small as begins_small_apdu, is_small as is_small_apdu}
 use Rattle.bac_npdu_parts.specs.declared.frame.Frame.{Frame}
 use Rattle.bac_npdu_parts.specs.declared.message.NetMessage.{NetMessage}
-use Rattle.bac_npdu_parts.specs.Addresses.{SourceValue}
+use Rattle.bac_npdu_parts.specs.Addresses.{SourceValue, address_of}
 use Rattle.bac_npdu_parts.specs.Messages.{MessageValue, i_am_router, router_busy, router_available, init_table, init_table_ack, opaque, SpellsMessage, message_value}
-use Rattle.bac_npdu_parts.specs.FrameHeads.{address_of, IsLong}
+use Rattle.bac_npdu_parts.specs.FrameHeads.{IsLong}
 use Rattle.bac_npdu_parts.specs.Frames as frames
 use Rattle.bac_npdu_parts.specs.Frames.{BodyValue, FrameValue, SpellsFrame, value_of}
 use Rattle.bac_npdu_parts.specs.Heads.{says_message, says_destination, says_source, source_place, body_place, HasHead, IsVersionPlace, IsAddressPlace}

@@ -1,21 +1,43 @@
 -- The frames as they were spelled while WritePropertyMultiple and its error were opaque and at most 16 groups nested.
-use Rattle.std.specs.Prelude.{ℕ, List, [], ◌∷◌}
-use Rattle.bac_tag.specs.HeadOctets.{octet, Headed}
+use Rattle.std.specs.Prelude.{◌≡◌, ℕ, ◌||◌, nat_lt, nat_eq, Bool, true, false, List, [], ◌∷◌}
+use Rattle.bac_tag.specs.HeadOctets.{Part, octet, Headed}
 use Rattle.bac_apdu.specs.FormerApdus.{SpellsFormerApdu, IsKept as IsKeptApdu}
-use Rattle.bac_npdu_parts.specs.Addresses.{HasAddress}
-use Rattle.bac_npdu_parts.specs.Messages.{SpellsMessage}
-use Rattle.bac_npdu_parts.specs.Control.{Controlled}
-use Rattle.bac_npdu_parts.specs.Frames.{BodyValue, apdu, message, FrameValue, control_of, addresses_of}
+use Rattle.bac_npdu_parts.specs.MessageTypes.{is_typed, IsVendored}
+use Rattle.bac_npdu_parts.specs.Messages.{MessageValue, opaque, octets_of}
+use Rattle.bac_npdu_parts.specs.Frames.{BodyValue, apdu, message, FrameValue, Framed}
+
+-- the types of network messages that had a layout: 0 to 9, 18 and 19
+abbrev pub had_layout : ℕ → Bool
+had_layout kind = nat_lt kind 10 || (nat_eq kind 18 || nat_eq kind 19)
+
+-- the number that the first of these octets is
+abbrev pub first_number : List Part → ℕ
+first_number (octet number ∷ ps) = number
+first_number _ = 0
+
+-- the type of a message
+abbrev pub type_of : MessageValue → ℕ
+type_of m = first_number (octets_of m)
+
+-- an opaque message was of another type, with a vendor where its type wants one
+abbrev pub WasMessage : MessageValue → Type 0
+WasMessage (opaque m) = (had_layout m.kind ≡ false) × IsVendored m.kind m.vendor
+WasMessage m = had_layout (type_of m) ≡ true
+
+-- the lists that spelled a network message
+abbrev pub SpellsFormerMessage : MessageValue → List ℕ → Type 0
+SpellsFormerMessage m b = WasMessage m × Headed (octets_of m) (λ rest. rest ≡ []) b
 
 abbrev pub SpellsFormerBody : BodyValue → List ℕ → Type 0
 SpellsFormerBody (apdu a) = SpellsFormerApdu a
-SpellsFormerBody (message m) = SpellsMessage m
+SpellsFormerBody (message m) = SpellsFormerMessage m
 
 -- the lists that spelled a frame
 abbrev pub SpellsFormerFrame : FrameValue → List ℕ → Type 0
-SpellsFormerFrame f b = HasAddress f.source × Headed (octet 1 ∷ []) (Controlled (control_of f) (Headed (addresses_of f) (SpellsFormerBody f.body))) b
+SpellsFormerFrame f = Framed f (SpellsFormerBody f.body)
 
--- every frame but those with a request in one piece or an error of choice 16
+-- Every frame but those with a request in one piece or an error of choice 16, or with a network message of a type that has
+-- a layout now and had none.
 abbrev pub IsKept : BodyValue → Type 0
 IsKept (apdu a) = IsKeptApdu a
-IsKept (message m) = Unit {0}
+IsKept (message m) = had_layout (type_of m) ≡ is_typed (type_of m)

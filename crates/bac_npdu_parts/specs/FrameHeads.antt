@@ -36,11 +36,6 @@ abbrev pub destination_read : Option DestRef → Option DestinationValue
 destination_read None = None
 destination_read (Some d) = Some (record { network = d.network; address = d.address.now; hops = d.hops })
 
--- a destination without its hop count
-abbrev pub address_of : Option DestinationValue → Option SourceValue
-address_of None = None
-address_of (Some d) = Some (record { network = d.network; address = d.address })
-
 -- an address of more octets than have room in a Mac
 abbrev pub IsLong : Option SourceValue → Type 0
 IsLong None = ⊥

@@ -1,14 +1,14 @@
 -- The frames, as values, and the lists that spell them (clause 6.2).
-use Rattle.std.specs.Prelude.{ℕ, Bool, true, false, Option, Some, None, List, [], ◌∷◌}
-use Rattle.bac_tag.specs.HeadOctets.{Part, octet, Headed}
+use Rattle.std.specs.Prelude.{◌≡◌, ℕ, Bool, true, false, Option, Some, None, List, ◌∷◌, ◌++◌}
+use Rattle.bac_tag.specs.Octets.{IsOctets}
 use Rattle.bac_apdu.specs.Apdus.{ApduValue, SpellsApdu, value_of as apdu_value}
 use Rattle.bac_npdu_parts.specs.declared.destination.Dest.{Dest}
 use Rattle.bac_npdu_parts.specs.declared.frame.Body.{Body}
 use Rattle.bac_npdu_parts.specs.declared.frame.Body.TheVariants as held
 use Rattle.bac_npdu_parts.specs.declared.frame.Frame.{Frame}
-use Rattle.bac_npdu_parts.specs.Addresses.{SourceValue, DestinationValue, destination_of, source_of, hops_of, HasAddress}
+use Rattle.bac_npdu_parts.specs.Addresses.{SourceValue, DestinationValue, destination_octets, source_octets, hops_octets, HasAddress}
 use Rattle.bac_npdu_parts.specs.Messages.{MessageValue, SpellsMessage, message_value}
-use Rattle.bac_npdu_parts.specs.Control.{ControlValue, Controlled}
+use Rattle.bac_npdu_parts.specs.Control.{ControlValue, IsControl}
 
 pub data BodyValue : Type 0 where
   apdu : ApduValue → BodyValue
@@ -46,14 +46,24 @@ abbrev pub control_of : FrameValue → ControlValue
 control_of f = record { message = is_message f.body; destination = is_there f.destination; source = is_there f.source; reply = f.reply; priority = f.priority }
 
 -- destination, source, and the hop count of the destination
-abbrev pub addresses_of : FrameValue → List Part
-addresses_of f = destination_of f.destination (source_of f.source (hops_of f.destination))
+abbrev pub addresses_of : FrameValue → List ℕ
+addresses_of f = destination_octets f.destination ++ (source_octets f.source ++ hops_octets f.destination)
 
 -- an APDU or a network message
 abbrev pub SpellsBody : BodyValue → List ℕ → Type 0
 SpellsBody (apdu a) = SpellsApdu a
 SpellsBody (message m) = SpellsMessage m
 
--- the lists that spell a frame: version, control octet, addresses, body
+-- the version, which is 1, the control octet, the addresses, and a body that is one of these lists
+pub record Framed (f : FrameValue) (IsBody : List ℕ → Type 0) (octets : List ℕ) : Type 0 where
+  pub control : ℕ
+  pub body : List ℕ
+  pub octets_are : octets ≡ 1 ∷ control ∷ (addresses_of f ++ body)
+  pub is_control : IsControl (control_of f) control
+  pub are_octets : IsOctets (addresses_of f)
+  pub has_address : HasAddress f.source
+  pub is_body : IsBody body
+
+-- the lists that spell a frame
 abbrev pub SpellsFrame : FrameValue → List ℕ → Type 0
-SpellsFrame f b = HasAddress f.source × Headed (octet 1 ∷ []) (Controlled (control_of f) (Headed (addresses_of f) (SpellsBody f.body))) b
+SpellsFrame f = Framed f (SpellsBody f.body)

@@ -1,5 +1,5 @@
 -- What reading the octets in front of a body gives (clause 6.2).
-use Rattle.std.specs.Prelude.{◌≡◌, ◌≢◌, ◌↔◌, ℕ, ◌+◌, ◌/◌, ◌%◌, ◌^◌, ◌<◌, ◌≤◌, nat_eq, cond, Bool, false, Option, Some, None, List, [], ◌∷◌, ◌++◌, length, slice_index, IfSome, Result, Ok, Err}
+use Rattle.std.specs.Prelude.{◌≡◌, ◌≢◌, ◌↔◌, ℕ, ◌+◌, ◌/◌, ◌%◌, ◌^◌, ◌<◌, ◌≤◌, nat_eq, cond, Bool, false, Option, Some, None, List, ◌∷◌, ◌++◌, length, slice_index, IfSome, Result, Ok, Err}
 use Rattle.bac_tag.specs.declared.refusals.Refusal.{Refusal}
 use Rattle.bac_tag.specs.declared.refusals.Why.TheVariants.{PduType, Window, OutOfMemory}
 use Rattle.bac_tag.specs.HeadOctets.{HasBit}
@@ -8,28 +8,15 @@ use Rattle.bac_apdu.specs.FirstOctet.{IsTypePlace, IsWindowPlace}
 use Rattle.bac_apdu.specs.Decoded.{IsApduReason, begins_small as begins_small_apdu}
 use Rattle.bac_npdu_parts.specs.declared.control.Control.{Control}
 use Rattle.bac_npdu_parts.specs.declared.frame_heads.HeadRead.{HeadRead}
-use Rattle.bac_npdu_parts.specs.Addresses.{SourceValue, DestinationValue, HasAddress}
+use Rattle.bac_npdu_parts.specs.Addresses.{SourceValue, DestinationValue, address_of, source_octets, hops_octets, HasAddress}
 use Rattle.bac_npdu_parts.specs.Control.{ControlValue, least_of}
-use Rattle.bac_npdu_parts.specs.FrameHeads.{address_of, address_read, destination_read}
+use Rattle.bac_npdu_parts.specs.FrameHeads.{address_read, destination_read}
 use Rattle.bac_npdu_parts.specs.Frames.{BodyValue, is_there, is_message, SpellsBody}
 use Rattle.bac_npdu_parts.specs.Decoded.{begins_small_message, IsRefused}
 
--- network, length and address
-abbrev pub address_octets : ℕ → List ℕ → List ℕ
-address_octets network address = network / 256 ∷ network % 256 ∷ length address ∷ address
-
--- those of an address that is there
-abbrev pub from_octets : Option SourceValue → List ℕ
-from_octets None = []
-from_octets (Some s) = address_octets s.network s.address
-
-abbrev pub hops_octets : Option DestinationValue → List ℕ
-hops_octets None = []
-hops_octets (Some d) = d.hops ∷ []
-
 -- behind the control octet: destination, source, hop count, and the rest
 abbrev pub behind_control : Option DestinationValue → Option SourceValue → List ℕ → List ℕ
-behind_control d s rest = from_octets (address_of d) ++ (from_octets s ++ (hops_octets d ++ rest))
+behind_control d s rest = source_octets (address_of d) ++ (source_octets s ++ (hops_octets d ++ rest))
 
 -- the octets end within a network, a length and an address
 abbrev pub IsCutAddress : List ℕ → Type 0

@@ -1,7 +1,6 @@
 //! Encoding a frame.
 
 ghost use Rattle.std.specs.Prelude.{◌≡◌, ℕ, ◌<◌, List, ◌∷◌, ◌++◌, IfOk, OnOk, OnErr};
-ghost use Rattle.bac_tag.specs.HeadOctets.{least_head};
 ghost use Rattle.bac_tag.specs.Spelling.{IsLeast, AppendsLeast};
 ghost use Rattle.bac_tag.specs.Octets.{Extends};
 ghost use Rattle.bac_npdu_parts.specs.Addresses.{HasAddress};
@@ -45,7 +44,7 @@ fn control_of(head: &FrameHead<'_>, body: &Body) -> Control
 
 /// Appends the octets before the body. If memory is refused, `out` may hold some of them.
 fn append_head(head: &FrameHead<'_>, body: &Body, out: &mut Vec<u8>) -> Result<(), OutOfMemory>
-    ensures written { OnOk result (out.new.items ≡ out.old.items ++ 1 ∷ least_of (control_said (frame_with head.now (body_value body.now))) ∷ least_head (addresses_of (frame_with head.now (body_value body.now)))) }
+    ensures written { OnOk result (out.new.items ≡ out.old.items ++ 1 ∷ least_of (control_said (frame_with head.now (body_value body.now))) ∷ addresses_of (frame_with head.now (body_value body.now))) }
     ensures addressed { OnOk result (HasAddress head.now.source) }
     ensures range { OnOk result (head.now.priority < 4) }
     ensures kept { Extends out.old.items out.new.items }

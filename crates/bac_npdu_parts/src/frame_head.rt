@@ -2,8 +2,8 @@
 
 ghost use Rattle.std.specs.Prelude.{◌≡◌, ◌<◌, ◌%◌, ◌⊎◌, length, Some, IfOk, IfErr};
 ghost use Rattle.bac_tag.specs.HeadOctets.{HasBit};
-ghost use Rattle.bac_npdu_parts.specs.Addresses.{HasAddress};
-ghost use Rattle.bac_npdu_parts.specs.FrameHeads.{address_of, address_read, destination_read, frame_with, IsLong, IsShort};
+ghost use Rattle.bac_npdu_parts.specs.Addresses.{HasAddress, address_of};
+ghost use Rattle.bac_npdu_parts.specs.FrameHeads.{address_read, destination_read, frame_with, IsLong, IsShort};
 ghost use Rattle.bac_npdu_parts.specs.Frames.{body_value, destination_value, value_of};
 ghost use Rattle.bac_npdu_parts.specs.HeadsRead.{control_octet};
 
@@ -50,8 +50,8 @@ pub struct FrameHead<'a> {
 }
 
 impl<'a> Model for FrameHead<'a> {
-    ghost use Rattle.bac_npdu_parts.specs.Addresses.{HasAddress};
-    ghost use Rattle.bac_npdu_parts.specs.FrameHeads.{HeadValue, head_code, address_of, address_read, destination_read, IsShort};
+    ghost use Rattle.bac_npdu_parts.specs.Addresses.{HasAddress, address_of};
+    ghost use Rattle.bac_npdu_parts.specs.FrameHeads.{HeadValue, head_code, address_read, destination_read, IsShort};
 
     ghost Value = { HeadValue };
 

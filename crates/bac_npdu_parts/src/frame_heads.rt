@@ -1,12 +1,11 @@
 //! The octets before an APDU or a network message (clause 6.2).
 
 ghost use Rattle.std.specs.Prelude.{◌≡◌, ◌↔◌, ◌<◌, ◌≤◌, true, [], ◌++◌, length, slice_index, IfSome, IfNone, OnOk};
-ghost use Rattle.bac_tag.specs.HeadOctets.{least_head};
 ghost use Rattle.bac_tag.specs.Octets.{Extends};
-ghost use Rattle.bac_npdu_parts.specs.Addresses.{addressed};
-ghost use Rattle.bac_npdu_parts.specs.FrameHeads.{address_of, address_read, destination_read};
+ghost use Rattle.bac_npdu_parts.specs.Addresses.{address_of, address_octets, source_octets, hops_octets};
+ghost use Rattle.bac_npdu_parts.specs.FrameHeads.{address_read, destination_read};
 ghost use Rattle.bac_npdu_parts.specs.Frames.{is_there};
-ghost use Rattle.bac_npdu_parts.specs.HeadsRead.{address_octets, control_octet, from_octets, hops_octets, IsCutAddress, IsControlMark, IsControlRead, IsHeadRead};
+ghost use Rattle.bac_npdu_parts.specs.HeadsRead.{control_octet, IsCutAddress, IsControlMark, IsControlRead, IsHeadRead};
 
 use crate::control::Control;
 use crate::frame_head::{Addressed, DestRef};
@@ -49,7 +48,7 @@ fn split_address(octets: &[u8]) -> Option<(Addressed<'_>, &[u8])>
 /// does.
 #[inline(always)]
 fn split_where(there: bool, octets: &[u8]) -> Option<(Option<Addressed<'_>>, &[u8])>
-    ensures some { IfSome result (λ found. octets.now ≡ from_octets (address_read found.0) ++ found.1.now) }
+    ensures some { IfSome result (λ found. octets.now ≡ source_octets (address_read found.0) ++ found.1.now) }
     ensures there { IfSome result (λ found. is_there found.0 ≡ there) }
     ensures none { IfNone result ((there ≡ true) × IsCutAddress octets.now) }
 {
@@ -158,7 +157,7 @@ pub(crate) fn append_address(
     out: &mut Vec<u8>,
 ) -> Result<(), OutOfMemory>
     requires { length address.now < 256 }
-    ensures written { OnOk result (out.new.items ≡ out.old.items ++ least_head (addressed network address.now [])) }
+    ensures written { OnOk result (out.new.items ≡ out.old.items ++ address_octets network address.now) }
     ensures kept { Extends out.old.items out.new.items }
 {
     out.extend_from_slice(&octets_of_number(network))?;

@@ -4,7 +4,7 @@ ghost use Rattle.std.specs.Prelude.{◌≡◌, ◌↔◌, ◌⊎◌, ℕ, ◌<�
 ghost use Rattle.bac_tag.specs.HeadOctets.{AreParts};
 ghost use Rattle.bac_tag.specs.Octets.{IsOctets};
 ghost use Rattle.bac_tag.specs.Spelling.{IsLeast, IsViable, IsPartway};
-ghost use Rattle.bac_npdu_parts.specs.Addresses.{HasAddress, addressed, destination_of, hops_of, source_of};
+ghost use Rattle.bac_npdu_parts.specs.Addresses.{HasAddress, address_octets, destination_octets, hops_octets, source_octets};
 ghost use Rattle.bac_npdu_parts.specs.Messages.{IsMessage, SpellsMessage, message_value, networks_of, network_or_none, octets_of, opaque, ports_of, table_of};
 ghost use Rattle.bac_npdu_parts.specs.Frames.{FrameValue, SpellsFrame, value_of};
 ghost use Rattle.bac_npdu_parts.specs.Cases.{SpellsWithApdu, SpellsWithMessage, SpellsHead, SpellsAfter};
@@ -201,7 +201,7 @@ pub fn held_messages_have_canonical_octets(message: &NetMessage)
 /// A network fits two octets, and the length of an address on it one. Each octet of the address is below 256.
 #[inline(always)]
 fn held_address_fits(network: u16, address: &Mac)
-    ensures { AreParts (addressed network address.now []) }
+    ensures { IsOctets (address_octets network address.now) }
 {
     held_number_fits(network);
     held_octets_fit(address.octets());
@@ -210,8 +210,8 @@ fn held_address_fits(network: u16, address: &Mac)
 /// What is written of the destination of a frame is octets: the network, the address and the hop count.
 #[inline(always)]
 fn held_destination_fits(frame: &Frame)
-    ensures parts { AreParts (destination_of (value_of frame.now).destination []) }
-    ensures hops { AreParts (hops_of (value_of frame.now).destination) }
+    ensures parts { IsOctets (destination_octets (value_of frame.now).destination) }
+    ensures hops { IsOctets (hops_octets (value_of frame.now).destination) }
 {
     match &frame.dest {
         Some(dest) => {
@@ -225,7 +225,7 @@ fn held_destination_fits(frame: &Frame)
 /// What is written of the source of a frame is octets. Its address is not empty.
 #[inline(always)]
 fn held_source_fits(frame: &Frame)
-    ensures parts { AreParts (source_of (value_of frame.now).source []) }
+    ensures parts { IsOctets (source_octets (value_of frame.now).source) }
     ensures some { HasAddress (value_of frame.now).source }
 {
     match &frame.source {

@@ -5,14 +5,14 @@ use Rattle.std.proofs.lemmas.List.{take-append-drop}
 use Rattle.std.proofs.lemmas.Bool.{both_ways, eqb-true}
 use Rattle.bac_tag.specs.HeadOctets.{Part, octet, Headed, least_head, AreParts}
 use Rattle.bac_tag.specs.Octets.{IsOctets}
-use Rattle.bac_tag.specs.Laws.Octets.{octets_front, octets_back}
+use Rattle.bac_tag.specs.Laws.Octets.{octets_append, octets_front, octets_back}
 use Rattle.bac_tag.specs.Spelling.{Joined, OneOf}
 use Rattle.bac_tag.proofs.HeadOctetLemmas.{part_spelled, parts_are, headed_rest}
 use Rattle.bac_service.specs.Productions.{Optional, IsInhabited}
-use Rattle.bac_npdu_parts.specs.Addresses.{SourceValue, DestinationValue, addressed, destination_of, source_of, hops_of, HasAddress}
+use Rattle.bac_npdu_parts.specs.Addresses.{SourceValue, DestinationValue, address_octets, destination_octets, source_octets, hops_octets, HasAddress}
 use Rattle.bac_npdu_parts.specs.Control.{least_of}
 use Rattle.bac_npdu_parts.specs.Frames.{FrameValue, BodyValue, apdu, message, SpellsBody, SpellsFrame, control_of, addresses_of}
-use Rattle.bac_npdu_parts.proofs.FrameLemmas.{control_spelled}
+use Rattle.bac_npdu_parts.proofs.FrameLemmas.{least_before, control_spelled}
 use Rattle.bac_apdu.specs.Apdus.{ApduValue, SpellsApdu}
 use Rattle.bac_npdu_parts.specs.Messages.{MessageValue, SpellsMessage}
 use Rattle.bac_field_parts.specs.declared.field.Field.{Field}
@@ -253,43 +253,35 @@ said_is c (Some d) (Some s) body = refl
 
 -- ---- a frame that is said has a spelling
 
-headed_spelled : (ps : List Part) (B : List ℕ → Type 0) (c : List ℕ) → AreParts ps → B c → Headed ps B (least_head ps ++ c)
-headed_spelled [] B c v s = s
-headed_spelled (p ∷ ps) B c v s = (part_spelled p v.0, headed_spelled ps B c v.1 s)
+address_spelled : (least : ℕ) (a : SourceValue) → address_fits least a → IsOctets (address_octets a.network a.address)
+address_spelled least a f = (omega (arith, f.0), (omega (arith, f.0), (f.1.1.0, f.1.1.1)))
 
-octets_parts : (octets : List ℕ) (ps : List Part) → IsOctets octets → AreParts ps → AreParts (map octet octets ++ ps)
-octets_parts [] ps o h = h
-octets_parts (n ∷ octets) ps o h = (o.0, octets_parts octets ps o.1 h)
+address_fitting : (least : ℕ) (a : SourceValue) → least ≤ length a.address → IsOctets (address_octets a.network a.address) → address_fits least a
+address_fitting least a long h = (omega (arith, h.0), (long, (h.1.1.0, h.1.1.1)))
 
-parts_octets : (octets : List ℕ) (ps : List Part) → AreParts (map octet octets ++ ps) → IsOctets octets × AreParts ps
-parts_octets [] ps h = (tt, h)
-parts_octets (n ∷ octets) ps h = let rest = parts_octets octets ps h.1 in ((h.0, rest.0), rest.1)
+source_spelled : (s : Option SourceValue) → IfThere source_fits s → IsOctets (source_octets s) × HasAddress s
+source_spelled None f = (tt, tt)
+source_spelled (Some s) f = (address_spelled 1 s f, f.1.0)
 
-address_parts : (least : ℕ) (a : SourceValue) (ps : List Part) → address_fits least a → AreParts ps → AreParts (addressed a.network a.address ps)
-address_parts least a ps f h = (omega (arith, f.0), (omega (arith, f.0), (f.1.1.0, octets_parts a.address ps f.1.1.1 h)))
+source_fitting : (s : Option SourceValue) → HasAddress s → IsOctets (source_octets s) → IfThere source_fits s
+source_fitting None a h = tt
+source_fitting (Some s) a h = address_fitting 1 s a h
 
-parts_address : (least : ℕ) (a : SourceValue) (ps : List Part) → least ≤ length a.address → AreParts (addressed a.network a.address ps) → address_fits least a × AreParts ps
-parts_address least a ps long h = let rest = parts_octets a.address ps h.1.1.1 in ((omega (arith, h.0), (long, (h.1.1.0, rest.0))), rest.1)
+-- addresses that fit are octets
+pub head_spelled : (d : Option (SourceValue × ℕ)) (s : Option SourceValue) → IfThere destination_fits d → IfThere source_fits s
+    → IsOctets (destination_octets (destination_of_parts d) ++ (source_octets s ++ hops_octets (destination_of_parts d))) × HasAddress s
+head_spelled None s f g = let p = source_spelled s g in (octets_append (source_octets s) [] p.0 tt, p.1)
+head_spelled (Some d) s f g =
+    let p = source_spelled s g in
+    (octets_append (address_octets d.0.network d.0.address) (source_octets s ++ d.1 ∷ []) (address_spelled 0 d.0 f.0) (octets_append (source_octets s) (d.1 ∷ []) p.0 (f.1, tt)), p.1)
 
-source_parts : (s : Option SourceValue) (ps : List Part) → IfThere source_fits s → AreParts ps → AreParts (source_of s ps) × HasAddress s
-source_parts None ps f h = (h, tt)
-source_parts (Some s) ps f h = (address_parts 1 s ps f h, f.1.0)
-
-parts_source : (s : Option SourceValue) (ps : List Part) → HasAddress s → AreParts (source_of s ps) → IfThere source_fits s × AreParts ps
-parts_source None ps a h = (tt, h)
-parts_source (Some s) ps a h = parts_address 1 s ps a h
-
-pub head_parts : (d : Option (SourceValue × ℕ)) (s : Option SourceValue) → IfThere destination_fits d → IfThere source_fits s
-    → AreParts (destination_of (destination_of_parts d) (source_of s (hops_of (destination_of_parts d)))) × HasAddress s
-head_parts None s f g = source_parts s [] g tt
-head_parts (Some d) s f g = let p = source_parts s (octet d.1 ∷ []) g (f.1, tt) in (address_parts 0 d.0 (source_of s (octet d.1 ∷ [])) f.0 p.0, p.1)
-
-parts_head : (d : Option DestinationValue) (s : Option SourceValue) → HasAddress s → AreParts (destination_of d (source_of s (hops_of d))) → (p : Option (SourceValue × ℕ)) × (destination_of_parts p ≡ d) × IfThere destination_fits p × IfThere source_fits s
-parts_head None s a h = (None, refl, tt, (parts_source s [] a h).0)
-parts_head (Some d) s a h =
-    let first = parts_address 0 (record { network = d.network; address = d.address }) (source_of s (octet d.hops ∷ [])) (omega arith) h in
-    let rest = parts_source s (octet d.hops ∷ []) a first.1 in
-    (Some (record { network = d.network; address = d.address }, d.hops), refl, (first.0, rest.1.0), rest.0)
+head_fitting : (d : Option DestinationValue) (s : Option SourceValue) → HasAddress s → IsOctets (destination_octets d ++ (source_octets s ++ hops_octets d)) → (p : Option (SourceValue × ℕ)) × (destination_of_parts p ≡ d) × IfThere destination_fits p × IfThere source_fits s
+head_fitting None s a h = (None, refl, tt, source_fitting s a (octets_front (source_octets s) [] h))
+head_fitting (Some d) s a h =
+    let to : SourceValue = record { network = d.network; address = d.address } in
+    let rest = octets_back (address_octets d.network d.address) (source_octets s ++ d.hops ∷ []) h in
+    let first = octets_front (address_octets d.network d.address) (source_octets s ++ d.hops ∷ []) h in
+    (Some (to, d.hops), refl, (address_fitting 0 to (omega arith) first, (octets_back (source_octets s) (d.hops ∷ []) rest).0), source_fitting s a (octets_front (source_octets s) (d.hops ∷ []) rest))
 
 pub frame_to : (es : List Symbol) → Language from_control_said FromControl tt es → Language frame_said SpellsFrame tt es
 frame_to es l =
@@ -305,11 +297,11 @@ frame_to es l =
         → Language frame_said SpellsFrame tt es
     by c d s body fits x y to from b spelled e =
         let f = frame_of_parts (c, (d, s)) body in
-        let parts = head_parts d s (optional destination_fits d x to) (optional source_fits s y from) in (
+        let head = head_spelled d s (optional destination_fits d x to) (optional source_fits s y from) in (
           f,
           record {
-            octets = 1 ∷ least_of (control_of f) ∷ (least_head (addresses_of f) ++ b);
-            spelled = (parts.1, ((refl, lit< tt), (control_spelled (control_of f) fits.0, headed_spelled (addresses_of f) (SpellsBody body) b parts.0 spelled)));
+            octets = least_before f ++ b;
+            spelled = record { control = least_of (control_of f); body = b; octets_are = refl; is_control = control_spelled (control_of f) fits.0; are_octets = head.0; has_address = head.1; is_body = spelled };
             is_said = e ∙ sym (said_is c d s body);
           },
         )
@@ -322,14 +314,10 @@ frame_from es l = by l.0 l.1.octets l.1.spelled l.1.is_said
     present F (Some v) h = (h, refl)
 
     by : (f : FrameValue) (b : List ℕ) → SpellsFrame f b → es ≡ frame_said f → Language from_control_said FromControl tt es
-    by f [] spelled e = absurd spelled.1
-    by f (o ∷ []) spelled e = absurd spelled.1.1
-    by f (o ∷ p ∷ b) spelled e =
-        let control = spelled.1.1.0 in
-        let rest = spelled.1.1.1 in
-        let (d, same, to, from) = parts_head f.destination f.source spelled.0 (parts_are (addresses_of f) (SpellsBody f.body) b rest) in
-        let body = headed_rest (addresses_of f) (SpellsBody f.body) b rest in
-        let priority : f.priority < 4 = omega (arith, control.priority) in
+    by f b spelled e =
+        let (d, same, to, from) = head_fitting f.destination f.source spelled.has_address spelled.are_octets in
+        let body = (spelled.body, spelled.is_body) in
+        let priority : f.priority < 4 = omega (arith, spelled.is_control.priority) in
         let frame_is : f ≡ frame_of_parts ((f.priority, f.reply), (d, f.source)) f.body = ap (λ (x : Option DestinationValue). record { reply = f.reply; priority = f.priority; destination = x; source = f.source; body = f.body }) (sym same) in (
           ((f.priority, f.reply), (d, (f.source, f.body))),
           record {

@@ -1,6 +1,6 @@
 use Rattle.std.specs.Prelude.{List, [], ◌∷◌, ◌++◌, ◌/◌, ◌%◌, ℕ, length}
 use Rattle.std.proofs.Common.{ap, ◌∙◌}
-use Rattle.bac_npdu_parts.proofs.WrittenLemmas.{one_behind, told}
+use Rattle.bac_npdu_parts.proofs.WrittenLemmas.{one_behind}
 use Rattle.bac_npdu_parts.proofs.frame_heads.append_address.Goals as goal
 
 pub returns-clause-written : goal.returns-clause-written
@@ -10,4 +10,4 @@ returns-clause-written c =
     let address = c.args.address.now in
     let network = c.in_ok-extend_from_slice.ensures.items ∙ ap (λ (l : List ℕ). old ++ l) c.octets_of_number.ensures in
     let numbers = one_behind old (number / 256 ∷ number % 256 ∷ []) _ network c.in_ok-push.ensures.items in
-    one_behind old (number / 256 ∷ number % 256 ∷ length address ∷ []) _ numbers (c.in_ok-extend_from_slice-2.ensures.items ∙ ap (λ (l : List ℕ). c.push.new.self.items ++ l) (told address))
+    one_behind old (number / 256 ∷ number % 256 ∷ length address ∷ []) _ numbers c.in_ok-extend_from_slice-2.ensures.items
