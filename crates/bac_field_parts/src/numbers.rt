@@ -11,7 +11,7 @@ use crate::field::Field;
 use crate::making::{Fault, Part};
 use crate::names::Name;
 use bac_apdu::{MaxResp, MaxSegs, Window};
-use bac_npdu::NetPriority;
+use bac_npdu_parts::NetPriority;
 use std::marker::PhantomData;
 
 /// A value that a field says by its number, and that has no octets of its own.

@@ -9,7 +9,7 @@ ghost use Rattle.bac_text.specs.Words.{field, number, truth};
 
 use crate::scalars::{write_digits, write_octets};
 use crate::texts::{HasText, write_field, write_named, write_optional, write_word};
-use bac_npdu::{Addressed, Body, DestRef, Frame, FrameHead};
+use bac_npdu_parts::{Addressed, Body, DestRef, Frame, FrameHead};
 use bac_tag::OutOfMemory;
 
 /// Writes the octets of an address, or `*` if it has none.

@@ -7,7 +7,7 @@ use crate::messages::single_numbers::{
 };
 use crate::messages::tables::{write_table, write_table_ack};
 use crate::texts::HasText;
-use bac_npdu::NetMessage;
+use bac_npdu_parts::NetMessage;
 use bac_tag::OutOfMemory;
 
 mod networks;

@@ -2,7 +2,7 @@
 
 use crate::scalars::write_octets;
 use crate::texts::{HasText, write_optional};
-use bac_npdu::OpaqueNet;
+use bac_npdu_parts::OpaqueNet;
 use bac_tag::OutOfMemory;
 
 /// `net type=TT [vendor=N] data=HEX`.

@@ -7,7 +7,7 @@ ghost use Rattle.bac_text.specs.MessageText.{init_table_text, init_table_ack_tex
 use crate::lists::write_list;
 use crate::scalars::write_octets;
 use crate::texts::{HasText, ROOM, put_field, write_field, write_optional, write_word};
-use bac_npdu::{Port, Ports};
+use bac_npdu_parts::{Port, Ports};
 use bac_record::layers::make_room;
 use bac_tag::OutOfMemory;
 
