@@ -18,3 +18,6 @@ told_short octets refused s = (ap (λ (t : Side × Refusal). t.1.place) refused,
 pub told_behind : (left octets : List ℕ) {told : Side × Refusal} {side : Side} → told ≡ (side, record { place = 0; why = OutOfMemory }) → IsSpelling SpellsFrame left → IsSpelling SpellsFrame octets
     → (told.1.place ≡ 0) × IsSpelling SpellsFrame left × IsShortOfMemory octets
 told_behind left octets refused l s = (ap (λ (t : Side × Refusal). t.1.place) refused, l, inr s)
+
+pub told_memory : {told : Side × Refusal} {side : Side} → told ≡ (side, record { place = 0; why = OutOfMemory }) → told.1.why ≡ OutOfMemory
+told_memory refused = ap (λ (t : Side × Refusal). t.1.why) refused

@@ -3,7 +3,7 @@ use Rattle.std.proofs.Common.{rules, inl}
 use Rattle.std.proofs.lemmas.Result.{err_from_is_err_and}
 use Rattle.bac_npdu_parts.specs.Frames.{value_of}
 use Rattle.bac_npdu.proofs.MeaningLemmas.{least_itself, same_compared}
-use Rattle.bac_npdu.proofs.MemoryLemmas.{told_reasoned, told_short, told_behind}
+use Rattle.bac_npdu.proofs.MemoryLemmas.{told_reasoned, told_short, told_behind, told_memory}
 use Rattle.bac_npdu.proofs.meaning.same_meaning.Goals as goal
 
 pub returns-in_err-right_frame-clause-right : goal.returns-in_err-right_frame-clause-right
@@ -96,3 +96,23 @@ pub returns-in_err-right_written-in-Some-Some-clause-right_memory : goal.returns
 returns-in_err-right_written-in-Some-Some-clause-right_memory c =
     let p = err_from_is_err_and c.from_residual-in_err-right_written-in-Some-Some.result c.from_residual-in_err-right_written-in-Some-Some.ensures.1 in
     rw (p.1, p.2) (λ side why. told_behind c.args.left.now c.args.right.now c.in_err-right_written-in-Some-Some.ensures.memory (value_of c.in_ok-left_frame.left_frame, c.in_ok-left_frame.ensures.spelled) (value_of c.in_ok-right_frame.right_frame, c.in_ok-right_frame.ensures.spelled))
+
+pub returns-in_err-written-in-None-Some-clause-right : goal.returns-in_err-written-in-None-Some-clause-right
+returns-in_err-written-in-None-Some-clause-right c =
+    let p = err_from_is_err_and c.from_residual-in_err-written-in-None-Some.result c.from_residual-in_err-written-in-None-Some.ensures.1 in
+    rw (p.1, p.2) (λ side why. absurd (why (told_memory c.in_err-written-in-None-Some.ensures.memory)))
+
+pub returns-in_err-written-in-Some-None-clause-left : goal.returns-in_err-written-in-Some-None-clause-left
+returns-in_err-written-in-Some-None-clause-left c =
+    let p = err_from_is_err_and c.from_residual-in_err-written-in-Some-None.result c.from_residual-in_err-written-in-Some-None.ensures.1 in
+    rw (p.1, p.2) (λ side why. absurd (why (told_memory c.in_err-written-in-Some-None.ensures.memory)))
+
+pub returns-in_err-left_written-in-Some-Some-clause-left : goal.returns-in_err-left_written-in-Some-Some-clause-left
+returns-in_err-left_written-in-Some-Some-clause-left c =
+    let p = err_from_is_err_and c.from_residual-in_err-left_written-in-Some-Some.result c.from_residual-in_err-left_written-in-Some-Some.ensures.1 in
+    rw (p.1, p.2) (λ side why. absurd (why (told_memory c.in_err-left_written-in-Some-Some.ensures.memory)))
+
+pub returns-in_err-right_written-in-Some-Some-clause-right : goal.returns-in_err-right_written-in-Some-Some-clause-right
+returns-in_err-right_written-in-Some-Some-clause-right c =
+    let p = err_from_is_err_and c.from_residual-in_err-right_written-in-Some-Some.result c.from_residual-in_err-right_written-in-Some-Some.ensures.1 in
+    rw (p.1, p.2) (λ side why. absurd (why (told_memory c.in_err-right_written-in-Some-Some.ensures.memory)))
