@@ -3,6 +3,7 @@
 ghost use Rattle.std.specs.Prelude.{◌≡◌, ◌≤◌, ◌+◌, ◌++◌, IfOk, OnErr, length, take};
 ghost use Rattle.bac_tag.specs.Octets.{Extends};
 ghost use Rattle.bac_service.specs.Services.{value_of};
+ghost use Rattle.bac_service.specs.declared.service.Service.{Service};
 ghost use Rattle.bac_text.specs.ServiceText.{service_text};
 
 use crate::texts::{HasShortText, HasText, write_short};
@@ -21,17 +22,33 @@ pub(crate) mod who_is;
 pub(crate) mod write_property;
 pub(crate) mod write_property_multiple;
 
+/// What a variant of a service holds.
+pub(crate) trait Said: HasText {
+    /// The service that holds it.
+    ghost service: { Self → Service };
+
+    ghost same: { (said : Self) → Self.text said ≡ service_text (value_of (service said)) };
+}
+
+/// What a variant of a service holds, with a short text.
+pub(crate) trait ShortSaid: HasShortText {
+    /// The service that holds it.
+    ghost service: { Self → Service };
+
+    ghost same: { (said : Self) → Self.text said ≡ service_text (value_of (service said)) };
+}
+
 /// Writes the text of what this service says. That the one has the text of the other is all that is to be proved of
 /// each service.
 #[inline(always)]
-fn write_said<T: HasText>(
+fn write_said<T: Said>(
     _service: &Service,
     said: &T,
     out: &mut Vec<u8>,
     at: usize,
 ) -> Result<usize, OutOfMemory>
     requires place { at ≤ length out.old.items }
-    requires same { T.text said.now ≡ service_text (value_of _service.now) }
+    requires same { _service.now ≡ T.service said.now }
     ensures text { IfOk result (λ end. take end out.new.items ≡ take at out.old.items ++ service_text (value_of _service.now)) }
     ensures end { IfOk result (λ end. end ≤ length out.new.items) }
     ensures err { OnErr result (Extends (take at out.old.items) out.new.items) }
@@ -41,7 +58,7 @@ fn write_said<T: HasText>(
 
 /// Does what [`write_said`] does, for what has a short text.
 #[inline(always)]
-fn write_short_said<T: HasShortText>(
+fn write_short_said<T: ShortSaid>(
     _service: &Service,
     said: &T,
     out: &mut Vec<u8>,
@@ -49,7 +66,7 @@ fn write_short_said<T: HasShortText>(
 ) -> Result<usize, OutOfMemory>
     requires place { at ≤ length out.old.items }
     requires few { T.most + 10 ≤ 128 }
-    requires same { T.text said.now ≡ service_text (value_of _service.now) }
+    requires same { _service.now ≡ T.service said.now }
     ensures text { IfOk result (λ end. take end out.new.items ≡ take at out.old.items ++ service_text (value_of _service.now)) }
     ensures end { IfOk result (λ end. end ≤ length out.new.items) }
     ensures err { OnErr result (Extends (take at out.old.items) out.new.items) }

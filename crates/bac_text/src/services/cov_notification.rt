@@ -5,6 +5,7 @@ ghost use Rattle.bac_tag.specs.Octets.{Extends};
 ghost use Rattle.bac_service.specs.Services.{notification_kind};
 ghost use Rattle.bac_text.specs.ServiceText.{notification_name};
 
+use crate::services::Said;
 use crate::texts::{HasText, ROOM, put_field, write_word};
 use bac_record::layers::{make_room, put_word};
 use bac_service::CovNotification;
@@ -45,4 +46,13 @@ impl HasText for CovNotification {
         let end = put_word(room, end, b" values=");
         self.values.write_text(out, end)
     }
+}
+
+impl Said for CovNotification {
+    ghost use Rattle.std.specs.Prelude.{refl};
+    ghost use Rattle.bac_service.specs.declared.service.Service.TheVariants.{CovNotification};
+
+    ghost service = { CovNotification };
+
+    ghost same = { λ said. refl };
 }

@@ -1,5 +1,6 @@
 //! The text of I-Am.
 
+use crate::services::ShortSaid;
 use crate::texts::{HasShortText, put_field};
 use bac_service::IAm;
 
@@ -17,4 +18,13 @@ impl HasShortText for IAm {
         let end = put_field(room, end, b" segmentation=", &self.segmentation);
         put_field(room, end, b" vendor=", &self.vendor)
     }
+}
+
+impl ShortSaid for IAm {
+    ghost use Rattle.std.specs.Prelude.{refl};
+    ghost use Rattle.bac_service.specs.declared.service.Service.TheVariants.{IAm};
+
+    ghost service = { IAm };
+
+    ghost same = { λ said. refl };
 }

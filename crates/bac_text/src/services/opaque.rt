@@ -5,6 +5,7 @@ ghost use Rattle.bac_tag.specs.Octets.{Extends};
 ghost use Rattle.bac_text.specs.ServiceText.{choice_name};
 
 use crate::scalars::write_octets;
+use crate::services::Said;
 use crate::texts::{HasText, write_short, write_word};
 use bac_service::{Kind, Opaque};
 use bac_tag::OutOfMemory;
@@ -34,4 +35,13 @@ impl HasText for Opaque {
         let end = write_short(out, end, &self.choice())?;
         write_octets(out, end, b" octets=", self.octets())
     }
+}
+
+impl Said for Opaque {
+    ghost use Rattle.std.specs.Prelude.{refl};
+    ghost use Rattle.bac_service.specs.declared.service.Service.TheVariants.{Opaque};
+
+    ghost service = { Opaque };
+
+    ghost same = { λ said. refl };
 }

@@ -1,6 +1,7 @@
 //! The text of ReadProperty and of its answer.
 
 use crate::services::properties::put_property;
+use crate::services::{Said, ShortSaid};
 use crate::texts::{HasShortText, HasText, ROOM, put_field};
 use bac_record::layers::{make_room, put_word};
 use bac_service::{ReadProperty, ReadPropertyAck};
@@ -35,4 +36,22 @@ impl HasText for ReadPropertyAck {
         let end = put_word(room, end, b" value=");
         self.value.write_text(out, end)
     }
+}
+
+impl ShortSaid for ReadProperty {
+    ghost use Rattle.std.specs.Prelude.{refl};
+    ghost use Rattle.bac_service.specs.declared.service.Service.TheVariants.{ReadProperty};
+
+    ghost service = { ReadProperty };
+
+    ghost same = { λ said. refl };
+}
+
+impl Said for ReadPropertyAck {
+    ghost use Rattle.std.specs.Prelude.{refl};
+    ghost use Rattle.bac_service.specs.declared.service.Service.TheVariants.{ReadPropertyAck};
+
+    ghost service = { ReadPropertyAck };
+
+    ghost same = { λ said. refl };
 }

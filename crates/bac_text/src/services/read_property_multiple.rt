@@ -1,5 +1,6 @@
 //! The text of ReadPropertyMultiple and of its answer.
 
+use crate::services::Said;
 use crate::services::properties::write_object;
 use crate::texts::{HasText, write_field, write_optional, write_word};
 use bac_service::{
@@ -59,4 +60,22 @@ impl HasText for ReadPropertyMultipleAck {
     fn write_text(&self, out: &mut Vec<u8>, at: usize) -> Result<usize, OutOfMemory> {
         write_field(out, at, b"ReadPropertyMultiple results=", &self.results)
     }
+}
+
+impl Said for ReadPropertyMultiple {
+    ghost use Rattle.std.specs.Prelude.{refl};
+    ghost use Rattle.bac_service.specs.declared.service.Service.TheVariants.{ReadPropertyMultiple};
+
+    ghost service = { ReadPropertyMultiple };
+
+    ghost same = { λ said. refl };
+}
+
+impl Said for ReadPropertyMultipleAck {
+    ghost use Rattle.std.specs.Prelude.{refl};
+    ghost use Rattle.bac_service.specs.declared.service.Service.TheVariants.{ReadPropertyMultipleAck};
+
+    ghost service = { ReadPropertyMultipleAck };
+
+    ghost same = { λ said. refl };
 }

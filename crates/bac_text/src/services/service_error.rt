@@ -1,5 +1,6 @@
 //! The text of errors of typed services.
 
+use crate::services::ShortSaid;
 use crate::services::properties::put_cause;
 use crate::texts::{HasShortText, put_field};
 use bac_service::ServiceError;
@@ -16,4 +17,13 @@ impl HasShortText for ServiceError {
         let end = put_field(room, at, b"choice=", &self.choice());
         put_cause(room, end, b" class=", self.class(), self.code())
     }
+}
+
+impl ShortSaid for ServiceError {
+    ghost use Rattle.std.specs.Prelude.{refl};
+    ghost use Rattle.bac_service.specs.declared.service.Service.TheVariants.{ServiceError};
+
+    ghost service = { ServiceError };
+
+    ghost same = { λ said. refl };
 }

@@ -1,5 +1,6 @@
 //! The text of SubscribeCOV.
 
+use crate::services::ShortSaid;
 use crate::texts::{HasShortText, put_field, put_optional};
 use bac_service::SubscribeCov;
 
@@ -17,4 +18,13 @@ impl HasShortText for SubscribeCov {
         let end = put_optional(room, end, b" confirmed=", &self.confirmed);
         put_optional(room, end, b" lifetime=", &self.lifetime)
     }
+}
+
+impl ShortSaid for SubscribeCov {
+    ghost use Rattle.std.specs.Prelude.{refl};
+    ghost use Rattle.bac_service.specs.declared.service.Service.TheVariants.{SubscribeCov};
+
+    ghost service = { SubscribeCov };
+
+    ghost same = { λ said. refl };
 }

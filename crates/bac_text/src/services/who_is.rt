@@ -1,5 +1,6 @@
 //! The text of Who-Is.
 
+use crate::services::ShortSaid;
 use crate::texts::{HasShortText, put_field};
 use bac_record::layers::put_word;
 use bac_service::WhoIs;
@@ -22,4 +23,13 @@ impl HasShortText for WhoIs {
             None => end,
         }
     }
+}
+
+impl ShortSaid for WhoIs {
+    ghost use Rattle.std.specs.Prelude.{refl};
+    ghost use Rattle.bac_service.specs.declared.service.Service.TheVariants.{WhoIs};
+
+    ghost service = { WhoIs };
+
+    ghost same = { λ said. refl };
 }

@@ -1,5 +1,6 @@
 //! The text of WriteProperty.
 
+use crate::services::Said;
 use crate::services::properties::put_property;
 use crate::texts::{HasText, ROOM, put_field, put_optional};
 use bac_record::layers::{make_room, put_word};
@@ -22,4 +23,13 @@ impl HasText for WriteProperty {
         make_room(out, end, ROOM)?;
         Ok(put_optional(out.as_mut_slice(), end, b" priority=", &self.priority))
     }
+}
+
+impl Said for WriteProperty {
+    ghost use Rattle.std.specs.Prelude.{refl};
+    ghost use Rattle.bac_service.specs.declared.service.Service.TheVariants.{WriteProperty};
+
+    ghost service = { WriteProperty };
+
+    ghost same = { λ said. refl };
 }

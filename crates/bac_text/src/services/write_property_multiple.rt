@@ -1,6 +1,7 @@
 //! The text of WritePropertyMultiple and of its error.
 
 use crate::services::properties::{put_cause, put_property, write_object};
+use crate::services::{Said, ShortSaid};
 use crate::texts::{HasShortText, HasText, put_field, write_field, write_word};
 use bac_service::{WriteAccessSpecification, WritePropertyMultiple, WritePropertyMultipleError};
 use bac_tag::OutOfMemory;
@@ -45,4 +46,22 @@ impl HasShortText for WritePropertyMultipleError {
         let end = put_field(room, end, b" object=", &self.object);
         put_property(room, end, b" property=", self.property, &self.index)
     }
+}
+
+impl Said for WritePropertyMultiple {
+    ghost use Rattle.std.specs.Prelude.{refl};
+    ghost use Rattle.bac_service.specs.declared.service.Service.TheVariants.{WritePropertyMultiple};
+
+    ghost service = { WritePropertyMultiple };
+
+    ghost same = { λ said. refl };
+}
+
+impl ShortSaid for WritePropertyMultipleError {
+    ghost use Rattle.std.specs.Prelude.{refl};
+    ghost use Rattle.bac_service.specs.declared.service.Service.TheVariants.{WritePropertyMultipleError};
+
+    ghost service = { WritePropertyMultipleError };
+
+    ghost same = { λ said. refl };
 }
