@@ -6,6 +6,7 @@ use crate::production::Production;
 use crate::production::field::Field;
 use crate::production::group::{Group, write_group};
 use crate::production::record::Record;
+use crate::service::Said;
 use crate::service::property_value::PropertyValue;
 use bac_tag::OutOfMemory;
 use bac_value::ObjectId;
@@ -79,4 +80,17 @@ impl Record for CovNotification {
     }
 
     ghost of_parts = { notification_parts 32 };
+}
+
+impl Said for CovNotification {
+    ghost use Rattle.std.specs.Prelude.{refl};
+    ghost use Rattle.std.proofs.Common.{lit<, sym};
+    ghost use Rattle.bac_service.specs.Laws.Service.{notification_fits, notification_production};
+    ghost use Rattle.bac_service.specs.declared.service.Service.TheVariants as held;
+
+    ghost service = { held.CovNotification };
+
+    ghost said = { λ said b. (λ s. s, λ s. s) };
+
+    ghost placed = { λ said. record { choice_fits = notification_fits said.confirmed; production_is = sym (notification_production said.confirmed) } };
 }

@@ -6,7 +6,7 @@ use crate::named::Named;
 use crate::production::Production;
 use crate::production::field::ApplicationField;
 use crate::production::record::{Fields, Record};
-use crate::service::Service;
+use crate::service::{Said, Service};
 use bac_tag::OutOfMemory;
 use bac_value::layers::{Unsigned16, Unsigned32};
 use bac_value::{Enumerated, ObjectId};
@@ -95,4 +95,16 @@ impl Named for IAm {
     ghost named = { serves Unconfirmed 0 i_am (lit< tt) refl };
 
     ghost memory = { never };
+}
+
+impl Said for IAm {
+    ghost use Rattle.std.specs.Prelude.{refl};
+    ghost use Rattle.std.proofs.Common.{lit<};
+    ghost use Rattle.bac_service.specs.declared.service.Service.TheVariants as held;
+
+    ghost service = { held.IAm };
+
+    ghost said = { λ said b. (λ s. s, λ s. s) };
+
+    ghost placed = { λ said. record { choice_fits = lit< tt; production_is = refl } };
 }

@@ -5,8 +5,8 @@ ghost use Rattle.bac_service.specs.ReadProperty.{SpellsReadProperty, read_proper
 use crate::named::Named;
 use crate::production::option::bare_number;
 use crate::production::record::{Fields, Record};
-use crate::service::Service;
 use crate::service::object_property::{ObjectProperty, write_object_property};
+use crate::service::{Said, Service};
 use bac_tag::OutOfMemory;
 use bac_value::ObjectId;
 
@@ -70,4 +70,16 @@ impl Named for ReadProperty {
     ghost named = { serves Confirmed 12 read_property (lit< tt) refl };
 
     ghost memory = { never };
+}
+
+impl Said for ReadProperty {
+    ghost use Rattle.std.specs.Prelude.{refl};
+    ghost use Rattle.std.proofs.Common.{lit<};
+    ghost use Rattle.bac_service.specs.declared.service.Service.TheVariants as held;
+
+    ghost service = { held.ReadProperty };
+
+    ghost said = { λ said b. (λ s. s, λ s. s) };
+
+    ghost placed = { λ said. record { choice_fits = lit< tt; production_is = refl } };
 }

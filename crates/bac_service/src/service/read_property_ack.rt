@@ -6,8 +6,8 @@ use crate::named::Named;
 use crate::production::open_value::{OpenValue, write_open};
 use crate::production::option::bare_number;
 use crate::production::record::{Fields, Record};
-use crate::service::Service;
 use crate::service::object_property::{ObjectProperty, write_object_property};
+use crate::service::{Said, Service};
 use bac_data::Any;
 use bac_tag::OutOfMemory;
 use bac_value::ObjectId;
@@ -80,4 +80,16 @@ impl Named for ReadPropertyAck {
     ghost named = { serves ComplexAck 12 read_property_ack (lit< tt) refl };
 
     ghost memory = { λ wants. refl };
+}
+
+impl Said for ReadPropertyAck {
+    ghost use Rattle.std.specs.Prelude.{refl};
+    ghost use Rattle.std.proofs.Common.{lit<};
+    ghost use Rattle.bac_service.specs.declared.service.Service.TheVariants as held;
+
+    ghost service = { held.ReadPropertyAck };
+
+    ghost said = { λ said b. (λ s. s, λ s. s) };
+
+    ghost placed = { λ said. record { choice_fits = lit< tt; production_is = refl } };
 }

@@ -8,7 +8,7 @@ use crate::production::Production;
 use crate::production::field::Field;
 use crate::production::option::{bare, bare_number, bit_of, boolean_of, number_under, under};
 use crate::production::record::{Fields, Record};
-use crate::service::Service;
+use crate::service::{Said, Service};
 use bac_tag::OutOfMemory;
 use bac_value::layers::Unsigned32;
 use bac_value::{Boolean, ObjectId};
@@ -93,4 +93,16 @@ impl Named for SubscribeCov {
     ghost named = { serves Confirmed 5 subscribe_cov (lit< tt) refl };
 
     ghost memory = { never };
+}
+
+impl Said for SubscribeCov {
+    ghost use Rattle.std.specs.Prelude.{refl};
+    ghost use Rattle.std.proofs.Common.{lit<};
+    ghost use Rattle.bac_service.specs.declared.service.Service.TheVariants as held;
+
+    ghost service = { held.SubscribeCov };
+
+    ghost said = { λ said b. (λ s. s, λ s. s) };
+
+    ghost placed = { λ said. record { choice_fits = lit< tt; production_is = refl } };
 }

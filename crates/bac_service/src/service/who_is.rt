@@ -6,7 +6,7 @@ use crate::named::Named;
 use crate::production::Production;
 use crate::production::field::Field;
 use crate::production::record::{Fields, Record};
-use crate::service::Service;
+use crate::service::{Said, Service};
 use bac_tag::OutOfMemory;
 use bac_value::Instance;
 
@@ -73,4 +73,16 @@ impl Named for WhoIs {
     ghost named = { serves Unconfirmed 8 who_is (lit< tt) refl };
 
     ghost memory = { never };
+}
+
+impl Said for WhoIs {
+    ghost use Rattle.std.specs.Prelude.{refl};
+    ghost use Rattle.std.proofs.Common.{lit<};
+    ghost use Rattle.bac_service.specs.declared.service.Service.TheVariants as held;
+
+    ghost service = { held.WhoIs };
+
+    ghost said = { λ said b. (λ s. s, λ s. s) };
+
+    ghost placed = { λ said. record { choice_fits = lit< tt; production_is = refl } };
 }

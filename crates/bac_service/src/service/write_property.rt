@@ -8,8 +8,8 @@ use crate::production::field::Field;
 use crate::production::open_value::{OpenValue, write_open};
 use crate::production::option::{bare, bare_number, under};
 use crate::production::record::{Fields, Record};
-use crate::service::Service;
 use crate::service::object_property::{ObjectProperty, write_object_property};
+use crate::service::{Said, Service};
 use bac_data::Any;
 use bac_tag::OutOfMemory;
 use bac_value::{ObjectId, Priority};
@@ -86,4 +86,16 @@ impl Named for WriteProperty {
     ghost named = { serves Confirmed 15 write_property (lit< tt) refl };
 
     ghost memory = { λ wants. refl };
+}
+
+impl Said for WriteProperty {
+    ghost use Rattle.std.specs.Prelude.{refl};
+    ghost use Rattle.std.proofs.Common.{lit<};
+    ghost use Rattle.bac_service.specs.declared.service.Service.TheVariants as held;
+
+    ghost service = { held.WriteProperty };
+
+    ghost said = { λ said b. (λ s. s, λ s. s) };
+
+    ghost placed = { λ said. record { choice_fits = lit< tt; production_is = refl } };
 }

@@ -8,9 +8,9 @@ use crate::production::field::Field;
 use crate::production::group::Group;
 use crate::production::option::{bare_number, number_under};
 use crate::production::record::{Fields, Record};
-use crate::service::Service;
 use crate::service::error_cause::ErrorCause;
 use crate::service::object_property::ObjectProperty;
+use crate::service::{Said, Service};
 use bac_tag::OutOfMemory;
 use bac_value::{Enumerated, ObjectId};
 
@@ -93,4 +93,16 @@ impl Named for WritePropertyMultipleError {
     ghost named = { serves Error 16 write_property_multiple_error (lit< tt) refl };
 
     ghost memory = { never };
+}
+
+impl Said for WritePropertyMultipleError {
+    ghost use Rattle.std.specs.Prelude.{refl};
+    ghost use Rattle.std.proofs.Common.{lit<};
+    ghost use Rattle.bac_service.specs.declared.service.Service.TheVariants as held;
+
+    ghost service = { held.WritePropertyMultipleError };
+
+    ghost said = { λ said b. (λ s. s, λ s. s) };
+
+    ghost placed = { λ said. record { choice_fits = lit< tt; production_is = refl } };
 }
