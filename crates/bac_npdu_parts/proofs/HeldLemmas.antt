@@ -25,10 +25,10 @@ octets_parts : (octets : List ℕ) → IsOctets octets → AreParts (map octet o
 octets_parts [] h = tt
 octets_parts (o ∷ octets) h = (h.0, octets_parts octets h.1)
 
-number_parts : (n : ℕ) (ps : List Part) → n < 65536 → AreParts ps → AreParts (two_octets n ps)
+number_parts : (n : ℕ) (ps : List Part) → n < 65536 → AreParts ps → AreParts (two_octets n ++ ps)
 number_parts n ps h k = (omega (arith, h), (omega arith, k))
 
-counted_parts : (octets : List ℕ) (ps : List Part) → length octets < 256 → IsOctets octets → AreParts ps → AreParts (counted octets ps)
+counted_parts : (octets : List ℕ) (ps : List Part) → length octets < 256 → IsOctets octets → AreParts ps → AreParts (counted octets ++ ps)
 counted_parts octets ps few h k = (few, parts_then (map octet octets) ps (octets_parts octets h) k)
 
 -- ---- networks, ports, opaque messages
@@ -39,7 +39,7 @@ networks_held (n ∷ ns) small = number_parts n (networks_of ns) (small 0 (omega
 
 pub port_held : (port : Port) (octets : List ℕ) → octets ≡ port.info → port.network < 65536 → port.id < 256 → length octets < 256 → IsOctets octets → AreParts (ports_of (port ∷ []))
 port_held port octets e n i few h =
-    number_parts port.network (octet port.id ∷ counted port.info []) n
+    number_parts port.network (octet port.id ∷ counted port.info ++ []) n
     (i, counted_parts port.info [] (subst (λ (l : List ℕ). length l < 256) e few) (subst IsOctets e h) tt)
 
 -- the ports so far, and the next

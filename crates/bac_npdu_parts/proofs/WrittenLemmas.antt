@@ -21,11 +21,11 @@ least_octets_then octets ps = least_append (map octet octets) ps ∙ ap (λ (l :
 
 pub networks_append : (ms ns : List ℕ) → networks_of (ms ++ ns) ≡ networks_of ms ++ networks_of ns
 networks_append [] ns = refl
-networks_append (m ∷ ms) ns = ap (two_octets m) (networks_append ms ns)
+networks_append (m ∷ ms) ns = ap (λ (l : List Part). two_octets m ++ l) (networks_append ms ns)
 
 pub ports_append : (ms ns : List Port) → ports_of (ms ++ ns) ≡ ports_of ms ++ ports_of ns
 ports_append [] ns = refl
-ports_append (m ∷ ms) ns = ap (λ (l : List Part). two_octets m.network (octet m.id ∷ octet (length m.info) ∷ l)) (ap (λ (l : List Part). map octet m.info ++ l) (ports_append ms ns) ∙ sym (append_assoc (map octet m.info) (ports_of ms) (ports_of ns)))
+ports_append (m ∷ ms) ns = ap (λ (l : List Part). two_octets m.network ++ octet m.id ∷ octet (length m.info) ∷ l) (ap (λ (l : List Part). map octet m.info ++ l) (ports_append ms ns) ∙ sym (append_assoc (map octet m.info) (ports_of ms) (ports_of ns)))
 
 -- one thing written behind another
 pub one_behind : (old a b : List ℕ) {new newer : List ℕ} → new ≡ old ++ a → newer ≡ new ++ b → newer ≡ old ++ (a ++ b)

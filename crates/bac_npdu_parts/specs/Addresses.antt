@@ -1,5 +1,5 @@
 -- Networks and addresses on them (clause 6.2.2).
-use Rattle.std.specs.Prelude.{ℕ, ◌/◌, ◌%◌, ◌≤◌, Option, Some, None, List, [], ◌∷◌, ◌++◌, length, map, refl}
+use Rattle.std.specs.Prelude.{ℕ, ◌/◌, ◌%◌, ◌≤◌, Option, Some, None, List, [], ◌∷◌, length, map, refl}
 use Rattle.std.specs.Coded.{Coded, code_by, coded×, coded_ℕ, coded_list}
 use Rattle.bac_tag.specs.HeadOctets.{Part, octet}
 
@@ -19,12 +19,12 @@ pub record DestinationValue : Type 0 where
   pub hops : ℕ
 
 -- a number of two octets, the higher first
-abbrev pub two_octets : ℕ → List Part → List Part
-two_octets n ps = octet (n / 256) ∷ octet (n % 256) ∷ ps
+abbrev pub two_octets : ℕ → List Part
+two_octets n = octet (n / 256) ∷ octet (n % 256) ∷ []
 
 -- how many octets in one octet, and they themselves
-abbrev pub counted : List ℕ → List Part → List Part
-counted octets ps = octet (length octets) ∷ map octet octets ++ ps
+abbrev pub counted : List ℕ → List Part
+counted octets = octet (length octets) ∷ map octet octets
 
 -- network, length and address
 abbrev pub address_octets : ℕ → List ℕ → List ℕ

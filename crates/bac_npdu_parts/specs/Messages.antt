@@ -51,17 +51,17 @@ message_value (held.Opaque message) = opaque message
 -- two octets each
 abbrev pub networks_of : List ℕ → List Part
 networks_of [] = []
-networks_of (network ∷ networks) = two_octets network (networks_of networks)
+networks_of (network ∷ networks) = two_octets network ++ networks_of networks
 
 -- nothing, or two octets
 abbrev pub network_or_none : Option ℕ → List Part
 network_or_none None = []
-network_or_none (Some network) = two_octets network []
+network_or_none (Some network) = two_octets network
 
 -- of each port the network, its number, and how many octets of information and they themselves
 abbrev pub ports_of : List Port → List Part
 ports_of [] = []
-ports_of (port ∷ ports) = two_octets port.network (octet port.id ∷ counted port.info (ports_of ports))
+ports_of (port ∷ ports) = two_octets port.network ++ octet port.id ∷ counted port.info ++ ports_of ports
 
 -- how many ports, and each in turn
 abbrev pub table_of : List Port → List Part
@@ -75,16 +75,16 @@ table_or_none (Some ports) = table_of ports
 abbrev pub octets_of : MessageValue → List Part
 octets_of (who_is_router network) = octet 0 ∷ network_or_none network
 octets_of (i_am_router networks) = octet 1 ∷ networks_of networks
-octets_of (i_could_be_router network performance) = octet 2 ∷ two_octets network (octet performance ∷ [])
-octets_of (reject_message reason network) = octet 3 ∷ octet reason ∷ two_octets network []
+octets_of (i_could_be_router network performance) = octet 2 ∷ two_octets network ++ octet performance ∷ []
+octets_of (reject_message reason network) = octet 3 ∷ octet reason ∷ two_octets network
 octets_of (router_busy networks) = octet 4 ∷ networks_of networks
 octets_of (router_available networks) = octet 5 ∷ networks_of networks
 octets_of (init_table ports) = octet 6 ∷ table_of ports
 octets_of (init_table_ack ports) = octet 7 ∷ table_or_none ports
-octets_of (establish network time) = octet 8 ∷ two_octets network (octet time ∷ [])
-octets_of (disconnect network) = octet 9 ∷ two_octets network []
+octets_of (establish network time) = octet 8 ∷ two_octets network ++ octet time ∷ []
+octets_of (disconnect network) = octet 9 ∷ two_octets network
 octets_of what_is_network_number = octet 18 ∷ []
-octets_of (network_number_is network flag) = octet 19 ∷ two_octets network (octet flag ∷ [])
+octets_of (network_number_is network flag) = octet 19 ∷ two_octets network ++ octet flag ∷ []
 octets_of (opaque message) = octet message.kind ∷ network_or_none message.vendor ++ map octet message.octets
 
 -- an opaque message has a type without a layout, and a vendor where its type wants one

@@ -112,9 +112,9 @@ two_alike n b = (
 )
 
 module _ (ps : List Part) (B : List ℕ → Type 0) where
-  pub two_headed : (n : ℕ) → Alike (Joins (AreTwoOctets n) (Headed ps B)) (Headed (two_octets n ps) B)
+  pub two_headed : (n : ℕ) → Alike (Joins (AreTwoOctets n) (Headed ps B)) (Headed (two_octets n ++ ps) B)
   two_headed n =
       then_alike (first_alike (two_alike n)) (then_alike (turned grouped_first) (then_alike (second_alike (octet_headed ps B (n % 256))) (octet_headed (octet (n % 256) ∷ ps) B (n / 256))))
 
-  pub counted_headed : (octets : List ℕ) → Alike (Joins (AreCounted octets) (Headed ps B)) (Headed (counted octets ps) B)
+  pub counted_headed : (octets : List ℕ) → Alike (Joins (AreCounted octets) (Headed ps B)) (Headed (counted octets ++ ps) B)
   counted_headed octets = then_alike (turned grouped_first) (then_alike (second_alike (octets_headed ps B octets)) (octet_headed (map octet octets ++ ps) B (length octets)))

@@ -228,10 +228,10 @@ pub i_am_alike : (networks : List ℕ) → Alike (SpellsNetworks 1 networks) (Sp
 i_am_alike networks = laid_out 1 (lit< tt) (networks_of networks)
 
 pub could_be_alike : (said : ℕ × ℕ) → Alike (SpellsNetworkNumber 2 said) (SpellsMessage (message_in could_be said))
-could_be_alike said = laid_out 2 (lit< tt) (two_octets said.0 (octet said.1 ∷ []))
+could_be_alike said = laid_out 2 (lit< tt) (two_octets said.0 ++ octet said.1 ∷ [])
 
 pub reject_alike : (said : ℕ × ℕ) → Alike (SpellsReject said) (SpellsMessage (message_in reject said))
-reject_alike said = laid_out 3 (lit< tt) (octet said.0 ∷ two_octets said.1 [])
+reject_alike said = laid_out 3 (lit< tt) (octet said.0 ∷ two_octets said.1)
 
 pub busy_alike : (networks : List ℕ) → Alike (SpellsNetworks 4 networks) (SpellsMessage (message_in busy networks))
 busy_alike networks = laid_out 4 (lit< tt) (networks_of networks)
@@ -246,16 +246,16 @@ pub table_ack_alike : (ports : Option (List Port)) → Alike (SpellsInitTableAck
 table_ack_alike ports = laid_out 7 (lit< tt) (table_or_none ports)
 
 pub establishing_alike : (said : ℕ × ℕ) → Alike (SpellsNetworkNumber 8 said) (SpellsMessage (message_in establishing said))
-establishing_alike said = laid_out 8 (lit< tt) (two_octets said.0 (octet said.1 ∷ []))
+establishing_alike said = laid_out 8 (lit< tt) (two_octets said.0 ++ octet said.1 ∷ [])
 
 pub disconnecting_alike : (network : ℕ) → Alike (SpellsDisconnect network) (SpellsMessage (message_in disconnecting network))
-disconnecting_alike network = laid_out 9 (lit< tt) (two_octets network [])
+disconnecting_alike network = laid_out 9 (lit< tt) (two_octets network)
 
 pub number_wanted_alike : (said : Unit {0}) → Alike (SpellsNumberWanted said) (SpellsMessage (message_in number_wanted said))
 number_wanted_alike said = laid_out 18 (lit< tt) ([])
 
 pub number_told_alike : (said : ℕ × ℕ) → Alike (SpellsNetworkNumber 19 said) (SpellsMessage (message_in number_told said))
-number_told_alike said = laid_out 19 (lit< tt) (two_octets said.0 (octet said.1 ∷ []))
+number_told_alike said = laid_out 19 (lit< tt) (two_octets said.0 ++ octet said.1 ∷ [])
 
 -- ---- messages without a layout
 
@@ -297,7 +297,7 @@ plain_alike said =
 
 pub vendored_alike : (said : ℕ × (ℕ × List ℕ)) → Alike (SpellsVendored said) (SpellsMessage (message_in vendored said))
 vendored_alike said =
-    then_alike (then_alike (second_alike (then_alike (second_alike (octets_exactly said.1.1)) (two_headed (map octet said.1.1) (λ rest. rest ≡ []) said.1.0))) (type_headed true said.0 (two_octets said.1.0 (map octet said.1.1))))
+    then_alike (then_alike (second_alike (then_alike (second_alike (octets_exactly said.1.1)) (two_headed (map octet said.1.1) (λ rest. rest ≡ []) said.1.0))) (type_headed true said.0 (two_octets said.1.0 ++ map octet said.1.1)))
     (λ b. (λ h. ((h.0.0, large said.0 h.0.1), h.1), λ h. ((h.0.0, le-leb 128 said.0 h.0.1), h.1)))
 
 -- ---- other types, and other names

@@ -35,7 +35,7 @@ Exactly ps = Headed ps (λ rest. rest ≡ [])
 abbrev pub SpellsLaidOut : ℕ → List Part → List ℕ → Type 0
 SpellsLaidOut kind ps = SpellsChosen kind (Exactly ps)
 
-two_exactly : (n : ℕ) → Alike (AreTwoOctets n) (Exactly (two_octets n []))
+two_exactly : (n : ℕ) → Alike (AreTwoOctets n) (Exactly (two_octets n))
 two_exactly n = then_alike (turned last_part) (two_headed [] (λ rest. rest ≡ []) n)
 
 one_exactly : (n : ℕ) → Alike (IsOneOctet n) (Exactly (octet n ∷ []))
@@ -107,7 +107,7 @@ abbrev pub network_number_said : ℕ → Name → ℕ × ℕ → List Symbol
 network_number_said kind name said = number_said 40 (the_number kind) tt ++ (number_said 41 (λ n. n) said.0 ++ (number_said (number_of name) (λ n. n) said.1 ++ end_said tt))
 
 abbrev pub SpellsNetworkNumber : ℕ → ℕ × ℕ → List ℕ → Type 0
-SpellsNetworkNumber kind said = SpellsLaidOut kind (two_octets said.0 (octet said.1 ∷ []))
+SpellsNetworkNumber kind said = SpellsLaidOut kind (two_octets said.0 ++ octet said.1 ∷ [])
 
 abbrev pub TwoNumbersParts : Type 0
 TwoNumbersParts = Unit {0} × (ℕ × (ℕ × Unit {0}))
@@ -115,7 +115,7 @@ TwoNumbersParts = Unit {0} × (ℕ × (ℕ × Unit {0}))
 abbrev pub network_number_parts_said : ℕ → Name → TwoNumbersParts → List Symbol
 network_number_parts_said kind name w = number_said 40 (the_number kind) w.0 ++ (number_said 41 (λ n. n) w.1.0 ++ (number_said (number_of name) (λ n. n) w.1.1.0 ++ end_said w.1.1.1))
 
-network_number_alike : (network n : ℕ) → Alike (Joins (AreTwoOctets network) (IsOneOctet n)) (Exactly (two_octets network (octet n ∷ [])))
+network_number_alike : (network n : ℕ) → Alike (Joins (AreTwoOctets network) (IsOneOctet n)) (Exactly (two_octets network ++ octet n ∷ []))
 network_number_alike network n = then_alike (second_alike (one_exactly n)) (two_headed (octet n ∷ []) (λ rest. rest ≡ []) network)
 
 pub network_number_message : (kind : ℕ) (name : Name) → IsMessage (network_number_said kind name) (network_number_parts_said kind name) (SpellsNetworkNumber kind) (Joined (the_octet kind) (Joined AreTwoOctets (Joined IsOneOctet no_octets)))
@@ -129,13 +129,13 @@ network_number_message kind name = record {
 -- ---- Reject-Message-To-Network
 
 abbrev pub SpellsReject : ℕ × ℕ → List ℕ → Type 0
-SpellsReject said = SpellsLaidOut 3 (octet said.0 ∷ two_octets said.1 [])
+SpellsReject said = SpellsLaidOut 3 (octet said.0 ∷ two_octets said.1)
 
 abbrev pub reject_parts_said : TwoNumbersParts → List Symbol
 reject_parts_said w = number_said 40 (the_number 3) w.0 ++ (number_said 29 (λ n. n) w.1.0 ++ (number_said 41 (λ n. n) w.1.1.0 ++ end_said w.1.1.1))
 
-reject_alike : (reason network : ℕ) → Alike (Joins (IsOneOctet reason) (AreTwoOctets network)) (Exactly (octet reason ∷ two_octets network []))
-reject_alike reason network = then_alike (second_alike (two_exactly network)) (octet_headed (two_octets network []) (λ rest. rest ≡ []) reason)
+reject_alike : (reason network : ℕ) → Alike (Joins (IsOneOctet reason) (AreTwoOctets network)) (Exactly (octet reason ∷ two_octets network))
+reject_alike reason network = then_alike (second_alike (two_exactly network)) (octet_headed (two_octets network) (λ rest. rest ≡ []) reason)
 
 pub reject_message : IsMessage (layout_said reject) reject_parts_said SpellsReject (Joined (the_octet 3) (Joined IsOneOctet (Joined AreTwoOctets no_octets)))
 reject_message = record {
@@ -148,7 +148,7 @@ reject_message = record {
 -- ---- Disconnect-Connection-To-Network
 
 abbrev pub SpellsDisconnect : ℕ → List ℕ → Type 0
-SpellsDisconnect network = SpellsLaidOut 9 (two_octets network [])
+SpellsDisconnect network = SpellsLaidOut 9 (two_octets network)
 
 abbrev pub disconnect_parts_said : Unit {0} × (ℕ × Unit {0}) → List Symbol
 disconnect_parts_said w = number_said 40 (the_number 9) w.0 ++ (number_said 41 (λ n. n) w.1.0 ++ end_said w.1.1)
@@ -218,11 +218,11 @@ ports_in w = w.1.0
 abbrev table_with : List Port → TableParts
 table_with ports = (tt, (ports, tt))
 
-port_alike : (port : Port) (ps : List Part) → Alike (Joins (SpellsPort port) (Exactly ps)) (Exactly (two_octets port.network (octet port.id ∷ counted port.info ps)))
+port_alike : (port : Port) (ps : List Part) → Alike (Joins (SpellsPort port) (Exactly ps)) (Exactly (two_octets port.network ++ octet port.id ∷ counted port.info ++ ps))
 port_alike port ps =
     then_alike (turned (then_alike (second_alike grouped_first) grouped_first))
-    (then_alike (second_alike (then_alike (second_alike (counted_headed ps (λ rest. rest ≡ []) port.info)) (octet_headed (counted port.info ps) (λ rest. rest ≡ []) port.id)))
-    (two_headed (octet port.id ∷ counted port.info ps) (λ rest. rest ≡ []) port.network))
+    (then_alike (second_alike (then_alike (second_alike (counted_headed ps (λ rest. rest ≡ []) port.info)) (octet_headed (counted port.info ++ ps) (λ rest. rest ≡ []) port.id)))
+    (two_headed (octet port.id ∷ counted port.info ++ ps) (λ rest. rest ≡ []) port.network))
 
 ports_alike : (ports : List Port) → Alike (Items SpellsPort ports) (Exactly (ports_of ports))
 ports_alike [] b = (λ p. p, λ p. p)
