@@ -52,7 +52,7 @@ items S each vs are = subst (λ l. Spelled (Items S l)) (map-id vs) (items_of (�
 
 -- ---- fields
 
-field : {V : Type 0} (contents : V → List ℕ → Type 0) (c : Option ℕ) (app : ℕ) (v : V) (w : List ℕ) → IsHeading c app → length w < 2 ^ 32 → contents v w → Spelled (IsField (heading c app) contents v)
+pub field : {V : Type 0} (contents : V → List ℕ → Type 0) (c : Option ℕ) (app : ℕ) (v : V) (w : List ℕ) → IsHeading c app → length w < 2 ^ 32 → contents v w → Spelled (IsField (heading c app) contents v)
 field contents c app v w fits short spelled =
     let h = heading_least c app (length w) fits short in
     (h.0 ++ w, record { head = h.0; body = w; headed = h.1.member; spelled = spelled; octets = refl })
