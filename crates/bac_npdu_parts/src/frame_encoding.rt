@@ -13,7 +13,7 @@ use crate::frame::{Body, Frame};
 use crate::frame_head::FrameHead;
 use crate::frame_heads::append_address;
 use crate::laws::held_frames_have_canonical_octets;
-use crate::message_encoding::append_message;
+use crate::message::append_message;
 use bac_apdu::append_apdu;
 use bac_tag::OutOfMemory;
 use bitflags::Flags;

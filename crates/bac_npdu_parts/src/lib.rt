@@ -8,7 +8,7 @@
 //!
 //! `read_head` (`frame_heads.rt`) cuts destination, source and hop count out of the octets, as the control octet says. It
 //! takes no memory: the addresses are slices. No octet of a head but the control octet can differ from the canonical
-//! one, so the mark of a head is that of the control octet (`mark_of`). `decode_message` (`message_decoding.rt`) reads
+//! one, so the mark of a head is that of the control octet (`mark_of`). `decode_message` (`message.rt`) reads
 //! the network message that all the octets spell. No other octets spell it, so it has no mark. A [`FrameHead`] is a head
 //! that was read, or the one that a frame lends.
 //!
@@ -31,7 +31,7 @@
 //! - the control octet: `control.rt`; `Control.antt`
 //! - heads, of a frame or in octets: `frame_head.rt`; `FrameHeads.antt`
 //! - the octets before the body: `frame_heads.rt`; `Heads.antt`, `HeadsRead.antt`
-//! - network messages: `message.rt`, `message_decoding.rt`, `message_encoding.rt`, and by their layouts `messages`;
+//! - network messages: `message.rt`, which has each match over all of them, and by their layouts `messages`;
 //!   `Messages.antt`, `MessageTypes.antt`, `Ports.antt`, `Refused.antt`
 //! - encoding: `frame_encoding.rt`
 //! - laws: `laws.rt`; `Cases.antt`, `FormerFrames.antt`, `Laws`
@@ -47,8 +47,6 @@ mod frame_heads;
 pub mod laws;
 pub mod layers;
 mod message;
-mod message_decoding;
-mod message_encoding;
 mod messages;
 mod net_priority;
 mod octets;

@@ -1,7 +1,6 @@
 //! The fields of messages whose type has no layout (clause 6.2.3).
 
 ghost use Rattle.std.specs.Prelude.{◌≡◌, nat_le, ℕ, List, true, false};
-ghost use Rattle.bac_npdu_parts.specs.MessageTypes.{is_typed};
 ghost use Rattle.bac_field_parts.specs.declared.names.Name.TheVariants as name;
 ghost use Rattle.bac_fields.specs.MessageSymbols.{IsOpaqueType};
 ghost use Rattle.bac_fields.specs.Laws.NetworkMessages.{opaque_type_inhabited};
@@ -15,6 +14,7 @@ use bac_field_parts::making::End;
 use bac_field_parts::whole::Message;
 use bac_field_parts::{Field, Name};
 use bac_npdu::OpaqueNet;
+use bac_npdu_parts::layers::has_layout;
 use bac_tag::OutOfMemory;
 
 impl HasFields for OpaqueNet {
@@ -27,14 +27,6 @@ impl HasFields for OpaqueNet {
         let vendor = OptionalTwo(Name::Vendor, self.vendor());
         (kind, (vendor, Octets(Name::Data, self.octets()))).tell(cursor, room)
     }
-}
-
-/// Returns true if messages of this type have a layout.
-#[inline(always)]
-fn has_layout(kind: u8) -> bool
-    ensures { result ≡ is_typed kind }
-{
-    kind < 10 || kind == 18 || kind == 19
 }
 
 /// Returns true if messages of this type, which has no layout, have a vendor.

@@ -5,6 +5,7 @@ ghost use Rattle.std.specs.Cmp.{partial_equiv_from_equiv};
 ghost use Rattle.bac_npdu_parts.specs.MessageTypes.{is_typed, IsVendored, same_opaque_net};
 ghost use Rattle.bac_npdu_parts.specs.Laws.Same.{opaque_net_equiv};
 
+use crate::message::has_layout;
 use std::alloc::Global;
 use std::error::Error;
 use std::fmt;
@@ -33,14 +34,6 @@ impl Display for NetFault {
 }
 
 impl Error for NetFault {}
-
-/// Returns true if messages of this type have a layout.
-#[inline(always)]
-pub(crate) fn has_layout(kind: u8) -> bool
-    ensures { result ≡ is_typed kind }
-{
-    kind < 10 || kind == 18 || kind == 19
-}
 
 /// A network message of a type without a layout (clause 6.2.4).
 ///

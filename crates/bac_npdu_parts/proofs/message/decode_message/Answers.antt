@@ -4,7 +4,7 @@ use Rattle.std.proofs.lemmas.Result.{err_from_is_err_and}
 use Rattle.bac_npdu_parts.specs.Messages.{i_am_router, router_busy, router_available}
 use Rattle.bac_npdu_parts.proofs.MessageLemmas.{nothing_refused}
 use Rattle.bac_npdu_parts.proofs.NetworksLemmas.{networks_spelled, networks_refused}
-use Rattle.bac_npdu_parts.proofs.message_decoding.decode_message.Goals as goal
+use Rattle.bac_npdu_parts.proofs.message.decode_message.Goals as goal
 
 pub returns-in_default : goal.returns-in_default
 returns-in_default c = rw c.at.ensures (nothing_refused c.args.octets.now c.in_default.len_below)
