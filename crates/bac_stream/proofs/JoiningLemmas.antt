@@ -12,11 +12,10 @@ use Rattle.bac_tag.specs.Spelling.{IsWholeRefusal}
 use Rattle.bac_segment.specs.declared.keys.Key.{Key}
 use Rattle.bac_segment.specs.declared.cutting.CutPlan.{CutPlan}
 use Rattle.bac_segment.specs.declared.faults.Taken.TheVariants as taken
-use Rattle.bac_segment.specs.declared.faults.TakeFault.{TakeFault}
 use Rattle.bac_segment.specs.declared.faults.TakeFault.TheVariants as fault
 use Rattle.bac_segment.specs.Deliveries.{Delivery, key_of}
 use Rattle.bac_segment.specs.Tables.{Table, empty_table, whole, with_segment}
-use Rattle.bac_segment.specs.Taking.{Answer, answer, counts, kept_answer, may_add, with_next}
+use Rattle.bac_segment.specs.Taking.{Answer, answer, counts, with_next}
 use Rattle.bac_segment.specs.Pieces.{segments_from, IsCutOf, cut_fault}
 use Rattle.bac_segment.specs.Cuts.{IsOneOf, AreAmong, IsGood}
 use Rattle.bac_segment.specs.Reassembled.{Reassembled}

@@ -11,7 +11,7 @@ use Rattle.bac_tag.specs.Laws.Spelling.{IsLeast-one, unmarked_least}
 use Rattle.bac_npdu_parts.specs.Heads.{IsVersionPlace, IsAddressPlace}
 use Rattle.bac_npdu_parts.specs.Frames.{FrameValue, SpellsFrame}
 use Rattle.bac_npdu_parts.specs.Decoded.{IsPduTypePlace, IsFrameWindowPlace, IsFrameReason, IsReasoned}
-use Rattle.bac_stream.specs.Judging.{IsCanonicalFor, IsCanonical, Accepts, IsJudged, IsRefused, IsHopeless, Refuses}
+use Rattle.bac_stream.specs.Judging.{IsAccepted, IsCanonicalFor, IsCanonical, Accepts, IsJudged, IsRefused, IsHopeless, Refuses}
 use Rattle.bac_stream.specs.Lines.{IsChecked, said_of}
 use Rattle.bac_record.specs.Deals.{DealFails}
 use Rattle.bac_record.specs.Records.{IsRecord}
@@ -106,6 +106,22 @@ module _ (frames : (f g : FrameValue) (b : List ℕ) → SpellsFrame f b → Spe
     judged_refused (Ok told) j = tt
     judged_refused (Err (Stop refusal)) j = marked_none mode frame octets mark refusal.place j.0 j.1 s m
     judged_refused (Err Memory) j = tt
+
+    pub judged_accepted : (made : Result (Option ℕ) DealFault) → IsJudged (appends frame mark) mode mark old new made → IfOk made (λ told. IsAccepted appends mode octets told old new)
+    judged_accepted (Ok told) j = rw j.0 (record {
+      frame = frame;
+      accepted = accepts_by mode frame octets mark s m j.1;
+      marked = m;
+      appended = j.2;
+    })
+    judged_accepted (Err fault) j = tt
+
+    pub judged_fault : (made : Result (Option ℕ) DealFault) → IsJudged (appends frame mark) mode mark old new made → IfErr made (DealFails (Refuses mode octets))
+    judged_fault (Ok told) j = tt
+    judged_fault (Err (Stop refusal)) j =
+        subst (λ (why : Why). Refuses mode octets (record { place = refusal.place; why = why })) (sym j.2)
+        (marked_refused mode frame octets mark refusal.place j.0 j.1 s m)
+    judged_fault (Err Memory) j = tt
 
 -- ---- reasons
 

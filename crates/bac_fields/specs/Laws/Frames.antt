@@ -316,17 +316,16 @@ frame_from es l = by l.0 l.1.octets l.1.spelled l.1.is_said
     by : (f : FrameValue) (b : List ℕ) → SpellsFrame f b → es ≡ frame_said f → Language from_control_said FromControl tt es
     by f b spelled e =
         let (d, same, to, from) = head_fitting f.destination f.source spelled.has_address spelled.are_octets in
-        let body = (spelled.body, spelled.is_body) in
         let priority : f.priority < 4 = omega (arith, spelled.is_control.priority) in
         let frame_is : f ≡ frame_of_parts ((f.priority, f.reply), (d, f.source)) f.body = ap (λ (x : Option DestinationValue). record { reply = f.reply; priority = f.priority; destination = x; source = f.source; body = f.body }) (sym same) in (
           ((f.priority, f.reply), (d, (f.source, f.body))),
           record {
-            octets = body.0;
+            octets = spelled.body;
             spelled = record {
               front = [];
-              back = body.0;
+              back = spelled.body;
               first = ((priority, tt), refl);
-              second = record { front = []; back = body.0; first = present destination_fits d to; second = record { front = []; back = body.0; first = present source_fits f.source from; second = body.1; octets = refl }; octets = refl };
+              second = record { front = []; back = spelled.body; first = present destination_fits d to; second = record { front = []; back = spelled.body; first = present source_fits f.source from; second = spelled.is_body; octets = refl }; octets = refl };
               octets = refl;
             };
             is_said = e ∙ ap frame_said frame_is ∙ said_is (f.priority, f.reply) d f.source f.body;

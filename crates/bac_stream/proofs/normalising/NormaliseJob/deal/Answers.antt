@@ -12,4 +12,4 @@ pub returns-clause-dealt : goal.returns-clause-dealt
 returns-clause-dealt c =
     let e = c.in_ok-mark.ensures in
     let none : c.in_ok-mark.mark ≡ None = search (rules, c.is_some.ensures, c.if-is_some.false) in
-    kept_dealt c.args.self.now.mode c.args._number c.args.octets.now c.args.out.now.items c.judge.new.out.items c.accepted-2.result c.push_octets.new.out.items c.in_ok-mark.mark e.accepted none e.canonical c.in_ok-push_octets.ensures.ok c.accepted-2.ensures.canonical c.accepted-2.ensures.accepted
+    kept_dealt c.args.self.now.mode c.args._number c.args.octets.now c.args.out.now.items c.judge.new.out.items c.accepted-2.result c.append_record.new.out.items c.in_ok-mark.mark e.accepted none e.canonical c.in_ok-append_record.ensures.ok c.accepted-2.ensures.canonical c.accepted-2.ensures.accepted
