@@ -1,14 +1,15 @@
 -- What is made of a frame.
-use Rattle.std.proofs.Common.{◌≡◌, ℕ, ◌+◌, ◌*◌, ◌^◌, ◌<◌, ◌≤◌, Bool, true, false, List, [], ◌++◌, length, refl, sym, ap, subst, ◌∙◌, inl, inr, arith}
+use Rattle.std.proofs.Common.{◌≡◌, ◌⊎◌, ℕ, ◌+◌, ◌*◌, ◌^◌, ◌<◌, ◌≤◌, Bool, true, false, List, [], ◌++◌, length, refl, sym, ap, subst, ◌∙◌, inl, inr, arith}
 use Rattle.std.specs.Prelude.{Option, None, Some, Result, Ok, Err, IfOk, IsTrue}
 use Rattle.bac_tag.specs.Spelling.{IsLeast, HasMark, AppendsLeast}
 use Rattle.bac_npdu_parts.specs.Frames.{FrameValue, SpellsFrame}
+use Rattle.bac_npdu_parts.specs.Decoded.{IsMade}
 use Rattle.bac_field_parts.specs.declared.field.Field.{Field}
 use Rattle.bac_fields.specs.FrameFields.{placed_fields, FrameFits}
 use Rattle.bac_c.specs.declared.outcomes.Outcome.{Outcome}
 use Rattle.bac_c.specs.declared.in_place.Decoded.{Decoded}
 use Rattle.bac_c.specs.Outcomes.{IsTold, IsDecoded, LacksEither, IsFront, decoded}
-use Rattle.bac_c.specs.InPlace.{octets_or, IsFilled, IsInPlace, IsInPlaceIfSome, IsFilledIf, IsCanonicalIf, IsMadeOfSome}
+use Rattle.bac_c.specs.InPlace.{octets_or, HasRoomFor, IsFilled, IsInPlace, IsInPlaceIfSome, IsFilledIf, IsCanonicalIf, IsMadeOf, IsMadeOfSome}
 
 -- what is appended to nothing
 pub least_alone : (S : List ℕ → Type 0) (old new : List ℕ) → old ≡ [] → AppendsLeast S old new → IsLeast S new
@@ -18,6 +19,19 @@ least_alone S old new none a = subst (IsLeast S) (sym (a.new_is ∙ ap (λ l. l 
 canonical_by : (frame : FrameValue) (octets : List ℕ) (mark : Option ℕ) (canonical : List ℕ) → HasMark (SpellsFrame frame) octets mark → IsCanonicalIf frame octets mark canonical → IsLeast (SpellsFrame frame) canonical
 canonical_by frame octets None canonical marked is = subst (IsLeast (SpellsFrame frame)) (sym marked.is_mark ∙ sym is) marked.is_least
 canonical_by frame octets (Some place) canonical marked is = is
+
+-- nothing is made of a frame that was spelled otherwise where a number of its fields has no room
+pub unfit_made : (octets : List ℕ) (room : ℕ) (frame : FrameValue) (place : ℕ) (canonical : List ℕ) (size : ℕ) (was are : List Field) → IsLeast (SpellsFrame frame) canonical → size ≡ length canonical
+    → (are ≡ was) ⊎ (HasRoomFor size was × (FrameFits frame → ⊥)) → IsMadeOf octets room frame (Some place) was are None
+unfit_made octets room frame place canonical size was are least count (inl same) = inl same
+unfit_made octets room frame place canonical size was are least count (inr unfit) = inr (canonical, least, subst (λ (n : ℕ). HasRoomFor n was) count unfit.0, unfit.1)
+
+-- what is made where a frame is visited
+pub made_where_visited : {P E : Type 0} (makes : FrameValue → Option ℕ → P → P → Option Decoded → Type 0) (old new : P) (octets : List ℕ) (room : ℕ) (was are : List Field) (result : Result (Option Decoded) E)
+    → IfOk result (IsMade makes octets old new) → ((value : FrameValue) (mark : Option ℕ) (made : Option Decoded) → makes value mark old new made → IsMadeOf octets room value mark was are made)
+    → IfOk result (λ made. IsMadeOfSome octets room was are made)
+made_where_visited makes old new octets room was are (Ok made) m says = (m.value, m.mark, m.spelled, m.marked, says m.value m.mark made m.made_of)
+made_where_visited makes old new octets room was are (Err e) m says = tt
 
 module _ (few : (f : FrameValue) (c : List ℕ) → IsLeast (SpellsFrame f) c → length (placed_fields f) ≤ 2 * length c + 2) (fits : (f : FrameValue) (c : List ℕ) → IsLeast (SpellsFrame f) c → 2 * length c + 2 < 2 ^ 64 → FrameFits f) where
   -- there is room for all fields of the frame

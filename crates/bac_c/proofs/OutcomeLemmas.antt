@@ -1,13 +1,13 @@
 -- What the calls for C tell.
-use Rattle.std.proofs.Common.{◌≡◌, ◌≢◌, ◌↔◌, ℕ, List}
-use Rattle.std.specs.Prelude.{Result, Ok, Err, IfErr}
+use Rattle.std.proofs.Common.{◌≡◌, ◌≢◌, ◌↔◌, ℕ, List, refl, subst, inr}
+use Rattle.std.specs.Prelude.{Bool, Option, Some, Result, Ok, Err, IfErr, IsTrue}
 use Rattle.bac_tag.specs.declared.refusals.Refusal.{Refusal}
-use Rattle.bac_tag.specs.declared.refusals.Why.TheVariants.{Version, Address, PduType, Window, OutOfMemory}
-use Rattle.bac_tag.specs.Spelling.{IsWholeRefusal}
+use Rattle.bac_tag.specs.declared.refusals.Why.TheVariants.{Version, Address, PduType, Window, NotCanonical, OutOfMemory}
+use Rattle.bac_tag.specs.Spelling.{IsWholeRefusal, HasMark}
 use Rattle.bac_npdu_parts.specs.Heads.{IsVersionPlace, IsAddressPlace}
-use Rattle.bac_npdu_parts.specs.Frames.{SpellsFrame}
+use Rattle.bac_npdu_parts.specs.Frames.{FrameValue, SpellsFrame}
 use Rattle.bac_npdu_parts.specs.Decoded.{IsPduTypePlace, IsFrameWindowPlace, IsFrameReason}
-use Rattle.bac_c.specs.Outcomes.{IsHopeless}
+use Rattle.bac_c.specs.Outcomes.{IsHopeless, IsRefusedBy}
 
 -- what decoding says of a refusal
 pub hopeless : (octets : List ℕ) (refusal : Refusal) → refusal.why ≢ OutOfMemory → IsWholeRefusal SpellsFrame octets refusal
@@ -27,3 +27,9 @@ pub hopeless_result : {X : Type 0} (octets : List ℕ) (result : Result X Refusa
     → IfErr result (λ refusal. IsFrameReason refusal.why) → IfErr result (λ refusal. refusal.why ≢ OutOfMemory → IsHopeless octets refusal)
 hopeless_result octets (Ok x) refused versions addresses types windows reasons = tt
 hopeless_result octets (Err refusal) refused versions addresses types windows reasons = λ memory. hopeless octets refusal memory (refused memory) versions addresses types windows reasons
+
+-- where only canonical octets are asked for: what is said of others
+pub flawed : (strict : Bool) (octets : List ℕ) (refusal : Refusal) (frame : FrameValue) (mark : Option ℕ) (place : ℕ) → IsTrue strict → SpellsFrame frame octets → HasMark (SpellsFrame frame) octets mark
+    → mark ≡ Some place → refusal ≡ record { place = place; why = NotCanonical } → IsRefusedBy strict octets refusal
+flawed strict octets refusal frame mark place asked spelled marked some is =
+    rw is (inr (asked, ((frame, spelled, subst (HasMark (SpellsFrame frame) octets) some marked), refl)))
