@@ -13,7 +13,7 @@ use crate::max_resp::MaxResp;
 use crate::max_segs::MaxSegs;
 use crate::visiting::ApduVisitor;
 use crate::window::Window;
-use bac_tag::layers::first_difference;
+use bac_tag::layers::{first_difference, or_cut_back};
 use bac_tag::{OutOfMemory, Refusal, Why};
 use std::alloc::Global;
 
@@ -63,10 +63,8 @@ fn append_piece(head: &[u8], piece: &[u8], out: &mut Vec<u8>) -> Result<(), OutO
 {
     let start = out.len();
     out.extend_from_slice(head)?;
-    if out.extend_from_slice(piece).is_err() {
-        out.truncate(start);
-        return Err(OutOfMemory);
-    }
+    let appended = out.extend_from_slice(piece);
+    or_cut_back(appended, start, out)?;
     Ok(())
 }
 

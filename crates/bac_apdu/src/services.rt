@@ -7,7 +7,7 @@ ghost use Rattle.bac_apdu.specs.Decoded.{IsBehind, IsServiceBehind};
 
 use bac_service::layers::is_canonical_service;
 use bac_service::{Kind, Service, append_service, decode_service_marked};
-use bac_tag::layers::{first_difference, joined_marks};
+use bac_tag::layers::{first_difference, joined_marks, or_cut_back};
 use bac_tag::{OutOfMemory, Refusal, Why};
 use std::alloc::Global;
 
@@ -66,8 +66,5 @@ pub(crate) fn append_behind(
     let start = out.len();
     out.extend_from_slice(head)?;
     let written = append_service(service, out);
-    if written.is_err() {
-        out.truncate(start);
-    }
-    written
+    or_cut_back(written, start, out)
 }

@@ -13,7 +13,7 @@ ghost use Rattle.bac_tag.specs.Octets.{Extends};
 
 use crate::items::{Item, contents_of, head_of};
 use crate::open_value::Any;
-use bac_tag::layers::append_head;
+use bac_tag::layers::{append_head, or_cut_back};
 use bac_tag::{OutOfMemory, TagHead};
 use bac_value::Prim;
 use bac_value::layers::{append_written, written_len_of};
@@ -39,10 +39,7 @@ pub(crate) fn append_primitive(prim: &Prim, out: &mut Vec<u8>) -> Result<(), Out
 {
     let start = out.len();
     let appended = append_parts(prim, out);
-    if appended.is_err() {
-        out.truncate(start);
-    }
-    appended
+    or_cut_back(appended, start, out)
 }
 
 /// Appends the application primitive with this number and these contents, which may differ from those that are written.
@@ -87,10 +84,7 @@ pub(crate) fn append_context(
 {
     let start = out.len();
     let appended = append_context_parts(number, contents, out);
-    if appended.is_err() {
-        out.truncate(start);
-    }
-    appended
+    or_cut_back(appended, start, out)
 }
 
 /// Appends the canonical octets of what was read. If memory is refused, `out` may hold some of the octets.
@@ -158,8 +152,5 @@ pub fn write_any(value: &Any, number: u8, out: &mut Vec<u8>) -> Result<(), OutOf
 {
     let start = out.len();
     let written = append_any(value, number, out);
-    if written.is_err() {
-        out.truncate(start);
-    }
-    written
+    or_cut_back(written, start, out)
 }

@@ -16,6 +16,7 @@ use crate::laws::held_frames_have_canonical_octets;
 use crate::message::append_message;
 use bac_apdu::append_apdu;
 use bac_tag::OutOfMemory;
+use bac_tag::layers::or_cut_back;
 use bitflags::Flags;
 use std::alloc::Global;
 
@@ -87,10 +88,7 @@ impl FrameHead<'_> {
     {
         let start = out.len();
         let written = append_parts(self, body, out);
-        if written.is_err() {
-            out.truncate(start);
-        }
-        written
+        or_cut_back(written, start, out)
     }
 }
 

@@ -7,6 +7,7 @@ ghost use Rattle.bac_pack.specs.Lines.{Packs, PacksNone, Spells, SpellsNone};
 use crate::PackFault;
 use crate::lines::{copy_digits, strip_return};
 use bac_record::LONGEST;
+use bac_tag::layers::or_cut_back;
 
 /// Appends the record that the digits spell. `number` is that of its line. After a fault, part of the record may have
 /// been appended.
@@ -71,8 +72,5 @@ pub(crate) fn pack_line(
 {
     let start = output.len();
     let pushed = push_line(number, line, digits, output);
-    if pushed.is_err() {
-        output.truncate(start);
-    }
-    pushed
+    or_cut_back(pushed, start, output)
 }

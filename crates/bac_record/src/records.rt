@@ -11,6 +11,7 @@ ghost use Rattle.bac_record.specs.Transfers.{GivesLength, GivesRecord, IsFirst, 
 use crate::transfers::{read_full, write_whole};
 use crate::{Input, Output, StreamFault};
 use bac_tag::OutOfMemory;
+use bac_tag::layers::or_cut_back;
 use std::alloc::Global;
 
 /// How many octets the longest record has, without its length octets: the largest number that these can spell.
@@ -163,8 +164,5 @@ pub fn append_record(octets: &[u8], out: &mut Vec<u8>) -> Result<(), OutOfMemory
 {
     let start = out.len();
     let appended = append_parts(octets, out);
-    if appended.is_err() {
-        out.truncate(start);
-    }
-    appended
+    or_cut_back(appended, start, out)
 }

@@ -7,6 +7,7 @@ ghost use Rattle.bac_service.specs.Services.{value_of, SpellsService};
 use crate::laws::held_services_have_canonical_octets;
 use crate::service::{Service, append_production};
 use bac_tag::OutOfMemory;
+use bac_tag::layers::or_cut_back;
 use std::alloc::Global;
 
 /// How many octets there is room for at first: as many as most services need.
@@ -38,10 +39,7 @@ pub fn append_service(service: &Service, out: &mut Vec<u8>) -> Result<(), OutOfM
     held_services_have_canonical_octets(service);
     let start = out.len();
     let written = append_production(service, out);
-    if written.is_err() {
-        out.truncate(start);
-    }
-    written
+    or_cut_back(written, start, out)
 }
 
 /// Returns the canonical octets of a service, the least that spell it. Its type lists them in their order

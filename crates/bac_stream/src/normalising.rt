@@ -15,6 +15,7 @@ use crate::{Input, Mode, Output, RunFault, Summary};
 use bac_npdu::{Body, FrameHead};
 use bac_record::{DealFault, Dealt, Job, LONGEST, layers, run};
 use bac_tag::OutOfMemory;
+use bac_tag::layers::or_cut_back;
 use std::alloc::Global;
 
 /// Writes the canonical octets of each record.
@@ -62,10 +63,7 @@ fn push_record(head: &FrameHead<'_>, body: &Body, out: &mut Vec<u8>) -> Result<(
 {
     let start = out.len();
     let appended = append_record(head, body, out);
-    if appended.is_err() {
-        out.truncate(start);
-    }
-    appended
+    or_cut_back(appended, start, out)
 }
 
 /// Appends the canonical octets of a frame as a record, if the octets that were read differ from them.

@@ -1,6 +1,6 @@
-//! Appending a head.
+//! Appending a head, and cutting back what was appended in part.
 
-ghost use Rattle.std.specs.Prelude.{◌≡◌, OnOk, OnErr};
+ghost use Rattle.std.specs.Prelude.{◌≡◌, OnOk, OnErr, take};
 ghost use Rattle.bac_tag.specs.Spelling.{AppendsLeast};
 ghost use Rattle.bac_tag.specs.Heads.{IsValid, Heads};
 
@@ -36,4 +36,22 @@ fn append_several(head: TagHead, out: &mut Vec<u8>) -> Result<(), OutOfMemory>
 {
     out.extend_from_slice(write_head(head).as_slice())?;
     Ok(())
+}
+
+/// Returns what appending gave. If that is an error, cuts `out` back to the `start` octets that it had before, so that it
+/// is as it was.
+#[inline(always)]
+pub fn or_cut_back<E: Drop>(
+    appended: Result<(), E>,
+    start: usize,
+    out: &mut Vec<u8>,
+) -> Result<(), E>
+    ensures given { result ≡ appended }
+    ensures ok { OnOk appended (out.new.items ≡ out.old.items) }
+    ensures err { OnErr appended (out.new.items ≡ take start out.old.items) }
+{
+    if appended.is_err() {
+        out.truncate(start);
+    }
+    appended
 }

@@ -2,7 +2,7 @@
 //! place, heads of one octet, heads that are found at once, heads appended, marks of parts, and numbers. A program that
 //! handles whole messages needs none of it.
 
-pub use crate::appending::append_head;
+pub use crate::appending::{append_head, or_cut_back};
 pub use crate::expecting::Expected;
 pub use crate::marks::{first_difference, joined_marks, mark_read_head};
 pub use crate::numbers::{first_hopeless, number_of, number_within};
