@@ -1,5 +1,5 @@
 //! Tests of bac_apdu, bac_segment, bac_npdu, bac_text and bac_fields: what no clause says, values from outside, that the
-//! calls succeed, and the lines of the worked examples. They are a crate of their own, with public calls alone, since a
+//! calls succeed, and the lines of the worked examples. They are a crate of their own, with public calls only, since a
 //! crate with tests is proved twice. The comment at the top of bac_tests says how the tests work.
 #![tactic(auto)]
 

@@ -30,7 +30,7 @@
 //! | in two's complement | `signed_numbers.rt` | `SignedContents.antt` | `Signed.antt` |
 //!
 //! A number is read against its range, so that a refusal has the first octet with which the range is left. The mark of a
-//! number depends on its leading octets alone: zeros, or octets that only repeat the sign. Most numbers have few octets,
+//! number depends only on its leading octets: zeros, or octets that only repeat the sign. Most numbers have few octets,
 //! and there are ways for one or two octets (`short_number`), for up to four at the front of others (`front_number`) and
 //! for a number below 2^32 that is written.
 #![tactic(auto)]

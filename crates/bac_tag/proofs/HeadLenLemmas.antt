@@ -1,13 +1,12 @@
 -- How many octets the least spelling of a head has, and that no other spelling has as few.
-use Rattle.std.proofs.Common.{◌≡◌, ℕ, ◌+◌, ◌*◌, ◌%◌, ◌^◌, ◌<◌, ◌≤◌, inl, inr, Bool, true, false, List, [], ◌∷◌, ◌++◌, length, get_or, refl, sym, ap, ◌∙◌, arith}
+use Rattle.std.proofs.Common.{◌≡◌, ℕ, ◌+◌, ◌*◌, ◌^◌, ◌<◌, inl, inr, Bool, true, false, List, [], ◌∷◌, ◌++◌, length, get_or, refl, sym, ap, ◌∙◌, arith}
 use mir.Val.{bool_byte}
-use Rattle.std.proofs.lemmas.Bool.{cases_lt, lt-ltb, le-ltb}
 use Rattle.std.proofs.lemmas.List.{append-nil, length-append}
 use Rattle.bac_tag.specs.declared.heads.TagHead.{TagHead}
 use Rattle.bac_tag.specs.declared.heads.TagHead.TheVariants.{App, AppBool, Ctx, Open, Close}
 use Rattle.bac_tag.specs.Spelling.{IsLeast}
 use Rattle.bac_tag.specs.Laws.Spelling.{IsLeast-one}
-use Rattle.bac_tag.specs.Heads.{IsValid, NumberForm, in_nibble, numbers, nibble_of, number_octets, LengthForm, in_lvt, one_octet, two_octets, four_octets, lengths, lvt_of, length_octets, Opening, LengthIn, Heads, LengthFits}
+use Rattle.bac_tag.specs.Heads.{IsValid, NumberForm, numbers, nibble_of, number_octets, LengthForm, lengths, lvt_of, length_octets, Opening, LengthIn, Heads, LengthFits}
 use Rattle.bac_tag.specs.Laws.Heads.{length_below}
 use Rattle.bac_tag.specs.Writing.{number_form, length_form, narrow_opening, narrow_head}
 use Rattle.bac_tag.proofs.WritingLemmas.{narrowest_number, narrowest_length, least_app, least_bool, least_ctx, least_open, least_close}
@@ -131,51 +130,3 @@ first_of_open number b p = first_of (Open number) b p
 pub first_of_close : (number : ℕ) (b : List ℕ) → IsLeast (Heads (Close number)) b
     → get_or b 0 0 ≡ 16 * nibble_of (number_form number) number + 8 * 1 + 7
 first_of_close number b p = first_of (Close number) b p
-
--- ---- its second octet, where it has two
-
-second_of_form : (g : LengthForm) (first len : ℕ) (b : List ℕ) → len < lengths g → b ≡ first ∷ length_octets g len → length b ≡ 2 → get_or b 1 0 ≡ len % 256
-second_of_form in_lvt first len b lt is two = absurd (omega (arith, ap length is))
-second_of_form one_octet first len b lt is two = ap (λ (t : List ℕ). get_or t 1 0) is ∙ omega arith
-second_of_form two_octets first len b lt is two = absurd (omega (arith, ap length is))
-second_of_form four_octets first len b lt is two = absurd (omega (arith, ap length is))
-
--- that of the length, where the nibble has room for the number,
-second_of_length : (class number len : ℕ) (b : List ℕ) → number < 15 → len < 2 ^ 32 → b ≡ narrow_head class number len → length b ≡ 2 → get_or b 1 0 ≡ len % 256
-second_of_length class number len b lt fits is two =
-    second_of_form (length_form len) (16 * number + 8 * class + lvt_of (length_form len) len) len b (narrowest_length len fits).fits
-    (is ∙ rw (lt-ltb number 15 lt) refl) two
-
--- else that of the number
-second_of_opening : (class number lvt : ℕ) (b back : List ℕ) → 15 ≤ number → b ≡ narrow_opening class number lvt ++ back → get_or b 1 0 ≡ number
-second_of_opening class number lvt b back le is =
-    let wide : narrow_opening class number lvt ≡ (16 * 15 + 8 * class + lvt) ∷ number ∷ [] = rw (le-ltb number 15 le) refl in
-    ap (λ (t : List ℕ). get_or t 1 0) (is ∙ ap (λ (t : List ℕ). t ++ back) wide)
-
-pub second_in_app : (number len : ℕ) (b : List ℕ) → IsLeast (Heads (App number len)) b → length b ≡ 2 → get_or b 1 0 ≡ len % 256
-second_in_app number len b p two =
-    second_of_length 0 number len b (omega (arith, p.member.valid.0)) (fits_spelled (App number len) b p.member) (least_is_narrowest (App number len) b p) two
-
-pub second_in_ctx : (number len : ℕ) (b : List ℕ) → number < 15 → IsLeast (Heads (Ctx number len)) b → length b ≡ 2 → get_or b 1 0 ≡ len % 256
-second_in_ctx number len b lt p two =
-    second_of_length 1 number len b lt (fits_spelled (Ctx number len) b p.member) (least_is_narrowest (Ctx number len) b p) two
-
-pub second_behind_ctx : (number len : ℕ) (b : List ℕ) → 15 ≤ number → IsLeast (Heads (Ctx number len)) b → get_or b 1 0 ≡ number
-second_behind_ctx number len b le p = second_of_opening 1 number (lvt_of (length_form len) len) b (length_octets (length_form len) len) le (least_is_narrowest (Ctx number len) b p)
-
-form_of : (number : ℕ) → number < 15 → number_form number ≡ in_nibble
-form_of number lt = rw (lt-ltb number 15 lt) refl
-
-pub second_in_open : (number : ℕ) (b : List ℕ) → IsLeast (Heads (Open number)) b → length b ≡ 2 → get_or b 1 0 ≡ number
-second_in_open number b p two =
-    elim (cases_lt number 15) [
-      | inl lt ↦ absurd (omega (arith, length_of_open number b p, ap (λ (f : NumberForm). length (number_octets f number)) (form_of number lt)))
-      | inr le ↦ second_of_opening 1 number 6 b [] le (least_is_narrowest (Open number) b p ∙ sym (append-nil (narrow_opening 1 number 6)))
-    ]
-
-pub second_in_close : (number : ℕ) (b : List ℕ) → IsLeast (Heads (Close number)) b → length b ≡ 2 → get_or b 1 0 ≡ number
-second_in_close number b p two =
-    elim (cases_lt number 15) [
-      | inl lt ↦ absurd (omega (arith, length_of_close number b p, ap (λ (f : NumberForm). length (number_octets f number)) (form_of number lt)))
-      | inr le ↦ second_of_opening 1 number 7 b [] le (least_is_narrowest (Close number) b p ∙ sym (append-nil (narrow_opening 1 number 7)))
-    ]

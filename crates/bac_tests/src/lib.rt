@@ -1,5 +1,5 @@
 //! Tests of bac_tag, bac_numbers, bac_value and bac_data: what no clause says, values from outside, and that the calls
-//! succeed. They are a crate of their own, with public calls alone, since a crate with tests is proved twice.
+//! succeed. They are a crate of their own, with public calls only, since a crate with tests is proved twice.
 //!
 //! # How the tests of the library work
 //!

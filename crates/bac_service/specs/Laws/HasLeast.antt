@@ -14,9 +14,6 @@ use Rattle.bac_service.specs.Laws.Field.{heading_least, least_field}
 use Rattle.bac_service.specs.Laws.Least.{least_joined, least_alike, least_nothing}
 use Rattle.bac_service.specs.Productions.{Optional, Items, Grouped, IsRecordOf, HasLeast, Head}
 
-pub tag_least : (head : TagHead) → LengthFits head → HasLeast (Head head)
-tag_least head fits v b p = some_least head p.valid fits
-
 is_heading : (c : Option ℕ) (app len : ℕ) → IsValid (heading c app len) → IsHeading c app
 is_heading (Some n) app len h = h
 is_heading None app len h = h

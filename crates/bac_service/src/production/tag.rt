@@ -32,7 +32,7 @@ fn head_of(number: u8, opens: bool) -> TagHead
     }
 }
 
-/// Returns the expected heads: the tag alone.
+/// Returns the expected heads: only the tag.
 #[inline(always)]
 fn expected_head(number: u8, opens: bool) -> Expected
     ensures { result ≡ expected_edge opens number }

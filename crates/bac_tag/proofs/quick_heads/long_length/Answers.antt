@@ -1,4 +1,4 @@
-use Rattle.std.proofs.Common.{arith, ◌≡◌, ◌%◌, ℕ, get_or, subst, sym, take, drop}
+use Rattle.std.proofs.Common.{◌≡◌, ◌%◌, ℕ, get_or, subst, sym, take, drop}
 use Rattle.bac_tag.specs.Heads.{class_bit, LengthIn, Opening}
 use Rattle.bac_tag.specs.Laws.Heads.{class_bit_below}
 use Rattle.bac_tag.proofs.QuickHeadLemmas.{valid_number, opens_in_first, opens_in_two, takes_headed}
