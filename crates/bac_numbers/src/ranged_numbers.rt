@@ -92,7 +92,8 @@ pub fn find_number(octets: &[u8], size: usize, low: u64, high: u64) -> Option<u6
     requires size { size ≤ length octets.now }
     requires range { low ≤ high }
     requires room { low < 256 }
-    ensures { IfSome result (λ n. NumberContents low high n (take size octets.now)) }
+    ensures number { IfSome result (λ n. NumberContents low high n (take size octets.now)) }
+    ensures none { IfNone result ((n : ℕ) → NumberContents low high n (take size octets.now) → ⊥) }
 {
     match front_number(octets, size) {
         Some(number) if low <= number && number <= high => Some(number),
