@@ -1,6 +1,6 @@
 //! The canonical octets of the frame that a line says.
 
-ghost use Rattle.std.specs.Prelude.{◌≡◌, ◌≢◌, ◌⊎◌, ◌≤◌, IfErr, IfOk, length};
+ghost use Rattle.std.specs.Prelude.{◌≡◌, ◌≢◌, ◌⊎◌, IfErr, IfOk, length};
 ghost use Rattle.bac_lines.specs.Lines.{IfStop, IsNear, IsNoLine};
 ghost use Rattle.bac_c.specs.Outcomes.{IsWritten, LacksRoom, without_memory};
 ghost use Rattle.bac_c.specs.Reading.{IsReadAs, TellsOfLine, line_refused_as};

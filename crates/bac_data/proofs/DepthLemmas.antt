@@ -1,22 +1,13 @@
 -- Where another group begins that may not.
-use Rattle.std.specs.Prelude.{◌≡◌, ◌≢◌, ◌↔◌, ℕ, ◌+◌, ◌<◌, ◌≤◌, ◌%◌, Bool, true, false, IsTrue, List, [], ◌∷◌, length, drop, slice_index}
+use Rattle.std.specs.Prelude.{◌≡◌, ◌↔◌, ℕ, ◌+◌, ◌<◌, ◌≤◌, ◌%◌, Bool, true, false, IsTrue, List, [], ◌∷◌, length, drop, slice_index}
 use Rattle.std.proofs.Common.{sym, ◌∙◌, ap, subst, arith, length-drop, add-zero}
 use Rattle.std.proofs.lemmas.List.{get_or-drop}
 use Rattle.bac_tag.specs.declared.refusals.Refusal.{Refusal}
-use Rattle.bac_tag.specs.declared.refusals.Why.{Why}
 use Rattle.bac_tag.specs.declared.refusals.Why.TheVariants.{Depth}
-use Rattle.bac_tag.specs.Refusals.{IsHeadReason}
 use Rattle.bac_data.specs.Events.{Event, application, contextual, opening, closing, Opens}
 use Rattle.bac_data.specs.Building.{IsPlace}
-use Rattle.bac_data.specs.Refusals.{IsContentsReason, BeginsGroup, IsTooDeep}
+use Rattle.bac_data.specs.Refusals.{BeginsGroup, IsTooDeep}
 use Rattle.bac_data.proofs.AnyLemmas.{HasRead}
-
--- heads and contents are not refused for their depth
-pub head_reason : (w : Why) → IsHeadReason w → w ≢ Depth
-head_reason w h e = subst IsHeadReason e h
-
-pub contents_reason : (w : Why) → IsContentsReason w → w ≢ Depth
-contents_reason w h e = subst IsContentsReason e h
 
 -- no more groups are open than the limit
 opens_bound : (limit : ℕ) (es : List Event) (s t : List ℕ) → length s ≤ limit → Opens limit s es t → length t ≤ limit

@@ -2,7 +2,6 @@
 use Rattle.std.proofs.Common.{◌≡◌, ℕ, ◌+◌, ◌<◌, ◌≤◌, Bool, true, false, List, [], ◌++◌, length, take, drop, replicate, refl, sym, ◌∙◌, ap, subst, ◌⊎◌, inl, inr, arith, length-append, length-take, length-drop, take-append-drop}
 use Rattle.std.proofs.lemmas.List.{length-replicate, take_all}
 use Rattle.bac_tag.specs.declared.refusals.Refusal.{Refusal}
-use Rattle.bac_tag.specs.declared.refusals.Why.{Why}
 use Rattle.bac_tag.specs.declared.refusals.Why.TheVariants.{Short, Depth}
 use Rattle.bac_tag.specs.declared.heads.TagHead.{TagHead}
 use Rattle.bac_tag.specs.declared.heads.TagHead.TheVariants.{App, AppBool, Ctx, Open, Close}
@@ -120,12 +119,6 @@ short_context m len rest octets short most = record {
   };
   short = (λ e. refl, λ e. refl);
 }
-
--- ---- reasons
-
-pub other_reason : {X : Type 0} (S : X → List ℕ → Type 0) (input : List ℕ) (place : ℕ) (why other : Why) → (why ≡ Short → ⊥) → (other ≡ Short → ⊥) → IsRefusal S input (record { place = place; why = why })
-    → IsRefusal S input (record { place = place; why = other })
-other_reason S input place why other p q h = record { none = h.none; furthest = h.furthest; short = (λ e. absurd (q e), λ e. absurd (p (h.short.1 e))) }
 
 -- ---- what is taken
 

@@ -1,6 +1,6 @@
 //! Reading an open value.
 
-ghost use Rattle.std.specs.Prelude.{◌≡◌, ◌≢◌, ◌≤◌, ◌<◌, ◌+◌, ◌^◌, ◌↔◌, ◌∷◌, ◌++◌, [], IsTrue, ℕ, List, Option, None, Some, Ok, length, reverse, take, drop, IfSome, IfOk, IfErr, OnOk};
+ghost use Rattle.std.specs.Prelude.{◌≡◌, ◌≢◌, ◌≤◌, ◌<◌, ◌+◌, ◌^◌, ◌↔◌, ◌∷◌, ◌++◌, [], IsTrue, ℕ, List, Option, None, Some, Ok, length, reverse, take, IfSome, IfOk, IfErr, OnOk};
 ghost use Rattle.std.specs.List.{AllByRecursion};
 ghost use Rattle.bac_tag.specs.Octets.{IsMark, joined_mark};
 ghost use Rattle.bac_tag.specs.Spelling.{IsLeast, IsRefusal, Takes};

@@ -1,6 +1,6 @@
 //! The events of a walk over an open value, one after another.
 
-ghost use Rattle.std.specs.Prelude.{◌≡◌, ◌≤◌, ◌∷◌, List, ℕ, drop, length};
+ghost use Rattle.std.specs.Prelude.{◌≡◌, ◌≤◌, ◌∷◌, List, drop, length};
 ghost use Rattle.std.specs.Iterator.{item_count};
 ghost use Rattle.bac_tag.specs.Heads.{Heads};
 ghost use Rattle.bac_tag.specs.Spelling.{IsLeast, Takes};

@@ -1,6 +1,6 @@
 //! Writing an open value.
 
-ghost use Rattle.std.specs.Prelude.{◌≡◌, ◌≢◌, ◌≤◌, ◌++◌, length, OnOk, OnErr};
+ghost use Rattle.std.specs.Prelude.{◌≡◌, ◌≢◌, ◌≤◌, OnOk, OnErr};
 ghost use Rattle.bac_tag.specs.Spelling.{AppendsLeast};
 ghost use Rattle.bac_value.specs.OctetStringContents.{IsOctetString};
 ghost use Rattle.bac_value.specs.declared.prim.PrimitiveValue.{PrimitiveValue};

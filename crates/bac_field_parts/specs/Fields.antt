@@ -79,12 +79,6 @@ pub data Step : Type 0 where
 abbrev pub size_of : FieldValue → ℕ
 size_of v = length v.head + length v.contents
 
--- the octets of a step
-abbrev pub passed_by : Step → ℕ
-passed_by (next v) = size_of v
-passed_by (aside n name number) = 0
-passed_by (pass n) = n
-
 -- the fields of steps
 abbrev pub fields_of : List Step → List FieldValue
 fields_of [] = []

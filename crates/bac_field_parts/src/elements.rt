@@ -1,6 +1,6 @@
 //! Elements of open values, from their fields (clause 20.2).
 
-ghost use Rattle.std.specs.Prelude.{◌≡◌, ◌≤◌, ◌+◌, ◌*◌, ℕ, List, Bool, Option, Some, None, true, false, IsTrue, IfSome, IfNone, OnOk, ◌++◌, ◌∷◌, [], IfOk, IfErr, length};
+ghost use Rattle.std.specs.Prelude.{◌≡◌, ◌≤◌, ◌+◌, ◌*◌, ℕ, List, Bool, Option, Some, None, true, false, IsTrue, OnOk, ◌++◌, IfOk, IfErr, length};
 ghost use Rattle.std.specs.Option.{option_to_list};
 ghost use Rattle.std.specs.List.{AllByRecursion};
 ghost use Rattle.bac_tag.specs.Octets.{Extends};

@@ -1,6 +1,6 @@
 //! The elements of an open value and its groups, from their fields (clause 20.2).
 
-ghost use Rattle.std.specs.Prelude.{◌≡◌, ◌≤◌, ◌<◌, ◌+◌, ◌*◌, ◌↔◌, ℕ, List, [], ◌∷◌, Some, true, reverse, length, nat_le, drop, IsTrue, IfOk, IfErr, OnOk};
+ghost use Rattle.std.specs.Prelude.{◌≡◌, ◌≤◌, ◌<◌, ◌+◌, ◌*◌, ◌↔◌, ℕ, [], ◌∷◌, Some, true, reverse, length, nat_le, drop, IsTrue, IfOk, IfErr};
 ghost use Rattle.std.specs.List.{AllByRecursion};
 ghost use Rattle.bac_tag.specs.Octets.{Extends};
 ghost use Rattle.bac_tag.specs.Heads.{Heads};

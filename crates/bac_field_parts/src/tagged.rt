@@ -1,6 +1,6 @@
 //! Tags that no field says.
 
-ghost use Rattle.std.specs.Prelude.{◌≡◌, ◌++◌, ◌∷◌, ◌&&◌, [], true, ℕ, List, Bool, None, IsTrue, nat_le};
+ghost use Rattle.std.specs.Prelude.{◌++◌, ◌∷◌, ◌&&◌, [], true, None, nat_le};
 ghost use Rattle.bac_tag.specs.declared.heads.TagHead.TheVariants as tag;
 ghost use Rattle.bac_tag.specs.Spelling.{Joined};
 ghost use Rattle.bac_service.specs.Laws.Tag.{closing_inhabited};

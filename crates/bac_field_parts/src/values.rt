@@ -1,6 +1,6 @@
 //! Fields that say a primitive value by its number, under a tag.
 
-ghost use Rattle.std.specs.Prelude.{◌≡◌, ◌∷◌, ℕ, [], IfSome, IfNone};
+ghost use Rattle.std.specs.Prelude.{◌≡◌, ℕ, IfSome, IfNone};
 ghost use Rattle.std.specs.Prelude.{Some, None, nat_le, nat_eq, not, ◌&&◌, OnOk};
 ghost use Rattle.bac_tag.specs.Spelling.{AppendsLeast};
 ghost use Rattle.bac_tag.specs.Octets.{Extends};

@@ -1,7 +1,6 @@
 //! Messages and items of lists, by their parts.
 
 ghost use Rattle.std.specs.Prelude.{◌≡◌, ℕ, List};
-ghost use Rattle.bac_tag.specs.Octets.{Extends};
 ghost use Rattle.bac_field_parts.specs.Symbols.{Symbol, IsMessage};
 ghost use Rattle.bac_field_parts.specs.Laws.Messages.{message_sound};
 

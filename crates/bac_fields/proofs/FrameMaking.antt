@@ -1,5 +1,5 @@
 -- A frame is made of its head and its body.
-use Rattle.std.specs.Prelude.{not, ◌==◌, ◌≡◌, ℕ, ◌+◌, ◌-◌, ◌*◌, ◌<◌, ◌≤◌, Bool, true, false, nat_eq, IsTrue, Option, None, Some, List, [], ◌∷◌, ◌++◌, length, take, drop, map, Result, Ok, Err, OnOk, refl}
+use Rattle.std.specs.Prelude.{not, ◌==◌, ◌≡◌, ℕ, ◌+◌, ◌-◌, ◌*◌, ◌<◌, ◌≤◌, Bool, true, false, nat_eq, IsTrue, Option, None, Some, List, [], ◌∷◌, ◌++◌, length, take, drop, Result, Ok, Err, OnOk, refl}
 use Rattle.std.specs.Option.{option_eq, option_map_or}
 use Rattle.std.specs.Result.{is_err}
 use Rattle.std.proofs.Common.{sym, ◌∙◌, ap, subst, arith, get_or, append_assoc, eqb-true, lit<, lit≤}
@@ -7,12 +7,11 @@ use Rattle.std.proofs.Math.Seq.{take-append-add}
 use Rattle.std.proofs.lemmas.List.{length-drop, take-append-drop, length-take-le, take_rest, drop-drop}
 use Rattle.std.proofs.lemmas.Bool.{or_left}
 use Rattle.std.proofs.lemmas.Bool.Decides.{nat_tests}
-use Rattle.bac_tag.specs.HeadOctets.{octet, least_head}
 use Rattle.bac_tag.specs.Spelling.{AppendsLeast}
 use Rattle.bac_npdu_parts.specs.declared.frame_head.Addressed.{Addressed}
 use Rattle.bac_npdu_parts.specs.declared.frame_head.DestRef.{DestRef}
 use Rattle.bac_npdu_parts.specs.Addresses.{SourceValue, destination_octets, source_octets, hops_octets}
-use Rattle.bac_npdu_parts.specs.Control.{least_control, least_of}
+use Rattle.bac_npdu_parts.specs.Control.{least_control}
 use Rattle.bac_npdu_parts.specs.FrameHeads.{address_read, destination_read}
 use Rattle.bac_npdu_parts.specs.Frames.{BodyValue, apdu, message, SpellsBody, SpellsFrame, is_message, is_there}
 use Rattle.bac_npdu_parts.proofs.FrameLemmas.{least_before, appends_frame}
@@ -97,10 +96,6 @@ module _ (octets : List ℕ) (fields : List Field) (h : HeadSaid) (n : ℕ) (H :
         is_said = parts ∙ ap (λ (l : List Symbol). l ++ take (3 * m + 1) (drop (3 * n) es)) H.is_said ∙ ap (λ (l : List Symbol). head_said h ++ take (3 * m + 1) l) (sym after) ∙ ap (λ (l : List Symbol). head_said h ++ l) b.is_said ∙ sym (head_first h.0 h.1.0 h.1.1 b.body);
         appended = b.appended;
       }
-
-  pub frame_stopped : (fault : Fault) → IfStop fault (IsStop (Language body_said SpellsBody) (symbols_in octets (take (length fields - n) (drop n fields)))) → IfStop (behind n fault) (IsStop (Language frame_said SpellsFrame) (symbols_in octets fields))
-  frame_stopped fault stop =
-      stop_behind fault n _ _ (λ p s. H.stops p (subst (λ (l : List Field). IsStop (Language body_said SpellsBody) (symbols_in octets l) p) (take_rest fields n) s)) stop
 
 -- ---- the parts of the head
 

@@ -7,7 +7,7 @@ use Rattle.std.proofs.Math.Seq.{get_or-append_seam}
 use Rattle.std.proofs.Common.{◌≡◌, ℕ, ◌+◌, ◌*◌, ◌/◌, ◌%◌, ◌^◌, ◌<◌, ◌≤◌, List, [], ◌∷◌, ◌++◌, map, length, refl, sym, ap, subst, ◌∙◌, append-nil, arith, lit<}
 use Rattle.bac_tag.specs.Octets.{IsOctets}
 use Rattle.bac_tag.specs.Laws.Octets.{NoGreater-same}
-use Rattle.bac_tag.specs.HeadOctets.{Part, typed, limits, octet, bit_of, least_part, Headed, least_head, AreParts}
+use Rattle.bac_tag.specs.HeadOctets.{typed, limits, octet, bit_of, least_part, least_head, AreParts}
 use Rattle.bac_tag.specs.Laws.Spelling.{IsLeast-one}
 use Rattle.bac_tag.specs.Spelling.{IsLeast}
 use Rattle.bac_tag.proofs.HeadOctetLemmas.{parts_are, headed_least, headed_rest}
@@ -21,7 +21,7 @@ use Rattle.bac_apdu.specs.declared.segment.SegHead.TheVariants.{Request, Ack}
 use Rattle.bac_apdu.specs.Apdus.{ApduValue, confirmed_request, unconfirmed_request, simple_ack, complex_ack, segment_ack, error, reject, abort, segment, head_of, SpellsServiceOf, SpellsBody as SpellsApduBody, SpellsApdu}
 use Rattle.bac_npdu_parts.specs.declared.messages.port.Port.{Port}
 use Rattle.bac_npdu_parts.specs.Messages.{MessageValue, who_is_router, i_am_router, i_could_be_router, reject_message, router_busy, router_available, init_table, init_table_ack, establish, disconnect, what_is_network_number, network_number_is, opaque, networks_of, network_or_none, ports_of, table_of, table_or_none, octets_of, SpellsMessage}
-use Rattle.bac_npdu_parts.specs.Addresses.{SourceValue, DestinationValue, address_octets, destination_octets, source_octets, hops_octets}
+use Rattle.bac_npdu_parts.specs.Addresses.{SourceValue, DestinationValue, destination_octets, source_octets, hops_octets}
 use Rattle.bac_npdu_parts.specs.Control.{ControlValue, least_of}
 use Rattle.bac_npdu_parts.specs.Frames.{FrameValue, BodyValue, apdu, message, control_of, addresses_of, SpellsBody, SpellsFrame}
 use Rattle.bac_npdu_parts.proofs.WrittenLemmas.{least_append, least_octets, least_octets_then}

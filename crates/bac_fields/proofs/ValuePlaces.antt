@@ -116,9 +116,6 @@ priority_laid of_name tag n b h = (number_roomy 1 16 (lit< tt) (Some tag) 2 n b 
 pub enumerated_roomy : (of_name : Name) (tag n : ℕ) (b : List ℕ) → EnumeratedField tag n b → Roomy (EnumeratedField tag n) (next (number_under of_name tag n) ∷ [])
 enumerated_roomy of_name tag n b h = enumerated_roomy_in 0 (2 ^ 32 - 1) (lit< tt) (Some tag) (record { 0 = n }) b of_name h
 
-pub enumerated_laid : (of_name : Name) (tag n : ℕ) (b : List ℕ) → EnumeratedField tag n b → Laid (EnumeratedField tag n) (next (number_under of_name tag n) ∷ [])
-enumerated_laid of_name tag n b h = (enumerated_roomy of_name tag n b h).laid
-
 pub boolean_laid : (of_name : Name) (tag : ℕ) (value : Bool) (b : List ℕ) → BooleanField tag value b → Laid (BooleanField tag value) (next (truth_under of_name tag value) ∷ [])
 boolean_laid of_name tag value b h =
     let bit : BooleanValue = record { 0 = value } in

@@ -1,6 +1,6 @@
 //! What the fields before the body of a frame say, and its octets (clause 6.2.2).
 
-ghost use Rattle.std.specs.Prelude.{◌≡◌, ◌≤◌, ◌<◌, ◌+◌, ◌*◌, ◌++◌, ◌∷◌, [], true, length, IfOk, IfErr, OnOk};
+ghost use Rattle.std.specs.Prelude.{◌≡◌, ◌≤◌, ◌<◌, ◌+◌, ◌*◌, ◌++◌, ◌∷◌, true, length, IfOk, IfErr, OnOk};
 ghost use Rattle.bac_tag.specs.Octets.{Extends};
 ghost use Rattle.bac_npdu_parts.specs.Addresses.{address_octets, destination_octets, source_octets, hops_octets};
 ghost use Rattle.bac_npdu_parts.specs.Control.{least_control};

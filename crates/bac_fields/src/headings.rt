@@ -1,6 +1,6 @@
 //! Heads, whose octets are in another order than the fields that say what they hold.
 
-ghost use Rattle.std.specs.Prelude.{◌≡◌, ◌++◌, ◌↔◌, ℕ, List, Bool, false, OnOk, IsTrue};
+ghost use Rattle.std.specs.Prelude.{◌≡◌, ◌++◌, ◌↔◌, List, false, OnOk};
 ghost use Rattle.bac_tag.specs.HeadOctets.{Part as OctetOf, least_head, AreParts};
 ghost use Rattle.bac_tag.specs.Octets.{Extends};
 ghost use Rattle.bac_field_parts.specs.Symbols.{Heads};

@@ -1,6 +1,6 @@
 //! The fields of open values (clause 20.2).
 
-ghost use Rattle.std.specs.Prelude.{◌∷◌, ◌++◌, []};
+ghost use Rattle.std.specs.Prelude.{◌∷◌, []};
 ghost use Rattle.bac_data.specs.Walks.{event_of, IsPackedStep};
 ghost use Rattle.bac_field_parts.specs.Fields.{Writes, next, listed_in, under_tag, opening_field, closing_field};
 ghost use Rattle.bac_field_parts.specs.OpenValueFields.{event_field, event_step, open_steps};

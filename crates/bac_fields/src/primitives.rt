@@ -1,6 +1,6 @@
 //! The fields of primitive values (clauses 20.2.2 to 20.2.14).
 
-ghost use Rattle.std.specs.Prelude.{◌≡◌, ◌∷◌, []};
+ghost use Rattle.std.specs.Prelude.{◌∷◌, []};
 ghost use Rattle.bac_value.specs.PrimRefValue.{prim_of, IsPackedRef};
 ghost use Rattle.bac_field_parts.specs.Fields.{Writes, next, under_type};
 ghost use Rattle.bac_field_parts.specs.PrimitiveFields.{boolean_field, primitive_field, text_field};

@@ -313,11 +313,6 @@ pub found_in : (names : List Name) (r : Option Name) (word : List ℕ) (n : Name
 found_in names (Some m) word n d some none a e = ap Some (one_name names m n d some.0 a (sym some.1 ∙ e))
 found_in names None word n d some none a e = absurd (none n a e)
 
--- and of names of which none has the word
-pub not_found : (names others : List Name) (r : Option Name) (word : List ℕ) (n : Name) → IsTrue (apart names others) → IfSome r (λ m. Among names m × (word ≡ word_of m)) → Among others n → word ≡ word_of n → r ≡ None
-not_found names others (Some m) word n d some a e = absurd (never_both names others m n d some.0 a (sym some.1 ∙ e))
-not_found names others None word n d some a e = refl
-
 pub number_name : (n : Name) → form_of n ≡ as_number → (n ≡ name.PortId → ⊥) → Among numbers n
 number_name n f other = elim (subst (λ (form : Form). Named form n) f (named n)) [
   | inl is ↦ absurd (other is)

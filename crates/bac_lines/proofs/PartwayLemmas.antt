@@ -1,5 +1,5 @@
 -- A line that is scanned to some place.
-use Rattle.std.specs.Prelude.{◌≡◌, ℕ, ◌+◌, ◌-◌, ◌<◌, ◌≤◌, List, [], ◌∷◌, ◌++◌, length, take, drop, Bool, true, false, IsTrue, Option, refl}
+use Rattle.std.specs.Prelude.{◌≡◌, ℕ, ◌+◌, ◌-◌, ◌<◌, ◌≤◌, List, [], ◌∷◌, ◌++◌, length, take, drop, Bool, false, IsTrue, Option, refl}
 use Rattle.std.proofs.Common.{sym, ◌∙◌, ap, subst, arith, append_assoc}
 use Rattle.std.proofs.lemmas.List.{append-nil, drop-drop, drop_all, take_all, length-drop}
 use Rattle.std.proofs.Math.Seq.{drop-append_seam}
@@ -29,9 +29,6 @@ field_symbols-append octets (x ∷ xs) ys = ap (λ (l : List Symbol). named x.na
 fields_said-append : (vs ws : List FieldValue) → fields_said (vs ++ ws) ≡ fields_said vs ++ fields_said ws
 fields_said-append [] ws = refl
 fields_said-append (v ∷ vs) ws = ap (λ (l : List Symbol). field_said v ++ l) (fields_said-append vs ws) ∙ sym (append_assoc (field_said v) (fields_said vs) (fields_said ws))
-
-pub nothing_said_yet : (said : Said) → said.fields.items ≡ [] → Holds [] said
-nothing_said_yet said e = record { are = λ tail. ap (field_symbols (said.contents.items ++ tail)) e }
 
 pub said_more : (vs : List FieldValue) (v : FieldValue) (old new : Said) → Holds vs old → Adds v old new → Holds (vs ++ v ∷ []) new
 said_more vs v old new h a = record {
@@ -75,9 +72,6 @@ pub record IsPartway (line : List ℕ) (vs : List FieldValue) (first : Bool) (ta
 -- so for each list of fields that the line may have
 abbrev pub ScansTo : List ℕ → Bool → ℕ → List Closing → Said → Type 0
 ScansTo line first taken ends said = (vs : List FieldValue) → AreTokens [] vs → line ≡ printed vs → IsPartway line vs first taken ends said
-
-pub scan_begins : (line : List ℕ) (ends : List Closing) (said : Said) → ends ≡ [] → said.fields.items ≡ [] → ScansTo line true 0 ends said
-scan_begins line ends said e f vs t l = record { done = []; rest = vs; are = refl; is_line = l; tokens = subst (λ (s : List Closing). AreTokens s vs) (sym e) t; holds = nothing_said_yet said f }
 
 -- the next field, where the line goes on
 pub record NextField (line : List ℕ) (vs : List FieldValue) (first : Bool) (taken : ℕ) (ends : List Closing) (said : Said) : Type 0 where
@@ -133,9 +127,6 @@ pub record IsScannedTo (line : List ℕ) (first : Bool) (taken : ℕ) (ends : Li
   pub tokens : (rest : List FieldValue) → AreTokens ends rest → AreTokens [] (done ++ rest)
   pub is_line : (rest : List FieldValue) → take taken line ++ printed_from first rest ≡ printed (done ++ rest)
   pub holds : Holds done said
-
-pub nothing_scanned : (line : List ℕ) (ends : List Closing) (said : Said) → ends ≡ [] → said.fields.items ≡ [] → IsScannedTo line true 0 ends said
-nothing_scanned line ends said e f = record { done = []; tokens = λ rest t. subst (λ (s : List Closing). AreTokens s rest) e t; is_line = λ rest. refl; holds = nothing_said_yet said f }
 
 pub scanned_more : (line : List ℕ) (first begin : Bool) (taken more : ℕ) (ends next : List Closing) (old new : Said) → taken ≤ length line → IsScannedTo line first taken ends old
     → Scanned first (take (length line - taken) (drop taken line)) (more, begin) ends next old new → IsScannedTo line begin (taken + more) next new

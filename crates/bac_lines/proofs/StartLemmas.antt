@@ -2,7 +2,7 @@
 use Rattle.std.specs.Prelude.{◌≡◌, ◌⊎◌, ℕ, ◌<◌, ◌^◌, List, [], ◌∷◌, ◌++◌, length, Bool, true, false, if◌then◌else◌, IsTrue, refl}
 use Rattle.std.specs.Fmt.{decimal}
 use Rattle.std.proofs.Common.{sym, ◌∙◌, ap, subst, inl, inr, arith, append_assoc}
-use Rattle.std.proofs.lemmas.Bool.{both_ways, and_parts, not-true}
+use Rattle.std.proofs.lemmas.Bool.{both_ways, and_parts}
 use Rattle.std.proofs.lemmas.Fmt.{decimal_nonempty}
 use Rattle.bac_text.specs.WalkText.{blank}
 use Rattle.bac_field_parts.specs.Fields.{FieldValue}
@@ -15,7 +15,7 @@ use Rattle.bac_field_parts.specs.declared.names.Name.{Name}
 use Rattle.bac_field_parts.specs.declared.names.Name.TheVariants as name
 use Rattle.bac_field_parts.specs.Symbols.{has_contents}
 use Rattle.bac_lines.proofs.Digits.{decimal_digits}
-use Rattle.bac_lines.proofs.WordLemmas.{word_shape, word_is, apart_numbers, no_letter, not_nil}
+use Rattle.bac_lines.proofs.WordLemmas.{word_shape, word_is, apart_numbers, not_nil}
 
 -- ---- links
 
@@ -171,29 +171,6 @@ colon_begins as_identifier v k = refl
 colon_begins as_text v k = absurd (not_colon (link_of as_text) refl k)
 colon_begins as_context v k = absurd (not_colon (link_of as_context) refl k)
 
-pub equals_sort : (form : Form) → link_of form ≡ by_equals → sort_of form ≡ by_word
-equals_sort as_word k = absurd (not_equals (link_of as_word) refl k)
-equals_sort as_number k = refl
-equals_sort as_object k = refl
-equals_sort as_octets k = refl
-equals_sort as_address k = refl
-equals_sort as_type k = absurd (not_equals (link_of as_type) refl k)
-equals_sort as_network k = absurd (not_equals (link_of as_network) refl k)
-equals_sort as_list k = absurd (not_equals (link_of as_list) refl k)
-equals_sort as_item k = absurd (not_equals (link_of as_item) refl k)
-equals_sort as_value k = absurd (not_equals (link_of as_value) refl k)
-equals_sort as_group k = absurd (not_equals (link_of as_group) refl k)
-equals_sort as_parenthesis k = absurd (not_equals (link_of as_parenthesis) refl k)
-equals_sort as_brace k = absurd (not_equals (link_of as_brace) refl k)
-equals_sort as_truth k = absurd (not_equals (link_of as_truth) refl k)
-equals_sort as_element k = absurd (not_equals (link_of as_element) refl k)
-equals_sort as_signed k = absurd (not_equals (link_of as_signed) refl k)
-equals_sort as_contents k = absurd (not_equals (link_of as_contents) refl k)
-equals_sort as_bits k = absurd (not_equals (link_of as_bits) refl k)
-equals_sort as_identifier k = absurd (not_equals (link_of as_identifier) refl k)
-equals_sort as_text k = absurd (not_equals (link_of as_text) refl k)
-equals_sort as_context k = absurd (not_equals (link_of as_context) refl k)
-
 pub colon_sort : (form : Form) → link_of form ≡ by_colon → sort_of form ≡ by_word
 colon_sort as_word k = absurd (not_colon (link_of as_word) refl k)
 colon_sort as_number k = absurd (not_colon (link_of as_number) refl k)
@@ -286,14 +263,6 @@ sort_91 by_parenthesis x e h = absurd (apart_numbers 91 40 refl (sym e ∙ h))
 sort_91 by_bracket x e h = refl
 sort_91 by_digit x e h = absurd (both_ways (is_decimal 91) refl (subst (λ (y : ℕ). IsTrue (is_decimal y)) e h))
 sort_91 by_word x e h = absurd (both_ways (is_letter 91) refl (subst (λ (y : ℕ). IsTrue (is_letter y)) e h))
-
-pub sort_digit : (sort : Sort) (x : ℕ) → IsTrue (is_decimal x) → HasSort sort x → sort ≡ by_digit
-sort_digit by_end x d (inl f) = absurd (both_ways (is_decimal 41) refl (subst (λ (y : ℕ). IsTrue (is_decimal y)) f d))
-sort_digit by_end x d (inr f) = absurd (both_ways (is_decimal 125) refl (subst (λ (y : ℕ). IsTrue (is_decimal y)) f d))
-sort_digit by_parenthesis x d h = absurd (both_ways (is_decimal 40) refl (subst (λ (y : ℕ). IsTrue (is_decimal y)) h d))
-sort_digit by_bracket x d h = absurd (both_ways (is_decimal 91) refl (subst (λ (y : ℕ). IsTrue (is_decimal y)) h d))
-sort_digit by_digit x d h = refl
-sort_digit by_word x d h = absurd (both_ways (is_letter x) (not-true (is_letter x) (no_letter x d)) h)
 
 pub sort_word : (sort : Sort) (x : ℕ) → (x ≡ 40 → ⊥) → (x ≡ 91 → ⊥) → is_decimal x ≡ false → (sort ≡ by_end → ⊥) → HasSort sort x → sort ≡ by_word
 sort_word by_end x p b d e h = absurd (e refl)

@@ -1,6 +1,6 @@
 //! Decimal numbers of a range, without leading zeros.
 
-ghost use Rattle.std.specs.Prelude.{◌≡◌, ◌≤◌, ◌<◌, ◌+◌, ◌*◌, ◌++◌, ℕ, List, length, take, drop, slice_index, IsTrue, IfOk, IfErr, IfSome, IfNone};
+ghost use Rattle.std.specs.Prelude.{◌≡◌, ◌≤◌, ◌<◌, ◌+◌, ◌*◌, ◌++◌, ℕ, List, length, take, drop, IsTrue, IfOk, IfErr, IfSome, IfNone};
 ghost use Rattle.bac_text.specs.Words.{number};
 ghost use Rattle.bac_lines.specs.Lines.{IsNear};
 ghost use Rattle.bac_lines.specs.Scanning.{clear, is_decimal};

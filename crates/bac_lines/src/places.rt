@@ -6,7 +6,7 @@
 //! can come is asked of bac_fields: it is given the fields before, and one more. So no grammar is written down here, but
 //! what a field of each form looks like.
 
-ghost use Rattle.std.specs.Prelude.{◌≡◌, ◌≤◌, ◌<◌, ◌+◌, length, IfOk, IfErr, IfSome};
+ghost use Rattle.std.specs.Prelude.{◌≡◌, ◌≤◌, ◌<◌, ◌+◌, length, IfOk, IfErr};
 
 use crate::closing::Closing;
 use crate::fault::LineFault;

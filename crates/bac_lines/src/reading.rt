@@ -1,6 +1,6 @@
 //! Reading a whole line.
 
-ghost use Rattle.std.specs.Prelude.{◌≡◌, ◌≤◌, false, length, IsTrue, IfOk, IfErr};
+ghost use Rattle.std.specs.Prelude.{◌≡◌, false, IsTrue, IfOk, IfErr};
 ghost use Rattle.bac_npdu_parts.specs.Frames.{value_of};
 ghost use Rattle.bac_text.specs.FrameText.{text};
 ghost use Rattle.bac_lines.specs.Lines.{IfStop, IsRead, IsNear, IsNoLine, IsFrame, SaysFrame};

@@ -1,7 +1,6 @@
 //! The lines of records that were refused.
 
 ghost use Rattle.std.specs.Prelude.{◌≡◌, ◌≤◌, ◌++◌, codes, length, IfOk, IfErr, List, ℕ};
-ghost use Rattle.bac_lines.specs.Lines.{IsNear};
 
 use crate::fault::LineFault;
 use crate::numbers::read_number;

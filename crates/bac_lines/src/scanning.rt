@@ -1,6 +1,6 @@
 //! Finding the fields of a line without a grammar: what a field begins with says what it is.
 
-ghost use Rattle.std.specs.Prelude.{◌≡◌, ◌≤◌, ◌<◌, ◌+◌, ◌++◌, ◌∷◌, [], ℕ, List, Bool, true, false, Some, length, IsTrue, IfOk, IfErr, IfSome};
+ghost use Rattle.std.specs.Prelude.{◌≡◌, ◌≤◌, ◌<◌, ◌+◌, ◌++◌, ◌∷◌, [], ℕ, List, true, false, Some, length, IsTrue, IfOk, IfErr, IfSome};
 ghost use Rattle.bac_field_parts.specs.Fields.{FieldValue};
 ghost use Rattle.bac_fields.specs.Line.{form_of, begins, lead, shown, printed};
 ghost use Rattle.bac_field_parts.specs.Symbols.{symbols_in, finished};

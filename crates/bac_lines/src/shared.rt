@@ -1,7 +1,6 @@
 //! How many octets a line begins with that can be the front of something.
 
-ghost use Rattle.std.specs.Prelude.{◌≤◌, length, IfErr};
-ghost use Rattle.bac_lines.specs.Lines.{IsNear};
+ghost use Rattle.std.specs.Prelude.{◌≤◌, length};
 
 use crate::fault::LineFault;
 use crate::numbers::read_number;

@@ -232,12 +232,6 @@ unfolding with_hops
 hops_are_octets None = tt
 hops_are_octets (Some s) = (omega arith, tt)
 
--- the hop count that is missing, and what it is of
-hops_wanted : (g : Option SourceValue) → is_there g ≡ true → hops_octets (with_hops g) ≡ 0 ∷ []
-unfolding with_hops
-hops_wanted None e = absurd (let i : false ≡ true = e in cc)
-hops_wanted (Some s) e = refl
-
 -- a source for either flag
 any_source : Bool → Option SourceValue
 any_source true = Some (record { network = 0; address = 0 ∷ [] })

@@ -1,7 +1,7 @@
 //! Lines, and the digits in them.
 
 ghost use Rattle.std.specs.Prelude.{◌≡◌, ◌≤◌, MatchOption, OnOk, length, take};
-ghost use Rattle.bac_pack.specs.Lines.{IsUnbroken, LF, without_blanks, without_return};
+ghost use Rattle.bac_pack.specs.Lines.{IsUnbroken, without_blanks, without_return};
 ghost use Rattle.bac_pack.specs.Packing.{EndsAt};
 
 use memchr::memchr;

@@ -1,7 +1,7 @@
 -- The first record of a file.
 use Rattle.std.proofs.Common.{◌≡◌, ℕ, ◌<◌, List, [], ◌∷◌, ◌++◌, length, refl, sym, ap, subst, ◌∙◌, append-nil, arith, Option, Some, None, Result, Ok, Err, IfOk, IfErr, MatchResult}
 use Rattle.std.specs.Option.{option_map}
-use Rattle.bac_record.specs.Records.{Records, MOST, Clean, record_of, joined, end_of}
+use Rattle.bac_record.specs.Records.{Records, Clean, record_of, joined, end_of}
 use Rattle.bac_record.specs.Records as records
 use Rattle.bac_record.specs.Transfers.{GivesRecord, StopsReading, IsFirst, IsFirstFault}
 use Rattle.bac_record.specs.declared.faults.StreamFault.{StreamFault}

@@ -71,10 +71,6 @@ plus : (i : ℕ) (o : Option ℕ) → option_map (λ j. j + i) (option_map (λ j
 plus i None = refl
 plus i (Some j) = let e : suc j + i ≡ j + (i + 1) = omega arith in ap (λ (n : ℕ). Some n) e
 
-pub place_zero : (o : Option ℕ) → o ≡ option_map (λ j. j + 0) o
-place_zero None = refl
-place_zero (Some j) = let e : j ≡ j + 0 = omega arith in ap (λ (n : ℕ). Some n) e
-
 at_index : (rs : List Reassembled) (k : Key) (i : ℕ) (r : Reassembled) (b : Bool) → i < length rs → r ≡ get_or rs i r → same_key r.key k ≡ b → place_of (drop i rs) k ≡ cond b (Some 0) (option_map (λ j. suc j) (place_of (drop (i + 1) rs) k))
 at_index rs k i r b l is e = ap (λ (t : List Reassembled). place_of t k) (drop_more rs i r l ∙ ap (λ (x : Reassembled). x ∷ drop (i + 1) rs) (sym is)) ∙ ap (λ (x : Bool). cond x (Some 0) (option_map (λ j. suc j) (place_of (drop (i + 1) rs) k))) e
 
@@ -283,14 +279,6 @@ first_large s h l = keeps_fault empty_table s TooLarge (too_large empty_table s 
 
 pub first_fits : (s : Delivery) → (s.more && eqb s.seq 255) ≡ false → length s.piece ≤ 65535 → may_add empty_table s ≡ true
 first_fits s h l = (is_new empty_table s (empty_for s).free (empty_for s).early (past_is s false h) (le-leb _ _ (omega (arith, (empty_for s).octets, l)))).0
-
-pub first_fault : (k : Key) (s : Delivery) (f : TakeFault) (new : Reassembled) → key_of k.peer s ≡ k → Takes (opened k) s (Err f) new → new ≡ opened k → Keeps empty_table s (Err f) empty_table × (f ≡ OtherKey → ⊥) × (f ≡ DeskFull → ⊥)
-first_fault k s OtherKey new is t e = absurd (t.0 is)
-first_fault k s DeskFull new is t e = absurd t
-first_fault k s OutOfMemory new is t e = ((t.1.0, refl), (λ h. let i : OutOfMemory ≡ OtherKey = h in cc), (λ h. let i : OutOfMemory ≡ DeskFull = h in cc))
-first_fault k s Conflict new is t e = ((t.1.0, sym (ap (λ (r : Reassembled). r.table) e) ∙ t.1.1), (λ h. let i : Conflict ≡ OtherKey = h in cc), (λ h. let i : Conflict ≡ DeskFull = h in cc))
-first_fault k s PastEnd new is t e = ((t.1.0, sym (ap (λ (r : Reassembled). r.table) e) ∙ t.1.1), (λ h. let i : PastEnd ≡ OtherKey = h in cc), (λ h. let i : PastEnd ≡ DeskFull = h in cc))
-first_fault k s TooLarge new is t e = ((t.1.0, sym (ap (λ (r : Reassembled). r.table) e) ∙ t.1.1), (λ h. let i : TooLarge ≡ OtherKey = h in cc), (λ h. let i : TooLarge ≡ DeskFull = h in cc))
 
 -- ---- closing
 

@@ -115,9 +115,6 @@ keeps_fault m s PastEnd j = (sym j.1, stays m s j.0)
 keeps_fault m s TooLarge j = (sym j.1, stays m s j.0)
 keeps_fault m s DeskFull j = (sym j.1, stays m s j.0)
 
-pub keeps_repeat : (m : Table) (s : Delivery) → Judges m s (Ok false) → Keeps m s (Ok Repeat) m
-keeps_repeat m s j = (sym j.1, stays m s j.0)
-
 pub keeps_new : (m : Table) (s : Delivery) (b : Bool) (taken : Taken) → Judges m s (Ok true) → b ≡ is_some (whole (with_segment m s)) → taken ≡ cond b Complete Kept → Keeps m s (Ok taken) (with_segment m s)
 keeps_new m s b taken j h is = (ap (λ (t : Taken). Ok t) is ∙ by_whole b ∙ ap (λ (x : Bool). cond x (Ok Complete) (Ok Kept)) h ∙ sym j.1, ap (λ x. cond x (with_segment m s) m) (sym j.0))
   where

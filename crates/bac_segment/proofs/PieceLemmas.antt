@@ -14,9 +14,6 @@ use Rattle.bac_segment.specs.Pieces.{all_of, are_more, AreEven, ArePieces, segme
 abbrev pub CutSoFar : CutPlan → List ℕ → List Delivery → ℕ → List ℕ → Type 0
 CutSoFar plan s ds q rest = (ps : List (List ℕ)) → ArePieces rest plan.size ps → IsCutOf plan s (ds ++ segments_from plan q ps)
 
-pub cut_none : (plan : CutPlan) (s : List ℕ) → CutSoFar plan s [] 0 s
-cut_none plan s ps h = (ps, h, refl)
-
 piece_before : (n : ℕ) (piece others : List ℕ) (ps : List (List ℕ)) → length piece ≡ n → 0 < length others → ArePieces others n ps → ArePieces (piece ++ others) n (piece ∷ ps) × (are_more ps ≡ true)
 piece_before n piece others [] l o (e, inl i) = absurd (let j : (let x : List (List ℕ) = [] in x) ≡ [] ∷ [] = i in cc)
 piece_before n piece others [] l o (e, inr i) = absurd i

@@ -1,6 +1,6 @@
 //! Services in canonical octets, which are recognised without making the service.
 
-ghost use Rattle.std.specs.Prelude.{◌≡◌, true, IsTrue};
+ghost use Rattle.std.specs.Prelude.{true, IsTrue};
 ghost use Rattle.bac_tag.specs.Spelling.{IsCanonical};
 ghost use Rattle.bac_service.specs.Services.{SpellsService};
 

@@ -4,11 +4,11 @@ use Rattle.std.proofs.lemmas.Bool.{cases_lt}
 use Rattle.std.proofs.lemmas.Bool.Decides.{nat_tests}
 use Rattle.std.proofs.lemmas.List.{take_rest}
 use Rattle.std.specs.List.{AllByRecursion, AllZip}
-use Rattle.bac_record.specs.Batches.{IsPartial, IsFront}
+use Rattle.bac_record.specs.Batches.{IsFront}
 use Rattle.bac_record.specs.Records.{BeginsRecord, IsRecord, MOST, Clean, TooMany, Truncated, end_of, joined, record_of}
 use Rattle.bac_record.proofs.Appended.{joined-append, AllByRecursion-append}
 use Rattle.bac_record.proofs.Partial.{nothing_begins_none}
-use Rattle.bac_stream.specs.Intakes.{IntakeValue, Item, IsItem, RecordsBehind, TakesIn, HasTooMany, FeedFails}
+use Rattle.bac_stream.specs.Intakes.{IntakeValue, Item, IsItem, RecordsBehind, TakesIn, FeedFails}
 use Rattle.bac_stream.specs.declared.modes.Mode.{Mode}
 use Rattle.bac_stream.specs.declared.feed_faults.FeedFault.{FeedFault}
 use Rattle.bac_stream.specs.declared.feed_faults.FeedFault.TheVariants as fault
@@ -128,19 +128,6 @@ takes_none old piece none room = record {
   ends = not_too_many old.records (old.rest ++ piece) room;
 }
 
--- More octets after the most records.
-pub fails_at_most : (mode : Mode) (before : ℕ) (octets : List ℕ) → before ≡ MOST → 0 < length octets → HasTooMany (at_record mode before) octets
-fails_at_most mode before octets is some =
-    let none : before + 0 ≡ before = omega arith in (
-      [],
-      octets,
-      record { whole = refl; each = tt; few = omega arith; partial = λ less. absurd (omega (arith, is, less)) },
-      ap (λ n. end_of n octets) none ∙ too_many before octets is some,
-    )
-
-pub nothing_partial : (octets : List ℕ) → octets ≡ [] → IsPartial octets
-nothing_partial octets is = subst IsPartial (sym is) (nothing_begins_none, omega arith)
-
 -- what stands behind the record at the front
 pub behind_record : (octets first : List ℕ) → IsFront first octets → octets ≡ record_of first ++ take (length octets - (2 + length first)) (drop (2 + length first) octets)
 behind_record octets first front =
@@ -165,15 +152,6 @@ pub fails_later : (mode : Mode) (before records : ℕ) (octets front rest : List
 fails_later mode before records octets front rest items why within splits one fails =
     subst (λ l. FeedFails (at_record mode before) l why) (sym splits) (fails_behind (at_record mode before) (at_record mode records) front rest items why within one fails)
 
--- What is behind the last whole record is held.
-pub takes_rest : (mode : Mode) (before records : ℕ) (octets front rest : List ℕ) (items : List Item) → before ≤ MOST → octets ≡ front ++ rest
-    → TakesIn (at_record mode before) front items (at_record mode records) → TakesIn (at_record mode records) rest [] (holding mode records rest)
-    → TakesIn (at_record mode before) octets items (holding mode records rest)
-takes_rest mode before records octets front rest items within splits one two =
-    subst (λ l. TakesIn (at_record mode before) l items (holding mode records rest)) (sym splits)
-    (subst (λ (l : List Item). TakesIn (at_record mode before) (front ++ rest) l (holding mode records rest)) (append-nil items)
-    (takes_more (at_record mode before) (at_record mode records) (holding mode records rest) front rest items [] within one two))
-
 -- The record held in part was completed, and what is behind it was taken in.
 pub takes_completed : (mode : Mode) (before : ℕ) (held piece front behind first : List ℕ) (item : Item) (items : List Item) (new : IntakeValue) → before < MOST → piece ≡ front ++ behind
     → IsRecord first → held ++ front ≡ record_of first → IsItem mode first item → TakesIn (at_record mode (before + 1)) behind items new
@@ -190,13 +168,6 @@ fails_completed mode before held piece front behind first item why room splits s
     subst (λ l. FeedFails (holding mode before held) l why) (sym splits)
     (fails_behind (holding mode before held) (at_record mode (before + 1)) front behind (item ∷ []) why (omega (arith, room))
     (takes_one (holding mode before held) front first item room small is given) fails)
-
--- The piece ends within the record that is held in part.
-pub keeps_piece : (mode : Mode) (records : ℕ) (held piece kept : List ℕ) → kept ≡ held ++ piece → IsPartial kept → records < MOST
-    → TakesIn (holding mode records held) piece [] (holding mode records kept)
-keeps_piece mode records held piece kept kept_is partial room =
-    subst (λ l. TakesIn (holding mode records held) piece [] (holding mode records l)) (sym kept_is)
-    (takes_none (holding mode records held) piece (subst (λ l. BeginsRecord l → ⊥) kept_is partial.0) (λ most. absurd (omega (arith, room, most))))
 
 -- Where octets are held there is room for their record.
 pub room_for_held : (records : ℕ) (held : List ℕ) → records ≤ MOST → (records ≡ MOST → held ≡ []) → 0 < length held → records < MOST

@@ -1,14 +1,11 @@
 -- The lines of show and check, and the records of normalise.
-use Rattle.std.specs.Prelude.{◌≡◌, ℕ, ◌++◌, ◌↔◌, List, length, Option, Some, None, Result, Ok, Err, IsTrue, true, false, codes}
+use Rattle.std.specs.Prelude.{◌≡◌, ℕ, ◌++◌, List, length, Option, Some, None, codes}
 use Rattle.std.specs.Fmt.{decimal}
 use Rattle.bac_tag.specs.Octets.{IsMark}
 use Rattle.bac_tag.specs.Spelling.{HasMark}
 use Rattle.bac_tag.specs.declared.refusals.Refusal.{Refusal}
 use Rattle.bac_tag.specs.Refusals.{name_of}
 use Rattle.std.specs.List.{AllByRecursion}
-use Rattle.bac_record.specs.declared.dealing.Dealt.{Dealt}
-use Rattle.bac_record.specs.declared.dealing.DealFault.{DealFault}
-use Rattle.bac_record.specs.declared.dealing.DealFault.TheVariants.{Stop, Memory}
 use Rattle.bac_record.specs.Outputs.{Outputs}
 use Rattle.bac_record.specs.Records.{record_of, joined, IsRecord}
 use Rattle.bac_npdu_parts.specs.FrameHeads.{frame_with}

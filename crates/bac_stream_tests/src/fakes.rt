@@ -1,6 +1,6 @@
 //! Devices and a job for tests.
 
-ghost use Rattle.std.specs.Prelude.{◌+◌, ◌-◌, ◌<◌, ◌^◌, ◌≡◌, ◌≤◌, None, length, ⊤, ℕ};
+ghost use Rattle.std.specs.Prelude.{◌-◌, ◌<◌, ◌≡◌, None, length, ⊤};
 
 use bac_record::{DealFault, Dealt, Device, Input, Job, Output};
 use bac_tag::{Refusal, Why};

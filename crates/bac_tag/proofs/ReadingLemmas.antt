@@ -1,5 +1,5 @@
 -- An expected head is a front and what stands behind it.
-use Rattle.std.proofs.Common.{◌≡◌, ◌≢◌, ℕ, ◌+◌, ◌-◌, ◌^◌, ◌<◌, ◌≤◌, ◌⊎◌, inl, inr, Bool, true, false, List, [], ◌∷◌, ◌++◌, length, get_or, take, drop, refl, sym, ap, subst, ◌∙◌, append-nil, take-append-drop, length-drop, arith}
+use Rattle.std.proofs.Common.{◌≡◌, ℕ, ◌+◌, ◌-◌, ◌^◌, ◌<◌, ◌≤◌, ◌⊎◌, inl, inr, Bool, true, false, List, [], ◌∷◌, ◌++◌, length, get_or, take, drop, refl, sym, ap, subst, ◌∙◌, take-append-drop, length-drop, arith}
 use Rattle.std.proofs.Math.Seq.{take-add}
 use Rattle.std.proofs.lemmas.Bool.{cases_lt, cases_eq}
 use Rattle.std.proofs.lemmas.List.{length-take-le, take_rest}
@@ -185,31 +185,6 @@ has_length e x u six seven bool = record {
   no_bool = λ p q. elim bool [ inl h ↦ h.1 q | inr h ↦ absurd (cc (sym p ∙ h)) ];
 }
 
-any_lvt : (c : Bool) (n l : ℕ) → IsUsed c n l → (c ≡ true → l ≡ 6 → ⊥) → (c ≡ true → l ≡ 7 → ⊥) → HasLvt 0 (2 ^ 32 - 1) l
-any_lvt false n l u six seven = (omega (arith, u.1), λ ne. (omega arith, omega (arith, u.1)))
-any_lvt true n l u six seven =
-    let small : l ≤ 5 = elim (cases_lt l 6) [
-      | inl lt ↦ omega arith
-      | inr ge ↦ elim (cases_eq l 6) [ inl e ↦ absurd (six refl e) | inr ne ↦ absurd (seven refl (omega (arith, u.1))) ]
-    ] in
-    (small, λ ne. (omega arith, omega arith))
-
-pub length_lvt_within : (e : Expected) (x : Front) → HasLength e x → HasLvt (least_of e) (most_of e) x.lvt
-length_lvt_within expected.AnyHead x h = any_lvt x.context x.number x.lvt h.used h.not_six h.not_seven
-length_lvt_within (expected.App m least most) x h = h.used.2
-length_lvt_within expected.AppBool x h = absurd (h.no_bool h.used.0 h.used.1)
-length_lvt_within (expected.Ctx m least most) x h = h.used.3
-length_lvt_within (expected.Open m) x h = absurd (h.not_six h.used.0 h.used.3)
-length_lvt_within (expected.Close m) x h = absurd (h.not_seven h.used.0 h.used.3)
-
-pub lengths_sound : (e : Expected) → IsSound e → least_of e ≤ most_of e
-lengths_sound expected.AnyHead s = omega arith
-lengths_sound (expected.App m least most) s = s.2
-lengths_sound expected.AppBool s = omega arith
-lengths_sound (expected.Ctx m least most) s = s.1
-lengths_sound (expected.Open m) s = omega arith
-lengths_sound (expected.Close m) s = omega arith
-
 abbrev pub head_by : Bool → ℕ → ℕ → TagHead
 head_by true number len = Ctx number len
 head_by false number len = App number len
@@ -304,76 +279,6 @@ pub found_application : (e : Expected) (x : Front) (taken len more least most : 
     → Takes (LengthWithin least most x.lvt) (take (length xs - taken) (drop taken xs)) (len, more) → Takes (ExpectedHeads e) xs (App x.number len, taken + more)
 found_application e x taken len more least most xs is s l t low high m =
     subst (λ (z : Bool). Takes (ExpectedHeads e) xs (head_by z x.number len, taken + more)) is (found_length e x taken len more least most xs s l t low high m)
-
--- a head without a length
-bare_head : (e : Expected) (x : Front) (h : TagHead) (taken : ℕ) (xs : List ℕ) → Takes (IsFront e) xs (x, taken) → IsBack e x h [] → Takes (ExpectedHeads e) xs (h, taken)
-bare_head e x h taken xs t b = record {
-  within = t.within;
-  spelled = joined_heads e (x, h) (take taken xs) (record { front = take taken xs; back = []; first = t.spelled; second = b; octets = sym (append-nil (take taken xs)) });
-}
-
-fits_open : (e : Expected) (n : ℕ) → Uses e true n 6 → Fits e (Open n)
-fits_open expected.AnyHead n u = tt
-fits_open (expected.App m least most) n u = absurd (let e : true ≡ false = u.0 in cc)
-fits_open expected.AppBool n u = absurd (let e : true ≡ false = u.0 in cc)
-fits_open (expected.Ctx m least most) n u = absurd (omega (arith, u.3.0))
-fits_open (expected.Open m) n u = u.1
-fits_open (expected.Close m) n u = absurd (omega (arith, u.3))
-
-fits_close : (e : Expected) (n : ℕ) → Uses e true n 7 → Fits e (Close n)
-fits_close expected.AnyHead n u = tt
-fits_close (expected.App m least most) n u = absurd (let e : true ≡ false = u.0 in cc)
-fits_close expected.AppBool n u = absurd (let e : true ≡ false = u.0 in cc)
-fits_close (expected.Ctx m least most) n u = absurd (omega (arith, u.3.0))
-fits_close (expected.Open m) n u = absurd (omega (arith, u.3))
-fits_close (expected.Close m) n u = u.1
-
-fits_bool : (e : Expected) (v : Bool) (l : ℕ) → IsSound e → Uses e false 1 l → Fits e (AppBool v)
-fits_bool expected.AnyHead v l s u = tt
-fits_bool (expected.App m least most) v l s u = absurd (s.1 (sym u.1))
-fits_bool expected.AppBool v l s u = tt
-fits_bool (expected.Ctx m least most) v l s u = absurd (let e : false ≡ true = u.0 in cc)
-fits_bool (expected.Open m) v l s u = absurd (let e : false ≡ true = u.0 in cc)
-fits_bool (expected.Close m) v l s u = absurd (let e : false ≡ true = u.0 in cc)
-
-found_open_at : (e : Expected) (c : Bool) (n l taken : ℕ) (xs : List ℕ) → IsSound e → c ≡ true → l ≡ 6 → Uses e c n l → Takes (IsFront e) xs (record { context = c; number = n; lvt = l }, taken) → Takes (ExpectedHeads e) xs (Open n, taken)
-found_open_at e false n l taken xs s is six u t = absurd cc
-found_open_at e true n l taken xs s is six u t =
-    bare_head e (record { context = true; number = n; lvt = l }) (Open n) taken xs t
-    (record { fits = fits_open e n (subst (λ (z : ℕ). Uses e true n z) six u); valid = (uses_used e true n l s u).0; class = refl; number = refl; ending = (six, refl) })
-
-pub found_open : (e : Expected) (x : Front) (taken : ℕ) (xs : List ℕ) → IsSound e → x.context ≡ true → x.lvt ≡ 6 → Takes (IsFront e) xs (x, taken) → Takes (ExpectedHeads e) xs (Open x.number, taken)
-found_open e x taken xs s is six t = found_open_at e x.context x.number x.lvt taken xs s is six t.spelled.used t
-
-found_close_at : (e : Expected) (c : Bool) (n l taken : ℕ) (xs : List ℕ) → IsSound e → c ≡ true → l ≡ 7 → Uses e c n l → Takes (IsFront e) xs (record { context = c; number = n; lvt = l }, taken) → Takes (ExpectedHeads e) xs (Close n, taken)
-found_close_at e false n l taken xs s is seven u t = absurd cc
-found_close_at e true n l taken xs s is seven u t =
-    bare_head e (record { context = true; number = n; lvt = l }) (Close n) taken xs t
-    (record { fits = fits_close e n (subst (λ (z : ℕ). Uses e true n z) seven u); valid = (uses_used e true n l s u).0; class = refl; number = refl; ending = (seven, refl) })
-
-pub found_close : (e : Expected) (x : Front) (taken : ℕ) (xs : List ℕ) → IsSound e → x.context ≡ true → x.lvt ≡ 7 → Takes (IsFront e) xs (x, taken) → Takes (ExpectedHeads e) xs (Close x.number, taken)
-found_close e x taken xs s is seven t = found_close_at e x.context x.number x.lvt taken xs s is seven t.spelled.used t
-
-bool_ending : (l : ℕ) (v : Bool) → l < 2 → (v ≡ true → l ≡ 1) → (v ≡ false → l ≢ 1) → Ending (AppBool v) l []
-bool_ending l false lt one zero = (omega (arith, zero refl), refl)
-bool_ending l true lt one zero = (one refl, refl)
-
-found_bool_at : (e : Expected) (c : Bool) (n l taken : ℕ) (v : Bool) (xs : List ℕ) → IsSound e → c ≡ false → n ≡ 1 → (v ≡ true → l ≡ 1) → (v ≡ false → l ≢ 1) → Uses e c n l
-    → Takes (IsFront e) xs (record { context = c; number = n; lvt = l }, taken) → Takes (ExpectedHeads e) xs (AppBool v, taken)
-found_bool_at e true n l taken v xs s is one is_one not_one u t = absurd cc
-found_bool_at e false n l taken v xs s is one is_one not_one u t =
-    bare_head e (record { context = false; number = n; lvt = l }) (AppBool v) taken xs t
-    (record {
-      fits = fits_bool e v l s (subst (λ (z : ℕ). Uses e false z l) one u);
-      valid = tt;
-      class = refl;
-      number = one;
-      ending = bool_ending l v ((uses_used e false n l s u).2 one) is_one not_one;
-    })
-
-pub found_bool : (e : Expected) (x : Front) (taken : ℕ) (v : Bool) (xs : List ℕ) → IsSound e → x.context ≡ false → x.number ≡ 1 → (v ≡ true → x.lvt ≡ 1) → (v ≡ false → x.lvt ≢ 1)
-    → Takes (IsFront e) xs (x, taken) → Takes (ExpectedHeads e) xs (AppBool v, taken)
-found_bool e x taken v xs s is one is_one not_one t = found_bool_at e x.context x.number x.lvt taken v xs s is one is_one not_one t.spelled.used t
 
 -- ---- each valid head
 

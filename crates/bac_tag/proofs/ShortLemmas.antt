@@ -1,17 +1,17 @@
 -- Heads of one octet.
 use mir.Val.{bool_byte}
-use Rattle.std.proofs.Common.{◌≡◌, ℕ, ◌+◌, ◌*◌, ◌^◌, ◌<◌, inl, inr, Bool, true, false, List, [], ◌∷◌, length, take, get_or, refl, sym, ap, ◌∙◌, length-append, arith}
+use Rattle.std.proofs.Common.{◌≡◌, ℕ, ◌+◌, ◌*◌, ◌<◌, inl, inr, Bool, true, false, List, [], ◌∷◌, length, take, get_or, refl, sym, ap, ◌∙◌, length-append, arith}
 use Rattle.std.proofs.lemmas.Bool.{cases_lt, lt-ltb, le-ltb}
 use Rattle.bac_tag.specs.declared.heads.TagHead.{TagHead}
-use Rattle.bac_tag.specs.declared.heads.TagHead.TheVariants.{App, AppBool, Ctx, Open, Close}
+use Rattle.bac_tag.specs.declared.heads.TagHead.TheVariants.{AppBool, Open, Close}
 use Rattle.bac_tag.specs.Spelling.{IsLeast}
 use Rattle.bac_tag.specs.Laws.Spelling.{IsLeast-one}
-use Rattle.bac_tag.specs.Heads.{IsValid, class_bit, number_octets, length_octets, Heads}
-use Rattle.bac_tag.specs.Laws.Heads.{head_is, length_below}
-use Rattle.bac_tag.specs.Writing.{number_form, length_form, narrow_opening, narrow_head}
+use Rattle.bac_tag.specs.Heads.{IsValid, class_bit, number_octets, Heads}
+use Rattle.bac_tag.specs.Laws.Heads.{head_is}
+use Rattle.bac_tag.specs.Writing.{number_form, narrow_opening, narrow_head}
 use Rattle.bac_tag.specs.Short.{headed, BeginsShort, BeginsWith}
 use Rattle.bac_tag.proofs.WritingLemmas.{least_app, least_bool, least_ctx, least_open, least_close}
-use Rattle.bac_tag.proofs.HeadLenLemmas.{length_of_app, length_of_ctx, length_of_open, length_of_close, least_as_short}
+use Rattle.bac_tag.proofs.HeadLenLemmas.{length_of_open, length_of_close, least_as_short}
 
 -- ---- narrow forms of one octet
 
@@ -52,40 +52,9 @@ number_in_nibble n e =
       | inr p ↦ absurd (let f : 1 + length (number_octets (number_form n) n) ≡ 2 = rw (le-ltb n 15 p) refl in omega arith)
     ]
 
-len_in_lvt : (len : ℕ) → len < 2 ^ 32 → length (length_octets (length_form len) len) ≡ 0 → len < 5
-len_in_lvt len fits e =
-    elim (cases_lt len 5) [
-      | inl p ↦ p
-      | inr p ↦ absurd (elim (cases_lt len 254) [
-        | inl q ↦ (let f : length (length_octets (length_form len) len) ≡ 1 = rw (le-ltb len 5 p, lt-ltb len 254 q) refl in omega arith)
-        | inr q ↦ elim (cases_lt len (2 ^ 16)) [
-          | inl r ↦ (let f : length (length_octets (length_form len) len) ≡ 3 = rw (le-ltb len 5 p, le-ltb len 254 q, lt-ltb len (2 ^ 16) r) refl in omega arith)
-          | inr r ↦ (let f : length (length_octets (length_form len) len) ≡ 5 = rw (le-ltb len 5 p, le-ltb len 254 q, le-ltb len (2 ^ 16) r) refl in omega arith)
-        ]
-      ])
-    ]
-
 -- the octet of a least spelling that is one octet
 octet_is : (octets : List ℕ) (o : ℕ) → 0 < length octets → take 1 octets ≡ o ∷ [] → get_or octets 0 0 ≡ o
 octet_is octets o some e = head_is _ _ [] [] (sym (first_of octets some) ∙ e)
-
-headed_begins : (c : Bool) (n len : ℕ) (octets : List ℕ) → BeginsShort (headed c n len) octets → BeginsWith (class_bit c) n len octets × (len < 5)
-headed_begins true n len octets b =
-    let fits = length_below len b.least.member.lvt b.least.member.back b.least.member.ending in
-    let long = length_of_ctx n len (take 1 octets) b.least in
-    let one = one_long octets b.some in
-    let p = number_in_nibble n (omega arith) in
-    let q = len_in_lvt len fits (omega arith) in
-    let same = IsLeast-one (Heads (Ctx n len)) (take 1 octets) (narrow_head 1 n len) b.least (least_ctx n len _ b.least.member.valid fits refl) in
-    (record { some = b.some; nibble = p; octet = octet_is octets _ b.some (same ∙ one_head 1 n len p q) }, q)
-headed_begins false n len octets b =
-    let fits = length_below len b.least.member.lvt b.least.member.back b.least.member.ending in
-    let long = length_of_app n len (take 1 octets) b.least in
-    let one = one_long octets b.some in
-    let p = number_in_nibble n (omega arith) in
-    let q = len_in_lvt len fits (omega arith) in
-    let same = IsLeast-one (Heads (App n len)) (take 1 octets) (narrow_head 0 n len) b.least (least_app n len _ b.least.member.valid fits refl) in
-    (record { some = b.some; nibble = p; octet = octet_is octets _ b.some (same ∙ one_head 0 n len p q) }, q)
 
 pub open_begins : (n : ℕ) (octets : List ℕ) → BeginsShort (Open n) octets → BeginsWith 1 n 6 octets
 open_begins n octets b =
@@ -102,11 +71,6 @@ close_begins n octets b =
     let p = number_in_nibble n (omega arith) in
     let same = IsLeast-one (Heads (Close n)) (take 1 octets) (narrow_opening 1 n 7) b.least (least_close n _ b.least.member.valid refl) in
     record { some = b.some; nibble = p; octet = octet_is octets _ b.some (same ∙ one_opening 1 n 7 p) }
-
-pub bool_begins : (v : Bool) (octets : List ℕ) → BeginsShort (AppBool v) octets → get_or octets 0 0 ≡ 16 + bool_byte v
-bool_begins v octets b =
-    let same = IsLeast-one (Heads (AppBool v)) (take 1 octets) (narrow_opening 0 1 (bool_byte v)) b.least (least_bool v _ refl) in
-    octet_is octets _ b.some (same ∙ one_opening 0 1 (bool_byte v) (omega arith))
 
 -- ---- a head of one octet is the least
 

@@ -1,6 +1,6 @@
 //! Heads that are found at once.
 
-ghost use Rattle.std.specs.Prelude.{◌≡◌, ◌↔◌, ◌<◌, ◌≤◌, IsTrue, IfSome, length, take, drop};
+ghost use Rattle.std.specs.Prelude.{◌↔◌, ◌<◌, ◌≤◌, IsTrue, IfSome, length, take, drop};
 ghost use Rattle.bac_tag.specs.Spelling.{Takes};
 ghost use Rattle.bac_tag.specs.Heads.{Heads, IsValid, Opening, LengthIn, class_bit};
 ghost use Rattle.bac_tag.specs.Short.{headed, BeginsLong};

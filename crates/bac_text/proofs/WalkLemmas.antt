@@ -4,8 +4,8 @@ use Rattle.std.specs.Prelude.{codes}
 use Rattle.bac_data.specs.OpenValue.{Element, primitive, context, group, Elements, none, more}
 use Rattle.bac_data.specs.Events.{Event, closing, element_events, events}
 use Rattle.bac_text.specs.Words.{number, field}
-use Rattle.bac_text.specs.OpenValueText.{element_text, elements_text, further_text, open_text}
-use Rattle.bac_text.specs.WalkText.{blank, event_text, begins_group, events_text}
+use Rattle.bac_text.specs.OpenValueText.{element_text, elements_text, further_text}
+use Rattle.bac_text.specs.WalkText.{blank, events_text}
 
 -- a group's text in front of another one
 regrouped : (b h w i c r : List ℕ) → b ++ (h ++ w) ++ (i ++ (c ++ r)) ≡ b ++ (h ++ (w ++ i) ++ c) ++ r
@@ -52,15 +52,3 @@ walk_joined (more e v) =
 -- its beginning
 pub walk_begins : (old out : List ℕ) (v : Elements) → out ≡ old ++ codes "{" → out ++ events_text true (events v) ≡ old ++ field "{" (elements_text v)
 walk_begins old out v e = ap (λ l. l ++ events_text true (events v)) e ∙ append_assoc old (codes "{") (events_text true (events v)) ∙ ap (λ l. old ++ (codes "{" ++ l)) (walk_joined v)
-
--- one event
-pub walk_goes_on : (whole out new : List ℕ) (first begins : Bool) (e : Event) (es rest : List Event) → out ++ events_text first es ≡ whole → es ≡ e ∷ rest → new ≡ out ++ event_text first e → begins ≡ begins_group e
-    → new ++ events_text begins rest ≡ whole
-walk_goes_on whole out new first begins e es rest p i q b =
-    ap (λ c. new ++ events_text c rest) b ∙ ap (λ l. l ++ events_text (begins_group e) rest) q ∙ append_assoc out (event_text first e) (events_text (begins_group e) rest)
-    ∙ ap (λ l. out ++ events_text first l) (sym i) ∙ p
-
--- its end
-pub walk_ends : (old out new : List ℕ) (first : Bool) (v : Elements) (es : List Event) → out ++ events_text first es ≡ old ++ field "{" (elements_text v) → es ≡ [] → new ≡ out ++ codes "}" → new ≡ old ++ open_text v
-walk_ends old out new first v es p i q =
-    q ∙ ap (λ l. l ++ codes "}") (sym (append-nil out) ∙ ap (λ l. out ++ events_text first l) (sym i) ∙ p) ∙ append_assoc old (field "{" (elements_text v)) (codes "}")

@@ -1,8 +1,8 @@
 //! The lines on standard error. They are written without memory, since there may be none.
 
-ghost use Rattle.std.specs.Prelude.{◌≡◌, ◌≤◌, ◌+◌, ◌++◌, codes, length, take};
+ghost use Rattle.std.specs.Prelude.{◌≡◌, ◌≤◌, ◌+◌, ◌++◌, length, take};
 ghost use Rattle.std.specs.Fmt.{decimal};
-ghost use Rattle.bac_tool.specs.ErrorLines.{error_line, fault_text, numbered, pack_text, record_text, run_text, stream_text, write_text};
+ghost use Rattle.bac_tool.specs.ErrorLines.{error_line, fault_text, numbered, pack_text, run_text, stream_text, write_text};
 ghost use Rattle.bac_tool.specs.Tool.{Receives};
 
 use crate::JobFault;

@@ -27,12 +27,6 @@ module _ (L : Unit {0} → List Symbol → Type 0) (First : ℕ → ℕ → Opti
   viable_nothing : IsViable L []
   viable_nothing = record { value = tt; rest = H.some.0; spelled = H.some.1 }
 
-  viable_name : (n m : ℕ) (c : Option (List ℕ)) → First n m c → IsViable L (named n ∷ [])
-  viable_name n m c f = let l = H.continues n m c f in record { value = tt; rest = numbered m ∷ containing c ∷ l.0; spelled = l.1 }
-
-  viable_number : (n m : ℕ) (c : Option (List ℕ)) → First n m c → IsViable L (named n ∷ numbered m ∷ [])
-  viable_number n m c f = let l = H.continues n m c f in record { value = tt; rest = containing c ∷ l.0; spelled = l.1 }
-
   -- the list ends
   pub stop_at_end : (rest : List Symbol) → IsStop L (finished ∷ rest) 0
   stop_at_end rest = record {
@@ -57,52 +51,6 @@ module _ (L : Unit {0} → List Symbol → Type 0) (First : ℕ → ℕ → Opti
           let whole = s.symbols in
           let same : s.name ≡ n = cc in
           never s.number s.contents (subst (λ (i : ℕ). First i s.number s.contents) same s.first);
-    };
-    short = (λ e. absurd (cc), λ e. absurd (omega arith));
-  }
-
-  -- one has the name, and none with it the number
-  pub stop_at_number : (n m k : ℕ) (d : Option (List ℕ)) (rest : List Symbol) → First n k d → ((c : Option (List ℕ)) → First n m c → ⊥) → IsStop L (named n ∷ numbered m ∷ rest) 1
-  stop_at_number n m k d rest f never = record {
-    none = λ u b more e l.
-        let s = H.starts b l in
-        let whole : named n ∷ numbered m ∷ rest ≡ field_then s.name s.number s.contents s.rest ++ more = e ∙ ap (λ (t : List Symbol). t ++ more) s.symbols in
-        let names : s.name ≡ n = cc in
-        let numbers : s.number ≡ m = cc in
-        never s.contents (subst (λ (i : ℕ). First n i s.contents) numbers (subst (λ (i : ℕ). First i s.number s.contents) names s.first));
-    furthest = record {
-      within = omega arith;
-      begins = viable_name n k d f;
-      ends = λ lt v.
-          let s = H.starts _ v.spelled in
-          let whole = s.symbols in
-          let names : s.name ≡ n = cc in
-          let numbers : s.number ≡ m = cc in
-          never s.contents (subst (λ (i : ℕ). First n i s.contents) numbers (subst (λ (i : ℕ). First i s.number s.contents) names s.first));
-    };
-    short = (λ e. absurd (cc), λ e. absurd (omega arith));
-  }
-
-  -- one has the name and the number, and none with them the contents
-  pub stop_at_contents : (n m : ℕ) (c d : Option (List ℕ)) (rest : List Symbol) → First n m d → (First n m c → ⊥) → IsStop L (field_then n m c rest) 2
-  stop_at_contents n m c d rest f never = record {
-    none = λ u b more e l.
-        let s = H.starts b l in
-        let whole : field_then n m c rest ≡ field_then s.name s.number s.contents s.rest ++ more = e ∙ ap (λ (t : List Symbol). t ++ more) s.symbols in
-        let names : s.name ≡ n = cc in
-        let numbers : s.number ≡ m = cc in
-        let contents : s.contents ≡ c = cc in
-        never (subst (λ (x : Option (List ℕ)). First n m x) contents (subst (λ (i : ℕ). First n i s.contents) numbers (subst (λ (i : ℕ). First i s.number s.contents) names s.first)));
-    furthest = record {
-      within = omega arith;
-      begins = viable_number n m d f;
-      ends = λ lt v.
-          let s = H.starts _ v.spelled in
-          let whole = s.symbols in
-          let names : s.name ≡ n = cc in
-          let numbers : s.number ≡ m = cc in
-          let contents : s.contents ≡ c = cc in
-          never (subst (λ (x : Option (List ℕ)). First n m x) contents (subst (λ (i : ℕ). First n i s.contents) numbers (subst (λ (i : ℕ). First i s.number s.contents) names s.first)));
     };
     short = (λ e. absurd (cc), λ e. absurd (omega arith));
   }

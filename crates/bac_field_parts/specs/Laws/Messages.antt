@@ -3,8 +3,7 @@ use Rattle.std.specs.Prelude.{◌≡◌, ◌↔◌, ℕ, List, [], ◌++◌, Boo
 use Rattle.std.proofs.Common.{sym, ◌∙◌, ap, subst, append_assoc}
 use Rattle.std.proofs.lemmas.List.{append-nil}
 use Rattle.bac_tag.specs.Spelling.{Joins}
-use Rattle.bac_service.specs.Laws.Least.{least_alike}
-use Rattle.bac_field_parts.specs.Symbols.{Symbol, Language, Lawful, IsStop, Made, IsMessage}
+use Rattle.bac_field_parts.specs.Symbols.{Symbol, Language, Lawful, IsStop, IsMessage}
 use Rattle.bac_field_parts.specs.Laws.Languages.{lawful_alike, stop_alike}
 
 module _ {V W : Type 0} (f : V → List Symbol) (g : W → List Symbol) (S : V → List ℕ → Type 0) (T : W → List ℕ → Type 0) (M : IsMessage f g S T) where
@@ -21,14 +20,6 @@ module _ {V W : Type 0} (f : V → List Symbol) (g : W → List Symbol) (S : V �
 
   pub message_stopped : (es : List Symbol) (p : ℕ) → IsStop (Language g T) es p → IsStop (Language f S) es p
   message_stopped es p h = stop_alike (Language g T) (Language f S) to from es p h
-
-  pub message_made : (es : List Symbol) (n : ℕ) (old new : List ℕ) → Made g T es n old new → Made f S es n old new
-  message_made es n old new m = record {
-    value = M.of_parts m.value;
-    within = m.within;
-    is_said = m.is_said ∙ sym (M.said m.value);
-    appended = record { more = m.appended.more; is_least = least_alike (M.spelled m.value) m.appended.is_least; new_is = m.appended.new_is };
-  }
 
 pub message_sound : {V W : Type 0} {f : V → List Symbol} {g : W → List Symbol} {S : V → List ℕ → Type 0} {T : W → List ℕ → Type 0} {sound : Bool} (leads : List (Option ℕ)) → IsMessage f g S T → (IsTrue sound → Lawful (Language g T) leads) → IsTrue sound → Lawful (Language f S) leads
 message_sound {f} {g} {S} {T} leads M laws h = message_lawful f g S T M leads (laws h)

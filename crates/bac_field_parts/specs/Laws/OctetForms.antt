@@ -1,5 +1,5 @@
 -- Numbers and octets without tags are made, and stand in heads.
-use Rattle.std.specs.Prelude.{◌≡◌, ℕ, ◌/◌, ◌%◌, ◌<◌, ◌≤◌, List, [], ◌∷◌, ◌++◌, length, map, refl}
+use Rattle.std.specs.Prelude.{◌≡◌, ℕ, ◌/◌, ◌%◌, ◌<◌, List, [], ◌∷◌, ◌++◌, length, map, refl}
 use Rattle.std.proofs.Common.{sym, ◌∙◌, ap, subst, arith, lit<, append_assoc}
 use Rattle.bac_tag.specs.HeadOctets.{Part, octet, Headed}
 use Rattle.bac_tag.specs.Laws.Octets.{NoGreater-same}
@@ -10,7 +10,7 @@ use Rattle.bac_service.specs.Laws.Least.{least_joined}
 use Rattle.bac_service.specs.Productions.{IsInhabited}
 use Rattle.bac_field_parts.specs.OctetForms.{IsOneOctet, AreTwoOctets, AreCounted}
 use Rattle.bac_field_parts.specs.Opaques.{AreTheOctets}
-use Rattle.bac_field_parts.specs.Symbols.{HasForm, HasContents, HasNoContents, IsNoNumber, no_octet_number}
+use Rattle.bac_field_parts.specs.Symbols.{HasContents, no_octet_number}
 use Rattle.bac_field_parts.specs.Laws.Messages.{Alike, then_alike, first_alike, second_alike, grouped_first}
 
 -- ---- the least spellings: each is the only one
@@ -27,26 +27,6 @@ counted_inhabited = record { value = []; octets = 0 ∷ []; spelled = record { f
 pub least_octet : (n : ℕ) → n < 256 → IsLeast (IsOneOctet n) (n ∷ [])
 least_octet n fits = record { member = (refl, fits); least = λ c s. NoGreater-same (n ∷ []) c (sym s.0) }
 
-pub one_octet_made : (given : ℕ) (old : List ℕ) → given < 256 → HasForm (λ n. n) IsOneOctet given old (old ++ given ∷ [])
-one_octet_made given old fits = record { value = given; is_given = refl; appended = record { more = given ∷ []; is_least = least_octet given fits; new_is = refl } }
-
-pub one_octet_none : (given : ℕ) → 256 ≤ given → IsNoNumber (λ n. n) IsOneOctet given
-one_octet_none given large v b s e = let fits = s.1 in absurd (omega (arith, fits, e, large))
-
-pub two_octets_made : (given high low : ℕ) (old : List ℕ) → given < 65536 → high ≡ given / 256 → low ≡ given % 256 → HasForm (λ n. n) AreTwoOctets given old (old ++ high ∷ low ∷ [])
-two_octets_made given high low old fits high_is low_is = record {
-  value = given;
-  is_given = refl;
-  appended = record {
-    more = given / 256 ∷ given % 256 ∷ [];
-    is_least = record { member = (refl, fits); least = λ c s. NoGreater-same (given / 256 ∷ given % 256 ∷ []) c (sym s.0) };
-    new_is = rw (high_is, low_is) refl;
-  };
-}
-
-pub two_octets_none : (given : ℕ) → 65536 ≤ given → IsNoNumber (λ n. n) AreTwoOctets given
-two_octets_none given large v b s e = let fits = s.1 in absurd (omega (arith, fits, e, large))
-
 least_octets : (octets : List ℕ) → IsOctets octets → IsLeast (AreTheOctets octets) octets
 least_octets octets are = record { member = (refl, are); least = λ c s. NoGreater-same octets c (sym s.0) }
 
@@ -61,9 +41,6 @@ counted_made held old count are few is = record {
     new_is = append_assoc old (count ∷ []) held ∙ ap (λ (n : ℕ). old ++ n ∷ held) is;
   };
 }
-
-pub counted_none : (held : List ℕ) → 256 ≤ length held → HasNoContents no_octet_number (λ v. v) AreCounted 0 held
-counted_none held many v b s n e = let few = s.first.1 in let same = ap length e in absurd (omega (arith, few, same, many))
 
 -- ---- in heads
 

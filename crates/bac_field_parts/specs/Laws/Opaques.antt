@@ -1,16 +1,13 @@
 -- Services without a production as their parts.
 use Rattle.std.specs.Prelude.{◌≡◌, ℕ, ◌<◌, Bool, true, false, Option, None, Some, List, [], ◌∷◌, ◌++◌, IsTrue, refl}
-use Rattle.std.proofs.Common.{sym, ◌∙◌, ap, lit<}
-use Rattle.bac_tag.specs.Laws.Octets.{NoGreater-same}
-use Rattle.bac_tag.specs.Octets.{IsOctets}
+use Rattle.std.proofs.Common.{lit<}
 use Rattle.bac_tag.specs.Spelling.{Joined}
 use Rattle.bac_service.specs.Productions.{IsInhabited}
-use Rattle.bac_service.specs.ServiceTable.{production_of}
 use Rattle.bac_service.specs.declared.kind.Kind.{Kind}
 use Rattle.bac_service.specs.declared.kind.Kind.TheVariants.{Confirmed, Unconfirmed, ComplexAck, Error}
 use Rattle.bac_field_parts.specs.OpaqueFields.{opaque_steps}
 use Rattle.bac_field_parts.specs.Opaques.{is_some, IsOpaqueChoice, AreTheOctets}
-use Rattle.bac_field_parts.specs.Symbols.{Symbol, finished, IsMessage, HasForm, IsNoNumber, HasContents, no_number, no_octets, number_said, contents_said, end_said, steps_said, no_octet_number}
+use Rattle.bac_field_parts.specs.Symbols.{Symbol, finished, IsMessage, no_number, no_octets, number_said, contents_said, end_said, steps_said, no_octet_number}
 use Rattle.bac_field_parts.specs.Laws.Messages.{first_part, last_part, second_alike, then_alike}
 
 -- 255 has no production
@@ -26,28 +23,6 @@ octets_inhabited = record { value = []; octets = []; spelled = (refl, tt) }
 is_none : {A : Type 0} (p : Option A) → is_some p ≡ false → p ≡ None
 is_none None e = refl
 is_none (Some a) e = absurd (cc)
-
-pub opaque_choice_made : (kind : Kind) (given : ℕ) (old : List ℕ) → given < 256 → is_some (production_of true kind given) ≡ false → HasForm (λ n. n) (IsOpaqueChoice kind) given old (old ++ given ∷ [])
-opaque_choice_made kind given old fits none = record {
-  value = given;
-  is_given = refl;
-  appended = record {
-    more = given ∷ [];
-    is_least = record { member = record { octet = refl; fits = fits; production_is = is_none _ none }; least = λ c s. NoGreater-same (given ∷ []) c (sym s.octet) };
-    new_is = refl;
-  };
-}
-
-pub opaque_choice_none : (kind : Kind) (given : ℕ) → is_some (production_of true kind given) ≡ true → IsNoNumber (λ n. n) (IsOpaqueChoice kind) given
-opaque_choice_none kind given some v b s e = let none = s.production_is in let k : is_some (production_of true kind v) ≡ true = ap (λ (n : ℕ). is_some (production_of true kind n)) e ∙ some in let l : false ≡ true = sym (ap is_some none) ∙ k in absurd (cc)
-
-pub octets_made : (held old : List ℕ) → IsOctets held → HasContents no_octet_number (λ v. v) AreTheOctets 0 held old (old ++ held)
-octets_made held old are = record {
-  value = held;
-  is_given = refl;
-  is_held = refl;
-  appended = record { more = held; is_least = record { member = (refl, are); least = λ c s. NoGreater-same held c (sym s.0) }; new_is = refl };
-}
 
 -- ---- as parts
 

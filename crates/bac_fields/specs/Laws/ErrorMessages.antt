@@ -1,5 +1,5 @@
 -- Errors as their parts.
-use Rattle.std.specs.Prelude.{◌≡◌, ℕ, ◌<◌, true, Option, None, Some, List, [], ◌∷◌, ◌++◌, refl}
+use Rattle.std.specs.Prelude.{◌≡◌, ℕ, ◌<◌, Option, None, Some, List, [], ◌∷◌, ◌++◌, refl}
 use Rattle.std.specs.Option.{option_map_or}
 use Rattle.bac_tag.specs.Spelling.{Joined, Joins}
 use Rattle.bac_tag.specs.declared.heads.TagHead.TheVariants.{Open, Close}
@@ -8,10 +8,7 @@ use Rattle.bac_value.specs.declared.types.enumeration.Enumerated.{Enumerated}
 use Rattle.bac_service.specs.Contents.{ObjectField, UnsignedField, EnumeratedPart, ApplicationEnumeratedPart, of_number}
 use Rattle.bac_service.specs.ErrorCause.{SpellsErrorCause}
 use Rattle.bac_service.specs.Productions.{Head, Optional, IsInhabited}
-use Rattle.bac_service.specs.ServiceTable.{service_error, production_of}
-use Rattle.bac_service.specs.declared.kind.Kind.TheVariants.{Error}
-use Rattle.bac_tag.specs.Laws.Octets.{NoGreater-same}
-use Rattle.std.proofs.Common.{sym, lit<}
+use Rattle.std.proofs.Common.{lit<}
 use Rattle.bac_field_parts.specs.Opaques.{IsCauseChoice}
 use Rattle.bac_service.specs.WritePropertyMultipleError.{SpellsWriteError}
 use Rattle.bac_service.specs.declared.service.error_cause.ErrorCause.{ErrorCause}
@@ -19,7 +16,7 @@ use Rattle.bac_service.specs.declared.service.write_property_multiple_error.Writ
 use Rattle.bac_field_parts.specs.PrimitiveFields.{object_number}
 use Rattle.bac_fields.specs.ServiceErrorFields.{service_error_steps}
 use Rattle.bac_fields.specs.WritePropertyMultipleFields.{write_error_steps}
-use Rattle.bac_field_parts.specs.Symbols.{Symbol, finished, IsMessage, HasForm, the_octet, the_number, no_octets, number_said, end_said, nothing_said, steps_said}
+use Rattle.bac_field_parts.specs.Symbols.{Symbol, finished, IsMessage, the_octet, the_number, no_octets, number_said, end_said, nothing_said, steps_said}
 use Rattle.bac_field_parts.specs.Laws.Messages.{Alike, last_part, second_alike, then_alike, grouped_first}
 use Rattle.bac_fields.specs.Laws.ServiceMessages.{SpellsChosen}
 
@@ -48,17 +45,6 @@ service_error_message = record {
 -- 1 is such a choice
 pub cause_choice_inhabited : IsInhabited IsCauseChoice
 cause_choice_inhabited = record { value = 1; octets = 1 ∷ []; spelled = record { octet = refl; fits = lit< tt; production_is = refl } }
-
-pub cause_choice_made : (given : ℕ) (old : List ℕ) → given < 256 → production_of true Error given ≡ Some service_error → HasForm (λ n. n) IsCauseChoice given old (old ++ given ∷ [])
-cause_choice_made given old fits is = record {
-  value = given;
-  is_given = refl;
-  appended = record {
-    more = given ∷ [];
-    is_least = record { member = record { octet = refl; fits = fits; production_is = is }; least = λ c s. NoGreater-same (given ∷ []) c (sym s.octet) };
-    new_is = refl;
-  };
-}
 
 -- ---- the error of WritePropertyMultiple: two groups, whose tags belong to no field
 

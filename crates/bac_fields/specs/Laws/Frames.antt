@@ -1,17 +1,15 @@
 -- A frame as its head and its body.
-use Rattle.std.specs.Prelude.{slice_get, nat_le, if◌then◌else◌, ◌≡◌, ◌⊎◌, ℕ, ◌+◌, ◌*◌, ◌<◌, ◌≤◌, Bool, true, false, ◌||◌, ◌==◌, IsTrue, Option, None, Some, List, [], ◌∷◌, ◌++◌, length, take, drop, map, refl}
+use Rattle.std.specs.Prelude.{slice_get, nat_le, if◌then◌else◌, ◌≡◌, ◌⊎◌, ℕ, ◌+◌, ◌*◌, ◌<◌, ◌≤◌, Bool, true, false, ◌||◌, ◌==◌, IsTrue, Option, None, Some, List, [], ◌∷◌, ◌++◌, length, take, drop, refl}
 use Rattle.std.proofs.Common.{sym, ◌∙◌, ap, subst, inl, inr, arith, zero, suc, lit<, lit≤}
 use Rattle.std.proofs.lemmas.List.{take-append-drop}
 use Rattle.std.proofs.lemmas.Bool.{both_ways, eqb-true}
-use Rattle.bac_tag.specs.HeadOctets.{Part, octet, Headed, least_head, AreParts}
 use Rattle.bac_tag.specs.Octets.{IsOctets}
 use Rattle.bac_tag.specs.Laws.Octets.{octets_append, octets_front, octets_back}
 use Rattle.bac_tag.specs.Spelling.{Joined, OneOf}
-use Rattle.bac_tag.proofs.HeadOctetLemmas.{part_spelled, parts_are, headed_rest}
 use Rattle.bac_service.specs.Productions.{Optional, IsInhabited}
 use Rattle.bac_npdu_parts.specs.Addresses.{SourceValue, DestinationValue, address_octets, destination_octets, source_octets, hops_octets, HasAddress}
 use Rattle.bac_npdu_parts.specs.Control.{least_of}
-use Rattle.bac_npdu_parts.specs.Frames.{FrameValue, BodyValue, apdu, message, SpellsBody, SpellsFrame, control_of, addresses_of}
+use Rattle.bac_npdu_parts.specs.Frames.{FrameValue, BodyValue, apdu, message, SpellsBody, SpellsFrame, control_of}
 use Rattle.bac_npdu_parts.proofs.FrameLemmas.{least_before, control_spelled}
 use Rattle.bac_apdu.specs.Apdus.{ApduValue, SpellsApdu}
 use Rattle.bac_npdu_parts.specs.Messages.{MessageValue, SpellsMessage}

@@ -1,15 +1,13 @@
 -- Network messages as their parts.
-use Rattle.std.specs.Prelude.{◌≡◌, ℕ, ◌<◌, nat_le, Bool, true, false, Option, None, Some, List, [], ◌∷◌, ◌++◌, length, refl}
+use Rattle.std.specs.Prelude.{◌≡◌, ℕ, ◌<◌, Bool, true, false, Option, None, Some, List, [], ◌∷◌, ◌++◌, length, refl}
 use Rattle.std.specs.List.{flat_map}
 use Rattle.std.specs.Option.{option_map, option_map_or}
-use Rattle.std.proofs.Common.{sym, ◌∙◌, ap, lit<, append_assoc}
+use Rattle.std.proofs.Common.{◌∙◌, ap, lit<, append_assoc}
 use Rattle.bac_tag.specs.HeadOctets.{Part, octet, Headed}
-use Rattle.bac_tag.specs.Laws.Octets.{NoGreater-same}
 use Rattle.bac_tag.specs.Spelling.{Joins, Joined}
 use Rattle.bac_npdu_parts.specs.Addresses.{two_octets, counted}
 use Rattle.bac_npdu_parts.specs.declared.messages.port.Port.{Port}
 use Rattle.bac_npdu_parts.specs.Messages.{networks_of, network_or_none, ports_of, table_of, table_or_none}
-use Rattle.bac_npdu_parts.specs.MessageTypes.{is_typed}
 use Rattle.bac_service.specs.Productions.{Items, Optional, IsInhabited}
 use Rattle.bac_field_parts.specs.declared.names.Name.{Name}
 use Rattle.bac_field_parts.specs.declared.names.Name.TheVariants as name
@@ -19,7 +17,7 @@ use Rattle.bac_fields.specs.MessageSymbols.{who_is, reject, table, table_ack, di
 use Rattle.bac_field_parts.specs.Names.{number_of}
 use Rattle.bac_field_parts.specs.OctetForms.{IsOneOctet, AreTwoOctets, AreCounted}
 use Rattle.bac_field_parts.specs.Opaques.{AreTheOctets}
-use Rattle.bac_field_parts.specs.Symbols.{Symbol, finished, IsMessage, Language, Lawful, HasForm, the_octet, the_number, no_number, no_octet_number, no_octets, number_said, contents_said, end_said, steps_said}
+use Rattle.bac_field_parts.specs.Symbols.{Symbol, finished, IsMessage, Language, Lawful, the_octet, the_number, no_number, no_octet_number, no_octets, number_said, contents_said, end_said, steps_said}
 use Rattle.bac_field_parts.specs.Tables.{SpellsTable}
 use Rattle.bac_fields.specs.Laws.Items.{one, word_law, and_then}
 use Rattle.bac_field_parts.specs.Laws.Leaves.{held_lawful}
@@ -303,14 +301,3 @@ vendored_message = record { of_parts = λ w. (w.0, (w.1.0, w.1.1.0)); parts_of =
 pub opaque_type_inhabited : (has_vendor : Bool) → IsInhabited (IsOpaqueType has_vendor)
 opaque_type_inhabited true = record { value = 255; octets = 255 ∷ []; spelled = record { octet = refl; fits = lit< tt; untyped = refl; vendor = refl } }
 opaque_type_inhabited false = record { value = 10; octets = 10 ∷ []; spelled = record { octet = refl; fits = lit< tt; untyped = refl; vendor = refl } }
-
-pub opaque_type_made : (has_vendor : Bool) (given : ℕ) (old : List ℕ) → given < 256 → is_typed given ≡ false → nat_le 128 given ≡ has_vendor → HasForm (λ n. n) (IsOpaqueType has_vendor) given old (old ++ given ∷ [])
-opaque_type_made has_vendor given old fits untyped vendor = record {
-  value = given;
-  is_given = refl;
-  appended = record {
-    more = given ∷ [];
-    is_least = record { member = record { octet = refl; fits = fits; untyped = untyped; vendor = vendor }; least = λ c s. NoGreater-same (given ∷ []) c (sym s.octet) };
-    new_is = refl;
-  };
-}

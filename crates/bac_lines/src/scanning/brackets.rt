@@ -1,6 +1,6 @@
 //! Fields that begin with a bracket or a digit, and ends.
 
-ghost use Rattle.std.specs.Prelude.{◌≡◌, ◌≤◌, ◌<◌, ◌+◌, ◌++◌, ◌∷◌, [], ℕ, List, Bool, true, false, Some, length, take, slice_get, IsTrue, IfOk, IfErr, IfSome};
+ghost use Rattle.std.specs.Prelude.{◌≡◌, ◌≤◌, ◌<◌, ◌+◌, ◌++◌, ◌∷◌, [], ℕ, List, true, false, Some, length, take, slice_get, IsTrue, IfOk, IfErr, IfSome};
 ghost use Rattle.bac_record.specs.Digits.{hexadecimal};
 ghost use Rattle.bac_text.specs.Words.{number};
 ghost use Rattle.bac_field_parts.specs.Names.{number_of};

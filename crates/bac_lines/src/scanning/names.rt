@@ -1,6 +1,6 @@
 //! The names that words of a line are.
 
-ghost use Rattle.std.specs.Prelude.{◌≡◌, ◌↔◌, IsTrue, IfSome, IfNone, Some, List};
+ghost use Rattle.std.specs.Prelude.{◌≡◌, ◌↔◌, IsTrue, IfSome, IfNone, Some};
 ghost use Rattle.bac_field_parts.specs.declared.names.Name.{Name};
 ghost use Rattle.bac_field_parts.specs.Names.{word_of};
 ghost use Rattle.bac_fields.specs.Line.{form_of, as_number};

@@ -1,7 +1,7 @@
 //! Fields that begin with a word.
 
-ghost use Rattle.std.specs.Prelude.{◌≡◌, ◌⊎◌, ◌≤◌, ◌<◌, ◌+◌, ◌++◌, ◌∷◌, [], ℕ, List, Bool, true, false, Some, length, take, IsTrue, IfOk, IfErr, IfSome};
-ghost use Rattle.bac_field_parts.specs.Names.{number_of, word_of};
+ghost use Rattle.std.specs.Prelude.{◌≡◌, ◌⊎◌, ◌≤◌, ◌<◌, ◌+◌, ◌++◌, ◌∷◌, ℕ, List, true, false, Some, length, take, IsTrue, IfOk, IfErr, IfSome};
+ghost use Rattle.bac_field_parts.specs.Names.{word_of};
 ghost use Rattle.bac_field_parts.specs.Fields.{FieldValue};
 ghost use Rattle.bac_fields.specs.Line.{form_of, begins, shown, as_word, as_truth, as_type, as_list, as_value, as_text};
 ghost use Rattle.bac_lines.specs.declared.closing.Closing.{Closing};

@@ -174,9 +174,6 @@ negsuc_from_half n octets h =
 
 -- ---- the laws
 
-pub signed_once : (y z : ℤ) (octets : List ℕ) → SignedContents y octets → SignedContents z octets → y ≡ z
-signed_once y z octets p q = sym p.is ∙ q.is
-
 pub signed_only_values : (z : ℤ) (octets : List ℕ) → SignedContents z octets → FitsSigned w64 z
 signed_only_values (pos n) octets h = record { sfits = half_fits n octets (half_from_pos n octets h) }
 signed_only_values (negsuc n) octets h = record { sfits = half_fits n (complement octets) (half_from_negsuc n octets h) }

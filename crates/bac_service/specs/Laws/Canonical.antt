@@ -2,7 +2,6 @@
 use Rattle.std.specs.Prelude.{◌≡◌, ℕ, ◌+◌, ◌-◌, ◌≤◌, ◌<◌, List, [], ◌∷◌, ◌++◌, length, take, drop, Bool, true, false, ◌&&◌, not, IsTrue, Option, None, Some, IfSome, refl}
 use Rattle.std.specs.Option.{is_some, unwrap_or}
 use Rattle.std.proofs.Common.{sym, subst, inl, inr, arith, length-drop}
-use Rattle.std.proofs.lemmas.List.{take_all}
 use Rattle.bac_tag.specs.declared.heads.TagHead.TheVariants.{Open, Close}
 use Rattle.bac_tag.specs.Octets.{IsOctets}
 use Rattle.bac_tag.specs.Laws.Octets.{NoGreater-same}
@@ -75,9 +74,6 @@ canonical_shrink {S} {os} {cs} {e} a law sound input {p} {n} long L =
     omega (arith, some, rest, long, length-drop p input)
 
 -- ---- services
-
-pub canonical_whole : {V : Type 0} {S : V → List ℕ → Type 0} {input : List ℕ} {n : ℕ} → n ≡ length input → TakesLeast S input n → IsCanonical S input
-canonical_whole {S} {input} {n} e L = (L.value, subst (IsLeast (S L.value)) (take_all n input (omega (arith, e))) L.least)
 
 -- the canonical octets of what a service says are its own
 pub canonical_service : {V : Type 0} {S : V → List ℕ → Type 0} (k : Kind) (c : ℕ) {b : List ℕ} → IsServiceOf S k c → IsCanonical S b → IsCanonical (SpellsService true 32 k c) b

@@ -11,7 +11,7 @@ use Rattle.bac_tag.specs.Laws.Octets.{NoGreater-append, mark-append, mark_first,
 use Rattle.bac_tag.specs.declared.refusals.Why.TheVariants.{Short}
 use Rattle.bac_tag.specs.Spelling.{EndsItself, IsLeast, IsFurthest, IsRefusal, Takes, JoinedBy, HasMark, AppendsLeast}
 use Rattle.bac_tag.specs.Laws.Spelling.{refused_first, refused_second, refused_alike}
-use Rattle.bac_tag.specs.Heads.{Heads, IsValid}
+use Rattle.bac_tag.specs.Heads.{Heads}
 use Rattle.bac_tag.specs.Laws.Heads.{heads_end}
 use Rattle.bac_tag.specs.Expected.{Fits, ExpectedHeads}
 use Rattle.bac_tag.proofs.WritingLemmas.{some_least, app_grows, ctx_grows}
@@ -46,10 +46,6 @@ heading_fits None app s l len p q = (refl, p, q)
 heading_length : (c : Option ℕ) (app m n : ℕ) → heading c app m ≡ heading c app n → m ≡ n
 heading_length (Some k) app m n e = cc
 heading_length None app m n e = cc
-
-pub heading_valid : (c : Option ℕ) (app len : ℕ) → IsHeading c app → IsValid (heading c app len)
-heading_valid (Some n) app len h = h
-heading_valid None app len h = h
 
 -- the least spelling of each head
 pub heading_least : (c : Option ℕ) (app len : ℕ) → IsHeading c app → len < 2 ^ 32 → (b : List ℕ) × IsLeast (Heads (heading c app len)) b

@@ -1,9 +1,8 @@
 -- Each value that is spelled has a least spelling, part by part.
 use Rattle.std.specs.Prelude.{◌≤◌, ℕ, List, [], ◌∷◌, ◌++◌, length, Option, None, Some}
 use Rattle.std.proofs.Common.{inl, inr, subst, arith}
-use Rattle.bac_tag.specs.declared.heads.TagHead.{TagHead}
 use Rattle.bac_tag.specs.declared.heads.TagHead.TheVariants.{Open, Close}
-use Rattle.bac_tag.specs.Heads.{IsValid, LengthFits}
+use Rattle.bac_tag.specs.Heads.{IsValid}
 use Rattle.bac_tag.specs.Octets.{NoGreater}
 use Rattle.bac_tag.specs.Spelling.{Joined, OneOf}
 use Rattle.bac_tag.proofs.WritingLemmas.{some_least}
@@ -12,7 +11,7 @@ use Rattle.bac_data.proofs.ValueLemmas.{least_open_value}
 use Rattle.bac_service.specs.Fields.{heading, IsHeading, IsField}
 use Rattle.bac_service.specs.Laws.Field.{heading_least, least_field}
 use Rattle.bac_service.specs.Laws.Least.{least_joined, least_alike, least_nothing}
-use Rattle.bac_service.specs.Productions.{Optional, Items, Grouped, IsRecordOf, HasLeast, Head}
+use Rattle.bac_service.specs.Productions.{Optional, Items, Grouped, IsRecordOf, HasLeast}
 
 is_heading : (c : Option ℕ) (app len : ℕ) → IsValid (heading c app len) → IsHeading c app
 is_heading (Some n) app len h = h

@@ -83,8 +83,7 @@ impl Record for CovNotification {
 }
 
 impl Said for CovNotification {
-    ghost use Rattle.std.specs.Prelude.{refl};
-    ghost use Rattle.std.proofs.Common.{lit<, sym};
+    ghost use Rattle.std.proofs.Common.{sym};
     ghost use Rattle.bac_service.specs.Laws.Service.{notification_fits, notification_production};
     ghost use Rattle.bac_service.specs.declared.service.Service.TheVariants as held;
 

@@ -128,15 +128,6 @@ pub mark_by : (a b : List ℕ) (m : Option ℕ) → length a ≡ length b → If
 mark_by a b None long none some = none
 mark_by a b (Some place) long none some = mark_as_long a b place long some
 
--- where two lists differ first is no place behind both
-pub difference_below : (a b : List ℕ) (place n : ℕ) → length a ≤ n → length b ≤ n → FirstDifference a b place → place < n
-difference_below a b place n p q d = elim (cases_lt place n) [
-  | inl lt ↦ lt
-  | inr le ↦
-      (let same : a ≡ b = sym (take_all place a (omega arith)) ∙ d.before ∙ take_all place b (omega arith) in
-      absurd (d.differ (ap (λ (l : List ℕ). slice_get l place) same)))
-]
-
 -- a mark within the first of two parts is one of the whole
 pub mark_first : (a b c d : List ℕ) (place : ℕ) → IsMark a c (Some place) → IsMark (a ++ b) (c ++ d) (Some place)
 mark_first a b c d place h = (
