@@ -7,7 +7,7 @@ use Rattle.bac_tag.specs.declared.refusals.Why.{Why}
 use Rattle.bac_tag.specs.declared.refusals.Why.TheVariants.{Short, Trailing, PduType, Window, OutOfMemory}
 use Rattle.bac_tag.specs.Spelling.{IsViable}
 use Rattle.bac_data.specs.Refusals.{IsItemReason}
-use Rattle.bac_service.specs.Reasons.{IsServiceReason}
+use Rattle.bac_productions.specs.Reasons.{IsServiceReason}
 use Rattle.bac_tag.specs.HeadOctets.{bit_of, IsWindow}
 use Rattle.bac_apdu.specs.FirstOctet.{HeadRow, rows, row_among, has_seg, window_of, type_at, seg_at, head_size, window_place, HasType, HasSeg, HasGoodWindow}
 use Rattle.bac_apdu.specs.Apdus.{reject, SpellsApdu}

@@ -6,10 +6,10 @@ use Rattle.bac_tag.specs.declared.refusals.Why.TheVariants.{Trailing, PduType, W
 use Rattle.bac_tag.specs.Octets.{IsMark, joined_mark}
 use Rattle.bac_tag.specs.Refusals.{behind}
 use Rattle.bac_tag.specs.Spelling.{HasMark, IsWholeRefusal}
+use Rattle.bac_productions.specs.Reasons.{IsServiceReason}
 use Rattle.bac_service.specs.declared.kind.Kind.{Kind}
 use Rattle.bac_service.specs.declared.kind.Kind.TheVariants.{Confirmed, Unconfirmed, ComplexAck, Error}
 use Rattle.bac_service.specs.declared.service.Service.{Service}
-use Rattle.bac_service.specs.Reasons.{IsServiceReason}
 use Rattle.bac_service.specs.ServiceTable.{is_small as is_small_service}
 use Rattle.bac_service.specs.Services.{ServiceValue, value_of as service_of, SpellsService}
 use Rattle.bac_apdu.specs.FirstOctet.{Behind, a_service, a_piece, nothing, HeadRow, row_of, type_at, seg_at, IsTypePlace, IsWindowPlace}

@@ -1,7 +1,7 @@
 -- Lists whose number of items an octet before them says.
 use Rattle.std.specs.Prelude.{ℕ, List, length}
 use Rattle.bac_tag.specs.Spelling.{Joins, Joined}
-use Rattle.bac_service.specs.Productions.{Items}
+use Rattle.bac_productions.specs.Productions.{Items}
 use Rattle.bac_field_parts.specs.OctetForms.{IsOneOctet}
 
 -- the octet with the number of the items, the items, and what comes after them

@@ -2,8 +2,8 @@
 
 ghost use Rattle.std.specs.Prelude.{nat_le};
 ghost use Rattle.bac_tag.specs.declared.heads.TagHead.TheVariants as tag;
-ghost use Rattle.bac_service.specs.Productions.{Head};
-ghost use Rattle.bac_service.specs.Laws.Tag.{opening_inhabited, closing_inhabited};
+ghost use Rattle.bac_productions.specs.Productions.{Head};
+ghost use Rattle.bac_productions.specs.Laws.Tag.{opening_inhabited, closing_inhabited};
 ghost use Rattle.bac_field_parts.specs.Symbols.{the_number};
 
 use crate::forms::Form;

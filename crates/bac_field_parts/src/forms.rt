@@ -2,7 +2,7 @@
 
 ghost use Rattle.std.specs.Prelude.{None, IfSome, IfNone, ◌≡◌, ◌∷◌, [], ◌&&◌, ℕ, List, Bool, true, false, not, Some, IsTrue, IfOk};
 ghost use Rattle.bac_tag.specs.Octets.{Extends};
-ghost use Rattle.bac_service.specs.Productions.{IsInhabited};
+ghost use Rattle.bac_productions.specs.Productions.{IsInhabited};
 ghost use Rattle.bac_field_parts.specs.declared.names.Name.{Name};
 ghost use Rattle.bac_field_parts.specs.Names.{number_of};
 ghost use Rattle.bac_field_parts.specs.Symbols.{has_contents, contents_in, number_said, contents_said, HasForm, HasContents, HasNoContents, IsNumber, IsNoNumber};

@@ -5,8 +5,8 @@ ghost use Rattle.std.specs.Option.{option_map_or};
 ghost use Rattle.std.specs.List.{flat_map};
 ghost use Rattle.bac_tag.specs.Octets.{Extends};
 ghost use Rattle.bac_tag.specs.Spelling.{Joined, OneOf};
+ghost use Rattle.bac_productions.specs.Productions.{Optional, Items};
 ghost use Rattle.bac_field_parts.specs.Symbols.{Symbol, Language, Lawful, IsStop, has, disjoint, symbols_in, taken_symbols, Made, IfStop, lead_in, behind};
-ghost use Rattle.bac_service.specs.Productions.{Optional, Items};
 ghost use Rattle.bac_field_parts.specs.Laws.Parts.{either_said, pair_sound, maybe_sound, either_sound, list_sound};
 ghost use Rattle.bac_field_parts.specs.Laws.Leaves.{end_lawful, nothing_inhabited};
 

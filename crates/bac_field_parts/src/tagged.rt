@@ -3,8 +3,8 @@
 ghost use Rattle.std.specs.Prelude.{◌++◌, ◌∷◌, ◌&&◌, [], true, None, nat_le};
 ghost use Rattle.bac_tag.specs.declared.heads.TagHead.TheVariants as tag;
 ghost use Rattle.bac_tag.specs.Spelling.{Joined};
-ghost use Rattle.bac_service.specs.Laws.Tag.{closing_inhabited};
-ghost use Rattle.bac_service.specs.Productions.{Head};
+ghost use Rattle.bac_productions.specs.Laws.Tag.{closing_inhabited};
+ghost use Rattle.bac_productions.specs.Productions.{Head};
 ghost use Rattle.bac_field_parts.specs.Symbols.{end_said, nothing_said, is_edge};
 ghost use Rattle.bac_field_parts.specs.Laws.Leaves.{end_lawful};
 ghost use Rattle.bac_field_parts.specs.Laws.Tagged.{after_sound};

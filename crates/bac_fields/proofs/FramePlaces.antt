@@ -11,10 +11,10 @@ use Rattle.bac_tag.specs.HeadOctets.{typed, limits, octet, bit_of, least_part, l
 use Rattle.bac_tag.specs.Laws.Spelling.{IsLeast-one}
 use Rattle.bac_tag.specs.Spelling.{IsLeast}
 use Rattle.bac_tag.proofs.HeadOctetLemmas.{parts_are, headed_least, headed_rest}
+use Rattle.bac_productions.specs.Laws.Least.{least_nothing}
 use Rattle.bac_service.specs.declared.kind.Kind.{Kind}
 use Rattle.bac_service.specs.declared.kind.Kind.TheVariants as kind
 use Rattle.bac_service.specs.Services.{ServiceValue}
-use Rattle.bac_service.specs.Laws.Least.{least_nothing}
 use Rattle.bac_apdu.specs.declared.confirmed_request.RequestHead.{RequestHead}
 use Rattle.bac_apdu.specs.declared.segment.SegHead.{SegHead}
 use Rattle.bac_apdu.specs.declared.segment.SegHead.TheVariants.{Request, Ack}

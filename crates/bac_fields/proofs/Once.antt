@@ -7,7 +7,7 @@ use Rattle.std.proofs.lemmas.Bool.Decides.{nat_tests}
 use Rattle.std.proofs.lemmas.List.{append_cancel_left}
 use Rattle.bac_tag.specs.Spelling.{Joined, OneOf}
 use Rattle.bac_tag.specs.declared.heads.TagHead.{TagHead}
-use Rattle.bac_service.specs.Productions.{Head, Optional, Items}
+use Rattle.bac_productions.specs.Productions.{Head, Optional, Items}
 use Rattle.bac_field_parts.specs.Symbols.{Symbol, named, numbered, containing, finished, has, disjoint, Opens, IsMessage, number_said, contents_said, end_said, nothing_said}
 use Rattle.bac_field_parts.specs.Laws.Languages.{opens_apart, opens_left, opens_right, opens_more}
 use Rattle.bac_field_parts.specs.Laws.Parts.{pair_said, maybe_said, list_said, either_said}

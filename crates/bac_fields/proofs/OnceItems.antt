@@ -6,10 +6,10 @@ use Rattle.bac_value.specs.Identifier.{IsIdentifier, identifier_octets}
 use Rattle.bac_value.specs.Primitives.{IsTheList}
 use Rattle.bac_value.specs.declared.types.boolean_value.Boolean.{Boolean as BooleanType}
 use Rattle.bac_value.specs.declared.types.enumeration.Enumerated.{Enumerated}
+use Rattle.bac_productions.specs.Fields.{IsField}
+use Rattle.bac_productions.specs.Contents.{of_number}
+use Rattle.bac_productions.specs.Productions.{Grouped}
 use Rattle.bac_service.specs.ErrorCause.{SpellsErrorCause}
-use Rattle.bac_service.specs.Fields.{IsField}
-use Rattle.bac_service.specs.Contents.{of_number}
-use Rattle.bac_service.specs.Productions.{Grouped}
 use Rattle.bac_service.specs.PropertyReference.{SpellsPropertyReference}
 use Rattle.bac_service.specs.PropertyResult.{SpellsPropertyResult}
 use Rattle.bac_service.specs.PropertyValue.{SpellsPropertyValue}

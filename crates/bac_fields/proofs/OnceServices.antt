@@ -1,9 +1,9 @@
 -- The fields of a service tell it.
 use Rattle.std.specs.Prelude.{◌≡◌, ℕ, ◌*◌, nat_eq, cond, true, Option, Some, None, List, [], ◌∷◌, ◌++◌, drop, refl}
 use Rattle.std.proofs.Common.{sym, ◌∙◌, ap, subst}
+use Rattle.bac_productions.specs.Productions.{Items}
 use Rattle.bac_service.specs.CovNotification.{SpellsNotification}
 use Rattle.bac_service.specs.IAm.{SpellsIAm}
-use Rattle.bac_service.specs.Productions.{Items}
 use Rattle.bac_service.specs.ReadAccessResult.{SpellsAccessResult}
 use Rattle.bac_service.specs.ReadAccessSpecification.{SpellsSpecification}
 use Rattle.bac_service.specs.ReadProperty.{SpellsReadProperty}

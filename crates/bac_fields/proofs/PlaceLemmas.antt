@@ -7,7 +7,7 @@ use Rattle.std.proofs.lemmas.List.{length-append, take-append-drop, get_or-appen
 use Rattle.std.proofs.Math.ListN.{get_or-append}
 use Rattle.std.proofs.Math.Seq.{take-append_seam, drop-append_seam}
 use Rattle.bac_tag.specs.Spelling.{IsLeast, Joins}
-use Rattle.bac_service.specs.Laws.Least.{least_joined}
+use Rattle.bac_productions.specs.Laws.Least.{least_joined}
 use Rattle.bac_field_parts.specs.declared.names.Name.{Name}
 use Rattle.bac_field_parts.specs.declared.field.Field.{Field}
 use Rattle.bac_field_parts.specs.Fields.{FieldValue, Step, next, aside, pass, size_of, fields_of, placed, field_at, held_at, room_with, Fits}

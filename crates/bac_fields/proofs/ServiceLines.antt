@@ -9,6 +9,7 @@ use Rattle.bac_record.specs.Digits.{hexadecimal}
 use Rattle.bac_data.specs.OpenValue.{Elements}
 use Rattle.bac_data.specs.Spells.{SpellsOpen}
 use Rattle.bac_data.proofs.ValueLemmas.{open_value_only}
+use Rattle.bac_productions.specs.Productions.{Items, Optional, Grouped}
 use Rattle.bac_service.specs.declared.kind.Kind.{Kind}
 use Rattle.bac_service.specs.declared.kind.Kind.TheVariants as kind
 use Rattle.bac_service.specs.declared.service.error_cause.ErrorCause.{ErrorCause}
@@ -28,7 +29,6 @@ use Rattle.bac_service.specs.ReadAccessSpecification.{Specification, SpellsSpeci
 use Rattle.bac_service.specs.ReadAccessResult.{AccessResult, SpellsAccessResult}
 use Rattle.bac_service.specs.WriteAccessSpecification.{WriteSpecification, SpellsWriteSpecification}
 use Rattle.bac_service.specs.CovNotification.{Notification, SpellsNotification}
-use Rattle.bac_service.specs.Productions.{Items, Optional, Grouped}
 use Rattle.bac_service.specs.PropertyReference.{SpellsPropertyReference}
 use Rattle.bac_service.specs.PropertyValue.{SpellsPropertyValue}
 use Rattle.bac_service.specs.PropertyResult.{SpellsReadResult, SpellsPropertyResult}

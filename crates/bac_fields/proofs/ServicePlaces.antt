@@ -9,6 +9,9 @@ use Rattle.bac_tag.specs.Laws.Octets.{NoGreater-same}
 use Rattle.bac_tag.specs.Spelling.{IsLeast, Joins, Joined}
 use Rattle.bac_tag.proofs.WritingLemmas.{least_open as least_opening, least_close as least_closing}
 use Rattle.bac_value.specs.Identifier.{Identifier}
+use Rattle.bac_productions.specs.Productions.{Items, Optional, Grouped}
+use Rattle.bac_productions.specs.Contents.{EnumeratedField, UnsignedField, InstanceField, PriorityField, BooleanField}
+use Rattle.bac_productions.specs.Laws.Least.{least_joined, least_nothing}
 use Rattle.bac_service.specs.declared.kind.Kind.{Kind}
 use Rattle.bac_service.specs.declared.kind.Kind.TheVariants as kind
 use Rattle.bac_service.specs.declared.service.error_cause.ErrorCause.{ErrorCause}
@@ -21,8 +24,6 @@ use Rattle.bac_service.specs.declared.service.write_property_multiple_error.Writ
 use Rattle.bac_service.specs.ReadAccessSpecification.{Specification, SpellsSpecification}
 use Rattle.bac_service.specs.ReadAccessResult.{AccessResult, SpellsAccessResult}
 use Rattle.bac_service.specs.WriteAccessSpecification.{WriteSpecification, SpellsWriteSpecification}
-use Rattle.bac_service.specs.Productions.{Items, Optional, Grouped}
-use Rattle.bac_service.specs.Contents.{EnumeratedField, UnsignedField, InstanceField, PriorityField, BooleanField}
 use Rattle.bac_service.specs.ObjectProperty.{SpellsObjectProperty}
 use Rattle.bac_service.specs.ErrorCause.{SpellsErrorCause}
 use Rattle.bac_service.specs.PropertyReference.{SpellsPropertyReference}
@@ -30,7 +31,6 @@ use Rattle.bac_service.specs.PropertyValue.{SpellsPropertyValue}
 use Rattle.bac_service.specs.PropertyResult.{SpellsReadResult, SpellsPropertyResult}
 use Rattle.bac_service.specs.ServiceTable.{ServiceProduction, read_property, read_property_ack, read_property_multiple, read_property_multiple_ack, write_property, write_property_multiple, write_property_multiple_error, who_is, i_am, subscribe_cov, cov_notification, service_error, rows, production_of}
 use Rattle.bac_service.specs.Services.{SaidBy, Said, ServiceValue, SpellsBy, SpellsSaid, SpellsService}
-use Rattle.bac_service.specs.Laws.Least.{least_joined, least_nothing}
 use Rattle.bac_field_parts.specs.declared.names.Name.{Name}
 use Rattle.bac_field_parts.specs.declared.names.Name.TheVariants as name
 use Rattle.bac_field_parts.specs.Fields.{FieldValue, Step, next, pass, word, octet_field, octets_field, optional, item_steps, opening_field, closing_field, listed_in}

@@ -30,10 +30,10 @@ use Rattle.bac_data.specs.Events.{Event, application, contextual, opening, closi
 use Rattle.bac_data.proofs.ValueLemmas.{open_value_only}
 use Rattle.bac_data.proofs.LeastLemmas.{least_open, least_whole}
 use Rattle.bac_data.proofs.EventLeastLemmas.{least_contents, least_boolean_of, least_context}
-use Rattle.bac_service.specs.Fields.{heading, IsField}
-use Rattle.bac_service.specs.Contents.{ObjectField, EnumeratedField, UnsignedField, InstanceField, PriorityField, BooleanField, ApplicationObject, ApplicationUnsigned, ApplicationEnumerated, ApplicationUnsigned16}
-use Rattle.bac_service.specs.Laws.Least.{least_nothing}
-use Rattle.bac_service.specs.Laws.Field.{least_field}
+use Rattle.bac_productions.specs.Fields.{heading, IsField}
+use Rattle.bac_productions.specs.Contents.{ObjectField, EnumeratedField, UnsignedField, InstanceField, PriorityField, BooleanField, ApplicationObject, ApplicationUnsigned, ApplicationEnumerated, ApplicationUnsigned16}
+use Rattle.bac_productions.specs.Laws.Least.{least_nothing}
+use Rattle.bac_productions.specs.Laws.Field.{least_field}
 use Rattle.bac_field_parts.specs.declared.names.Name.{Name}
 use Rattle.bac_field_parts.specs.declared.names.Name.TheVariants as name
 use Rattle.bac_field_parts.specs.Fields.{FieldValue, next, opening_field, closing_field}

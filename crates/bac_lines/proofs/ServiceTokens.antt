@@ -4,6 +4,8 @@ use Rattle.std.specs.List.{flat_map}
 use Rattle.std.specs.Option.{option_map_or}
 use Rattle.std.proofs.Common.{ℕ, ◌-◌, ◌<◌, ◌≤◌, ◌^◌, Bool, true, List, [], ◌∷◌, ◌++◌, refl, arith}
 use Rattle.bac_value.specs.Identifier.{Identifier}
+use Rattle.bac_productions.specs.Contents.{ObjectField, EnumeratedField, UnsignedField, PriorityField, BooleanField, ApplicationEnumerated}
+use Rattle.bac_productions.specs.Productions.{Items, Optional, Grouped}
 use Rattle.bac_service.specs.declared.kind.Kind.{Kind}
 use Rattle.bac_service.specs.declared.kind.Kind.TheVariants as kind
 use Rattle.bac_service.specs.declared.service.error_cause.ErrorCause.{ErrorCause}
@@ -23,8 +25,6 @@ use Rattle.bac_service.specs.ReadAccessSpecification.{Specification, SpellsSpeci
 use Rattle.bac_service.specs.ReadAccessResult.{AccessResult, SpellsAccessResult}
 use Rattle.bac_service.specs.WriteAccessSpecification.{WriteSpecification, SpellsWriteSpecification}
 use Rattle.bac_service.specs.CovNotification.{Notification, SpellsNotification}
-use Rattle.bac_service.specs.Contents.{ObjectField, EnumeratedField, UnsignedField, PriorityField, BooleanField, ApplicationEnumerated}
-use Rattle.bac_service.specs.Productions.{Items, Optional, Grouped}
 use Rattle.bac_service.specs.PropertyReference.{SpellsPropertyReference}
 use Rattle.bac_service.specs.PropertyValue.{SpellsPropertyValue}
 use Rattle.bac_service.specs.PropertyResult.{SpellsReadResult, SpellsPropertyResult}

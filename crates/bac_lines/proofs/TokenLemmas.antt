@@ -5,7 +5,7 @@ use Rattle.std.proofs.Common.{◌≡◌, ℕ, ◌+◌, ◌<◌, ◌^◌, Bool, t
 use Rattle.bac_tag.specs.Octets.{IsOctets}
 use Rattle.bac_tag.specs.Laws.Octets.{octets_take, octets_drop, octets_below}
 use Rattle.bac_value.specs.Identifier.{Identifier, IsIdentifier}
-use Rattle.bac_service.specs.Productions.{Items, Optional}
+use Rattle.bac_productions.specs.Productions.{Items, Optional}
 use Rattle.bac_field_parts.specs.declared.names.Name.{Name}
 use Rattle.bac_field_parts.specs.declared.names.Name.TheVariants as name
 use Rattle.bac_field_parts.specs.Fields.{FieldValue, Step, next, aside, pass, size_of, fields_of, word, held_field, item_steps, optional}

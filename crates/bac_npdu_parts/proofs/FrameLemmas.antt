@@ -6,7 +6,7 @@ use Rattle.bac_tag.specs.Laws.Octets.{NoGreater-append, NoGreater-same, one_no_g
 use Rattle.bac_tag.specs.Spelling.{IsLeast, AppendsLeast}
 use Rattle.bac_tag.specs.HeadOctets.{bit_of, least_head}
 use Rattle.bac_tag.proofs.HeadOctetLemmas.{headed_least}
-use Rattle.bac_service.specs.Laws.Least.{extends_more}
+use Rattle.bac_productions.specs.Laws.Least.{extends_more}
 use Rattle.bac_service.specs.Laws.Service.{octets_held}
 use Rattle.bac_npdu_parts.specs.Addresses.{HasAddress}
 use Rattle.bac_npdu_parts.specs.Messages.{MessageValue, octets_of, IsMessage, SpellsMessage}

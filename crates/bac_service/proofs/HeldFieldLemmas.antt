@@ -18,10 +18,10 @@ use Rattle.bac_value.specs.BooleanContents.{IsBoolean, boolean_octets}
 use Rattle.bac_data.specs.OpenValue.{Elements}
 use Rattle.bac_data.specs.Spells.{SpellsOpen}
 use Rattle.bac_data.proofs.ValueLemmas.{open_value_spelled}
-use Rattle.bac_service.specs.Fields.{heading, IsHeading, IsField}
-use Rattle.bac_service.specs.Contents.{ObjectField, EnumeratedField, UnsignedField, InstanceField, PriorityField, BooleanField, ApplicationObject, ApplicationEnumerated}
-use Rattle.bac_service.specs.Productions.{Optional, Items, Grouped}
-use Rattle.bac_service.specs.Laws.Field.{heading_least}
+use Rattle.bac_productions.specs.Fields.{heading, IsHeading, IsField}
+use Rattle.bac_productions.specs.Contents.{ObjectField, EnumeratedField, UnsignedField, InstanceField, PriorityField, BooleanField, ApplicationObject, ApplicationEnumerated}
+use Rattle.bac_productions.specs.Productions.{Optional, Items, Grouped}
+use Rattle.bac_productions.specs.Laws.Field.{heading_least}
 use Rattle.bac_value.specs.declared.types.enumeration.Enumerated.{Enumerated}
 use Rattle.bac_value.specs.contracts.types.priority.Priority as priority_row
 use Rattle.bac_service.proofs.HeldParts.{some_known, object_known, instance_known, priority_known, any_known, index_known}

@@ -1,5 +1,4 @@
 mod WideningLemmas
-pub mod LongHeadLemmas
 pub mod SameLemmas
 pub mod HeldParts
 pub mod HeldValueLemmas

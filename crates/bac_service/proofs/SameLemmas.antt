@@ -14,6 +14,8 @@ use Rattle.bac_data.specs.OpenValue.{Elements, AreElements}
 use Rattle.bac_data.specs.Spells.{SpellsOpen}
 use Rattle.bac_data.specs.Same.{same_values}
 use Rattle.bac_data.specs.Laws.Same.{same_values_tell}
+use Rattle.bac_productions.specs.Productions.{Optional, Items, Grouped, IsRecordOf}
+use Rattle.bac_productions.specs.Contents.{EnumeratedField, UnsignedField}
 use Rattle.bac_service.specs.declared.kind.Kind.{Kind}
 use Rattle.bac_service.specs.declared.service.property_result.ReadResult.TheVariants.{Value, Error}
 use Rattle.bac_service.specs.declared.service.read_property_multiple.ReadAccessSpecification.{ReadAccessSpecification}
@@ -22,8 +24,6 @@ use Rattle.bac_service.specs.declared.service.write_property_multiple.WriteAcces
 use Rattle.bac_service.specs.declared.service.cov_notification.CovNotification.{CovNotification}
 use Rattle.bac_service.specs.ErrorValues.{ErrorValue}
 use Rattle.bac_service.specs.declared.service.Service.{Service}
-use Rattle.bac_service.specs.Productions.{Optional, Items, Grouped, IsRecordOf}
-use Rattle.bac_service.specs.Contents.{EnumeratedField, UnsignedField}
 use Rattle.bac_service.specs.PropertyValue.{SpellsPropertyValue, property_value_parts}
 use Rattle.bac_service.specs.PropertyResult.{SpellsReadResult, SpellsPropertyResult}
 use Rattle.bac_service.specs.ReadPropertyAck.{SpellsReadPropertyAck, read_property_ack_parts}

@@ -18,8 +18,8 @@ use Rattle.bac_tag.specs.Spelling.{Joined}
 use Rattle.bac_value.specs.Identifier.{Identifier}
 use Rattle.bac_value.specs.contracts.types.instance.Instance as instance_row
 use Rattle.bac_value.specs.contracts.types.priority.Priority as priority_row
-use Rattle.bac_service.specs.Contents.{InstanceField}
-use Rattle.bac_service.specs.Productions.{Optional, Items, Grouped}
+use Rattle.bac_productions.specs.Contents.{InstanceField}
+use Rattle.bac_productions.specs.Productions.{Optional, Items, Grouped}
 use Rattle.bac_service.specs.ObjectProperty.{SpellsObjectProperty}
 use Rattle.bac_service.specs.PropertyReference.{SpellsPropertyReference}
 use Rattle.bac_service.specs.PropertyValue.{SpellsPropertyValue}

@@ -4,6 +4,8 @@ use Rattle.std.specs.Map.{lookup}
 use Rattle.std.proofs.Common.{◌∙◌, ap, arith}
 use Rattle.bac_tag.specs.Spelling.{Joined}
 use Rattle.bac_data.specs.Spells.{SpellsOpen}
+use Rattle.bac_productions.specs.Contents.{ObjectField, EnumeratedField, UnsignedField, PriorityField}
+use Rattle.bac_productions.specs.Productions.{Optional, Items, Grouped}
 use Rattle.bac_service.specs.declared.kind.Kind.{Kind}
 use Rattle.bac_service.specs.declared.service.read_property_ack.ReadPropertyAck.{ReadPropertyAck}
 use Rattle.bac_service.specs.declared.service.write_property.WriteProperty.{WriteProperty}
@@ -11,8 +13,6 @@ use Rattle.bac_service.specs.declared.service.property_value.PropertyValue.{Prop
 use Rattle.bac_service.specs.declared.service.property_result.ReadResult.{ReadResult}
 use Rattle.bac_service.specs.declared.service.property_result.ReadResult.TheVariants as result
 use Rattle.bac_service.specs.declared.service.property_result.PropertyResult.{PropertyResult}
-use Rattle.bac_service.specs.Contents.{ObjectField, EnumeratedField, UnsignedField, PriorityField}
-use Rattle.bac_service.specs.Productions.{Optional, Items, Grouped}
 use Rattle.bac_service.specs.ObjectProperty.{SpellsObjectProperty}
 use Rattle.bac_service.specs.ReadPropertyAck.{SpellsReadPropertyAck}
 use Rattle.bac_service.specs.WriteProperty.{SpellsWriteProperty}

@@ -2,11 +2,11 @@
 use Rattle.std.specs.Prelude.{ℕ, List, refl}
 use Rattle.bac_tag.specs.Spelling.{Joins, Joined}
 use Rattle.bac_value.specs.Identifier.{Identifier}
+use Rattle.bac_productions.specs.Contents.{ObjectField, UnsignedField}
+use Rattle.bac_productions.specs.Productions.{Items, Grouped, IsRecordOf}
 use Rattle.bac_service.specs.declared.service.property_value.PropertyValue.{PropertyValue}
 use Rattle.bac_service.specs.declared.service.cov_notification.CovNotification.{CovNotification}
-use Rattle.bac_service.specs.Contents.{ObjectField, UnsignedField}
 use Rattle.bac_service.specs.PropertyValue.{SpellsPropertyValue}
-use Rattle.bac_service.specs.Productions.{Items, Grouped, IsRecordOf}
 
 -- what a notification says
 pub record Notification : Type 0 where

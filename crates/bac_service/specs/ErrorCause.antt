@@ -1,9 +1,9 @@
 -- Error (clause 21): the class and the code, under their application tags.
 use Rattle.std.specs.Prelude.{ℕ, List, refl}
 use Rattle.bac_tag.specs.Spelling.{Joins, Joined}
+use Rattle.bac_productions.specs.Contents.{ApplicationEnumerated, ApplicationEnumeratedPart, of_number}
+use Rattle.bac_productions.specs.Productions.{IsRecordOf}
 use Rattle.bac_service.specs.declared.service.error_cause.ErrorCause.{ErrorCause}
-use Rattle.bac_service.specs.Contents.{ApplicationEnumerated, ApplicationEnumeratedPart, of_number}
-use Rattle.bac_service.specs.Productions.{IsRecordOf}
 
 abbrev pub SpellsErrorCause : ErrorCause → List ℕ → Type 0
 SpellsErrorCause cause = Joins (ApplicationEnumerated cause.class) (ApplicationEnumerated cause.code)

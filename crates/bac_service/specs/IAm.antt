@@ -1,9 +1,9 @@
 -- I-Am (clause 21): the device, the largest APDU that it takes, its segmentation and its vendor, each under the application tag of its type.
 use Rattle.std.specs.Prelude.{ℕ, List, refl}
 use Rattle.bac_tag.specs.Spelling.{Joins, Joined}
+use Rattle.bac_productions.specs.Contents.{ApplicationObject, ApplicationUnsigned, ApplicationEnumerated, ApplicationUnsigned16, ApplicationEnumeratedPart, of_number}
+use Rattle.bac_productions.specs.Productions.{IsRecordOf}
 use Rattle.bac_service.specs.declared.service.i_am.IAm.{IAm}
-use Rattle.bac_service.specs.Contents.{ApplicationObject, ApplicationUnsigned, ApplicationEnumerated, ApplicationUnsigned16, ApplicationEnumeratedPart, of_number}
-use Rattle.bac_service.specs.Productions.{IsRecordOf}
 
 abbrev pub SpellsIAm : IAm → List ℕ → Type 0
 SpellsIAm request =

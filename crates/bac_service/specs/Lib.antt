@@ -1,10 +1,3 @@
-pub mod Leads
-pub mod Collisions
-pub mod Productions
-pub mod ReadFaults
-pub mod Reasons
-pub mod Fields
-pub mod Contents
 pub mod ObjectProperty
 pub mod ReadProperty
 pub mod ErrorCause

@@ -3,8 +3,8 @@ use Rattle.std.specs.Prelude.{ℕ, List, Option}
 use Rattle.bac_tag.specs.Spelling.{Joined}
 use Rattle.bac_value.specs.Identifier.{Identifier}
 use Rattle.bac_value.specs.declared.types.enumeration.Enumerated.{Enumerated}
-use Rattle.bac_service.specs.Contents.{ObjectField, EnumeratedField, UnsignedField, EnumeratedPart}
-use Rattle.bac_service.specs.Productions.{Optional}
+use Rattle.bac_productions.specs.Contents.{ObjectField, EnumeratedField, UnsignedField, EnumeratedPart}
+use Rattle.bac_productions.specs.Productions.{Optional}
 
 -- the object, the property, the index
 abbrev pub ObjectProperty : Type 0

@@ -1,9 +1,9 @@
 -- References to properties (clause 21): [0] the property, [1] the index, which may be absent.
 use Rattle.std.specs.Prelude.{ℕ, List, refl}
 use Rattle.bac_tag.specs.Spelling.{Joins, Joined}
+use Rattle.bac_productions.specs.Contents.{EnumeratedField, UnsignedField, EnumeratedPart, of_number}
+use Rattle.bac_productions.specs.Productions.{Optional, IsRecordOf}
 use Rattle.bac_service.specs.declared.service.property_reference.PropertyReference.{PropertyReference}
-use Rattle.bac_service.specs.Contents.{EnumeratedField, UnsignedField, EnumeratedPart, of_number}
-use Rattle.bac_service.specs.Productions.{Optional, IsRecordOf}
 
 abbrev pub SpellsPropertyReference : PropertyReference → List ℕ → Type 0
 SpellsPropertyReference reference = Joins (EnumeratedField 0 reference.property) (Optional (UnsignedField 1) reference.index)

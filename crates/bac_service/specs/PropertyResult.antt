@@ -4,13 +4,13 @@ use Rattle.std.proofs.Common.{inl, inr}
 use Rattle.bac_tag.specs.Spelling.{Joins}
 use Rattle.bac_data.specs.OpenValue.{Elements}
 use Rattle.bac_data.specs.Spells.{SpellsOpen}
+use Rattle.bac_productions.specs.Contents.{EnumeratedField, UnsignedField}
+use Rattle.bac_productions.specs.Productions.{Optional, Grouped}
 use Rattle.bac_service.specs.declared.service.error_cause.ErrorCause.{ErrorCause}
 use Rattle.bac_service.specs.declared.service.property_result.ReadResult.{ReadResult}
 use Rattle.bac_service.specs.declared.service.property_result.ReadResult.TheVariants.{Value, Error}
 use Rattle.bac_service.specs.declared.service.property_result.PropertyResult.{PropertyResult}
-use Rattle.bac_service.specs.Contents.{EnumeratedField, UnsignedField}
 use Rattle.bac_service.specs.ErrorCause.{SpellsErrorCause}
-use Rattle.bac_service.specs.Productions.{Optional, Grouped}
 
 abbrev pub SpellsReadResult : ℕ → ReadResult → List ℕ → Type 0
 SpellsReadResult groups (Value value) = SpellsOpen groups 4 value

@@ -2,9 +2,9 @@
 use Rattle.std.specs.Prelude.{ℕ, List, refl}
 use Rattle.bac_tag.specs.Spelling.{Joins, Joined}
 use Rattle.bac_data.specs.Spells.{SpellsOpen}
+use Rattle.bac_productions.specs.Contents.{EnumeratedField, UnsignedField, PriorityField, EnumeratedPart, of_number}
+use Rattle.bac_productions.specs.Productions.{Optional, IsRecordOf}
 use Rattle.bac_service.specs.declared.service.property_value.PropertyValue.{PropertyValue}
-use Rattle.bac_service.specs.Contents.{EnumeratedField, UnsignedField, PriorityField, EnumeratedPart, of_number}
-use Rattle.bac_service.specs.Productions.{Optional, IsRecordOf}
 
 abbrev pub SpellsPropertyValue : ℕ → PropertyValue → List ℕ → Type 0
 SpellsPropertyValue groups value =

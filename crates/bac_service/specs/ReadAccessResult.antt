@@ -3,11 +3,11 @@ use Rattle.std.specs.Prelude.{ℕ, List, Option, refl}
 use Rattle.std.specs.Option.{option_map}
 use Rattle.bac_tag.specs.Spelling.{Joins, Joined}
 use Rattle.bac_value.specs.Identifier.{Identifier}
+use Rattle.bac_productions.specs.Contents.{ObjectField}
+use Rattle.bac_productions.specs.Productions.{Optional, Items, Grouped, IsRecordOf}
 use Rattle.bac_service.specs.declared.service.property_result.PropertyResult.{PropertyResult}
 use Rattle.bac_service.specs.declared.service.read_property_multiple_ack.ReadAccessResult.{ReadAccessResult}
-use Rattle.bac_service.specs.Contents.{ObjectField}
 use Rattle.bac_service.specs.PropertyResult.{SpellsPropertyResult}
-use Rattle.bac_service.specs.Productions.{Optional, Items, Grouped, IsRecordOf}
 
 -- an object and what its properties gave
 pub record AccessResult : Type 0 where

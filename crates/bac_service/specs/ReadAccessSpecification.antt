@@ -2,11 +2,11 @@
 use Rattle.std.specs.Prelude.{ℕ, List, refl}
 use Rattle.bac_tag.specs.Spelling.{Joins, Joined}
 use Rattle.bac_value.specs.Identifier.{Identifier}
+use Rattle.bac_productions.specs.Contents.{ObjectField}
+use Rattle.bac_productions.specs.Productions.{Items, Grouped, IsRecordOf}
 use Rattle.bac_service.specs.declared.service.property_reference.PropertyReference.{PropertyReference}
 use Rattle.bac_service.specs.declared.service.read_property_multiple.ReadAccessSpecification.{ReadAccessSpecification}
-use Rattle.bac_service.specs.Contents.{ObjectField}
 use Rattle.bac_service.specs.PropertyReference.{SpellsPropertyReference}
-use Rattle.bac_service.specs.Productions.{Items, Grouped, IsRecordOf}
 
 -- an object and references to its properties
 pub record Specification : Type 0 where

@@ -1,9 +1,9 @@
 -- ReadProperty (clause 21): a reference to a property of an object.
 use Rattle.std.specs.Prelude.{ℕ, List, refl}
+use Rattle.bac_productions.specs.Productions.{IsRecordOf}
+use Rattle.bac_productions.specs.Contents.{of_number}
 use Rattle.bac_service.specs.declared.service.read_property.ReadProperty.{ReadProperty}
 use Rattle.bac_service.specs.ObjectProperty.{SpellsObjectProperty, ObjectPropertyParts}
-use Rattle.bac_service.specs.Productions.{IsRecordOf}
-use Rattle.bac_service.specs.Contents.{of_number}
 
 abbrev pub SpellsReadProperty : ReadProperty → List ℕ → Type 0
 SpellsReadProperty request = SpellsObjectProperty (request.object, (request.property, request.index))

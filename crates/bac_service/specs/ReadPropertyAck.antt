@@ -2,10 +2,10 @@
 use Rattle.std.specs.Prelude.{ℕ, List, refl}
 use Rattle.bac_tag.specs.Spelling.{Joins, Joined}
 use Rattle.bac_data.specs.Spells.{SpellsOpen}
+use Rattle.bac_productions.specs.Productions.{IsRecordOf}
+use Rattle.bac_productions.specs.Contents.{of_number}
 use Rattle.bac_service.specs.declared.service.read_property_ack.ReadPropertyAck.{ReadPropertyAck}
 use Rattle.bac_service.specs.ObjectProperty.{SpellsObjectProperty, ObjectPropertyParts}
-use Rattle.bac_service.specs.Productions.{IsRecordOf}
-use Rattle.bac_service.specs.Contents.{of_number}
 
 abbrev pub SpellsReadPropertyAck : ℕ → ReadPropertyAck → List ℕ → Type 0
 SpellsReadPropertyAck groups ack = Joins (SpellsObjectProperty (ack.object, (ack.property, ack.index))) (SpellsOpen groups 3 ack.value)

@@ -1,6 +1,7 @@
 -- Services, as values, and the lists that spell one of a kind and a choice (clause 21).
 use Rattle.std.specs.Prelude.{ℕ, Bool, true, false, Option, None, Some, List, map, ◌≡◌, ◌↔◌, ◌<◌}
 use Rattle.bac_tag.specs.Octets.{IsOctets}
+use Rattle.bac_productions.specs.Productions.{Items}
 use Rattle.bac_service.specs.declared.kind.Kind.{Kind}
 use Rattle.bac_service.specs.declared.kind.Kind.TheVariants as kind
 use Rattle.bac_service.specs.declared.service.Service.{Service}
@@ -18,7 +19,6 @@ use Rattle.bac_service.specs.ReadAccessResult.{AccessResult, access_result_of, S
 use Rattle.bac_service.specs.WriteAccessSpecification.{WriteSpecification, write_specification_of, SpellsWriteSpecification}
 use Rattle.bac_service.specs.CovNotification.{Notification, notification_of, SpellsNotification}
 use Rattle.bac_service.specs.ServiceTable.{ServiceProduction, read_property, read_property_ack, read_property_multiple, read_property_multiple_ack, write_property, write_property_multiple, write_property_multiple_error, who_is, i_am, subscribe_cov, cov_notification, service_error, production_of}
-use Rattle.bac_service.specs.Productions.{Items}
 use Rattle.bac_service.specs.ReadProperty.{SpellsReadProperty}
 use Rattle.bac_service.specs.ReadPropertyAck.{SpellsReadPropertyAck}
 use Rattle.bac_service.specs.WriteProperty.{SpellsWriteProperty}

@@ -1,9 +1,9 @@
 -- SubscribeCOV (clause 21): [0] the process, [1] the object, [2] whether notifications are confirmed, [3] the lifetime; the last two may be absent.
 use Rattle.std.specs.Prelude.{ℕ, List}
 use Rattle.bac_tag.specs.Spelling.{Joins}
+use Rattle.bac_productions.specs.Contents.{UnsignedField, ObjectField, BooleanField}
+use Rattle.bac_productions.specs.Productions.{Optional}
 use Rattle.bac_service.specs.declared.service.subscribe_cov.SubscribeCov.{SubscribeCov}
-use Rattle.bac_service.specs.Contents.{UnsignedField, ObjectField, BooleanField}
-use Rattle.bac_service.specs.Productions.{Optional}
 
 abbrev pub SpellsSubscribeCov : SubscribeCov → List ℕ → Type 0
 SpellsSubscribeCov request =

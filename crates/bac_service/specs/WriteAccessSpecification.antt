@@ -2,11 +2,11 @@
 use Rattle.std.specs.Prelude.{ℕ, List, refl}
 use Rattle.bac_tag.specs.Spelling.{Joins, Joined}
 use Rattle.bac_value.specs.Identifier.{Identifier}
+use Rattle.bac_productions.specs.Contents.{ObjectField}
+use Rattle.bac_productions.specs.Productions.{Items, Grouped, IsRecordOf}
 use Rattle.bac_service.specs.declared.service.property_value.PropertyValue.{PropertyValue}
 use Rattle.bac_service.specs.declared.service.write_property_multiple.WriteAccessSpecification.{WriteAccessSpecification}
-use Rattle.bac_service.specs.Contents.{ObjectField}
 use Rattle.bac_service.specs.PropertyValue.{SpellsPropertyValue}
-use Rattle.bac_service.specs.Productions.{Items, Grouped, IsRecordOf}
 
 -- an object and values of its properties
 pub record WriteSpecification : Type 0 where

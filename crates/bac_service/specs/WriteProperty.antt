@@ -2,10 +2,10 @@
 use Rattle.std.specs.Prelude.{ℕ, List, refl}
 use Rattle.bac_tag.specs.Spelling.{Joins, Joined}
 use Rattle.bac_data.specs.Spells.{SpellsOpen}
+use Rattle.bac_productions.specs.Contents.{PriorityField, of_number}
+use Rattle.bac_productions.specs.Productions.{Optional, IsRecordOf}
 use Rattle.bac_service.specs.declared.service.write_property.WriteProperty.{WriteProperty}
-use Rattle.bac_service.specs.Contents.{PriorityField, of_number}
 use Rattle.bac_service.specs.ObjectProperty.{SpellsObjectProperty, ObjectPropertyParts}
-use Rattle.bac_service.specs.Productions.{Optional, IsRecordOf}
 
 abbrev pub SpellsWriteProperty : ℕ → WriteProperty → List ℕ → Type 0
 SpellsWriteProperty groups request =

@@ -2,26 +2,20 @@
 
 ghost use Rattle.std.specs.Prelude.{◌≡◌, ◌↔◌, ◌⊎◌, ◌<◌, ℕ, List, [], true, false, IsTrue, IsNone};
 ghost use Rattle.bac_tag.specs.Octets.{IsOctets};
-ghost use Rattle.bac_tag.specs.Spelling.{IsLeast, IsViable, IsPartway, OneOf, Joined};
+ghost use Rattle.bac_tag.specs.Spelling.{IsLeast, IsViable, IsPartway};
 ghost use Rattle.bac_data.specs.Spells.{SpellsOpen};
+ghost use Rattle.bac_productions.specs.Productions.{Grouped};
+ghost use Rattle.bac_productions.specs.Contents.{ApplicationEnumerated};
 ghost use Rattle.bac_service.specs.declared.kind.Kind.{Kind};
-ghost use Rattle.bac_service.specs.Productions.{Grouped, IsWellSpelled};
-ghost use Rattle.bac_service.specs.Contents.{ApplicationEnumerated};
 ghost use Rattle.bac_service.specs.ErrorCause.{SpellsErrorCause};
 ghost use Rattle.bac_service.specs.PropertyResult.{SpellsReadResult};
 ghost use Rattle.bac_service.specs.ServiceTable.{IsUnchanged};
 ghost use Rattle.bac_service.specs.Services.{ServiceValue, opaque, value_of, SpellsService, IsPlaced};
 
-use crate::production::Production;
-use crate::production::field::ApplicationField;
 use crate::service::{Service, productions_are_well_spelled};
+use bac_productions::field::ApplicationField;
+use bac_productions::laws::joined_parts_are_viable_in_turn;
 use bac_value::Enumerated;
-
-/// Some value of a part is spelled, no list spells two, and each value that is spelled has a least spelling.
-pub(crate) fn parts_are_well_spelled<P: Production>()
-    requires { P.collisions ≡ [] }
-    ensures { IsWellSpelled P.spells }
-{}
 
 /// Each service that is spelled has canonical octets.
 pub fn services_have_canonical_octets()
@@ -104,15 +98,3 @@ pub fn causes_are_viable_in_turn()
 {
     joined_parts_are_viable_in_turn::<ApplicationField<Enumerated>, ApplicationField<Enumerated>>();
 }
-
-/// A list begins a spelling of one part or another exactly where it begins a spelling of either.
-pub(crate) fn choices_are_viable_in_a_case<A: Production, B: Production>()
-    ensures { (b : List ℕ) → IsViable (OneOf A.spells B.spells) b ↔ (IsViable A.spells b ⊎ IsViable B.spells b) }
-{}
-
-/// A list begins a spelling of two parts joined exactly where it begins a spelling of the first, or is a spelling of
-/// the first with the beginning of a spelling of the second after it.
-pub(crate) fn joined_parts_are_viable_in_turn<A: Production, B: Production>()
-    requires { IsTrue B.is_sound }
-    ensures { (b : List ℕ) → IsViable (Joined A.spells B.spells) b ↔ (IsViable A.spells b ⊎ IsPartway A.spells (λ _. B.spells) b) }
-{}

@@ -1,24 +1,24 @@
 //! Decoding the services, by the way in which a kind and a choice name them.
 
 ghost use Rattle.std.specs.Prelude.{◌≡◌, ◌↔◌, map, ℕ, List, [], true, false, IsTrue, IsNone, Some};
+ghost use Rattle.bac_productions.specs.Collisions.{of_list};
+ghost use Rattle.bac_productions.specs.Productions.{Items};
 ghost use Rattle.bac_service.specs.declared.kind.Kind.{Kind};
 ghost use Rattle.bac_service.specs.declared.kind.Kind.TheVariants.{Error};
-ghost use Rattle.bac_service.specs.Collisions.{of_list};
-ghost use Rattle.bac_service.specs.Productions.{Items};
 ghost use Rattle.bac_service.specs.ServiceTable.{service_error, production_of, is_small};
 ghost use Rattle.bac_service.specs.Services.{value_of, notification_kind, notification_choice, SpellsService, IsServiceOf};
 ghost use Rattle.bac_service.specs.Decoded.{IsDecoded};
 ghost use Rattle.bac_tag.specs.Spelling.{IsCanonical};
 
 use crate::kind::Kind;
-use crate::production::Production;
-use crate::production::decoding::{are_canonical, decode};
-use crate::production::record::{Fields, Record};
 use crate::service::Service;
 use crate::service::cov_notification::CovNotification;
 use crate::service::error_cause::ErrorCause;
 use crate::service::opaque::Opaque;
 use crate::service::service_error::ServiceError;
+use bac_productions::Production;
+use bac_productions::decoding::{are_canonical, decode};
+use bac_productions::record::{Fields, Record};
 use bac_tag::Refusal;
 use std::alloc::Global;
 

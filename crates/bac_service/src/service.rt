@@ -6,10 +6,10 @@ ghost use Rattle.std.specs.Map.{keys_of};
 ghost use Rattle.std.specs.Option.{is_some};
 ghost use Rattle.bac_tag.specs.Octets.{Extends};
 ghost use Rattle.bac_tag.specs.Spelling.{AppendsLeast, IsCanonical};
+ghost use Rattle.bac_productions.specs.Productions.{IsWellSpelled};
 ghost use Rattle.bac_service.specs.declared.service.Service.{Service};
 ghost use Rattle.bac_service.specs.declared.kind.Kind.TheVariants.{Confirmed, Unconfirmed, ComplexAck, Error};
 ghost use Rattle.bac_service.specs.Decoded.{IsDecoded};
-ghost use Rattle.bac_service.specs.Productions.{IsWellSpelled};
 ghost use Rattle.bac_service.specs.ServiceTable.{ServiceProduction, service_error, rows, production_of};
 ghost use Rattle.bac_service.specs.Services.{value_of, SpellsBy, SpellsSaid, SpellsService, IsPlaced};
 
@@ -33,13 +33,10 @@ pub(crate) mod write_property_multiple;
 pub(crate) mod write_property_multiple_error;
 
 use crate::kind::Kind;
-use crate::laws::parts_are_well_spelled;
 use crate::named::{
     Marked, decode_error, decode_list, decode_named, decode_notification, decode_opaque,
     is_canonical_list, is_canonical_named, is_canonical_notification,
 };
-use crate::production::Production;
-use crate::production::record::{Fields, Record};
 use crate::service::cov_notification::CovNotification;
 use crate::service::error_cause::ErrorCause;
 use crate::service::i_am::IAm;
@@ -54,6 +51,9 @@ use crate::service::who_is::WhoIs;
 use crate::service::write_property::WriteProperty;
 use crate::service::write_property_multiple::{WriteAccessSpecification, WritePropertyMultiple};
 use crate::service::write_property_multiple_error::WritePropertyMultipleError;
+use bac_productions::Production;
+use bac_productions::laws::parts_are_well_spelled;
+use bac_productions::record::{Fields, Record};
 use bac_tag::{OutOfMemory, Refusal};
 use std::alloc::Global;
 

@@ -2,7 +2,7 @@
 
 ghost use Rattle.std.specs.Prelude.{◌≡◌, ◌≢◌, true, false, IfOk, IfErr};
 ghost use Rattle.bac_tag.specs.Spelling.{HasMark, IsWholeRefusal};
-ghost use Rattle.bac_service.specs.Reasons.{IsServiceReason};
+ghost use Rattle.bac_productions.specs.Reasons.{IsServiceReason};
 ghost use Rattle.bac_service.specs.ServiceTable.{is_small};
 ghost use Rattle.bac_service.specs.Services.{value_of, SpellsService};
 ghost use Rattle.bac_service.specs.Decoded.{IsDecoded};

@@ -4,9 +4,9 @@ use Rattle.std.specs.Prelude.{is_some}
 use Rattle.std.specs.Option.{IsSome, option_copied, unwrap_or}
 use Rattle.bac_tag.specs.declared.refusals.Refusal.{Refusal}
 use Rattle.bac_tag.specs.declared.refusals.Why.TheVariants.{OutOfMemory}
+use Rattle.bac_productions.specs.Reasons.{IsServiceReason}
 use Rattle.bac_service.specs.declared.kind.Kind.{Kind}
 use Rattle.bac_service.specs.Services.{ServiceValue, value_of as service_of, SpellsService}
-use Rattle.bac_service.specs.Reasons.{IsServiceReason}
 use Rattle.bac_service.specs.ServiceTable.{is_small}
 use Rattle.bac_tag.specs.Spelling.{IsWholeRefusal}
 use Rattle.bac_segment.specs.declared.keys.Key.{Key}

@@ -16,7 +16,7 @@ use Rattle.bac_value.specs.declared.types.enumeration.Enumerated.{Enumerated as 
 use Rattle.bac_value.specs.declared.prim.PrimitiveValue.{PrimitiveValue}
 use Rattle.bac_value.specs.declared.prim.PrimitiveValue.TheVariants.{Unsigned, Signed, RealBits, DoubleBits, Enumerated, ObjectId}
 use Rattle.bac_data.specs.Events.{Event, application, SpellsEvent}
-use Rattle.bac_service.specs.Fields.{heading, IsField}
+use Rattle.bac_productions.specs.Fields.{heading, IsField}
 use Rattle.bac_field_parts.specs.Names.{number_of}
 use Rattle.bac_field_parts.specs.PrimitiveFields.{object_number}
 use Rattle.bac_field_parts.specs.OpenValueFields.{event_field}

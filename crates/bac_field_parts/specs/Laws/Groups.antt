@@ -9,8 +9,8 @@ use Rattle.bac_tag.specs.Heads.{Heads}
 use Rattle.bac_tag.specs.Spelling.{AppendsLeast}
 use Rattle.bac_value.specs.declared.prim.PrimitiveValue.{PrimitiveValue}
 use Rattle.bac_data.specs.Events.{Event, application, contextual, opening, closing, Opens, SpellsEvent}
-use Rattle.bac_service.specs.Productions.{Head, IsInhabited}
-use Rattle.bac_service.specs.Laws.Tag.{opening_inhabited}
+use Rattle.bac_productions.specs.Productions.{Head, IsInhabited}
+use Rattle.bac_productions.specs.Laws.Tag.{opening_inhabited}
 use Rattle.bac_field_parts.specs.declared.field.Field.{Field}
 use Rattle.bac_field_parts.specs.Names.{number_of}
 use Rattle.bac_field_parts.specs.PrimitiveFields.{primitive_field}

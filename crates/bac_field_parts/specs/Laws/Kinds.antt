@@ -7,9 +7,9 @@ use Rattle.std.proofs.lemmas.List.{take-append-drop, length-take-le}
 use Rattle.bac_tag.specs.Spelling.{AppendsLeast}
 use Rattle.bac_tag.specs.Laws.Spelling.{splits}
 use Rattle.bac_data.specs.Events.{Event, Opens, SpellsEvent}
+use Rattle.bac_productions.specs.Laws.Least.{least_alike}
 use Rattle.bac_field_parts.specs.Names.{number_of}
 use Rattle.bac_field_parts.specs.OpenValueFields.{event_field}
-use Rattle.bac_service.specs.Laws.Least.{least_alike}
 use Rattle.bac_field_parts.specs.declared.field.Field.{Field}
 use Rattle.bac_field_parts.specs.Symbols.{Symbol, named, Language, IsStop, Made, lead_in, symbols_in}
 use Rattle.bac_field_parts.specs.Laws.Firsts.{field_then}

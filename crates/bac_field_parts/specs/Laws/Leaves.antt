@@ -4,8 +4,8 @@ use Rattle.std.proofs.Common.{sym, ◌∙◌, ap, subst, arith}
 use Rattle.std.proofs.lemmas.Bool.{or_left, eqb-true, eqb-false, leb-true}
 use Rattle.std.proofs.lemmas.Bool.Decides.{nat_tests}
 use Rattle.bac_tag.specs.Spelling.{EndsItself, NoFront}
+use Rattle.bac_productions.specs.Productions.{IsInhabited}
 use Rattle.bac_field_parts.specs.Symbols.{Symbol, named, numbered, containing, finished, has, Says, Language, Opens, Lawful, IsStop, end_said, no_octets, symbols_in, has_contents, contents_in, number_said, contents_said, HasForm, HasContents, IsNumber, IsNoNumber, Made, the_octet}
-use Rattle.bac_service.specs.Productions.{IsInhabited}
 use Rattle.std.proofs.lemmas.Bool.{and_parts, not-true}
 use Rattle.bac_field_parts.specs.declared.field.Field.{Field}
 use Rattle.bac_field_parts.specs.Laws.Languages.{stop_at_first}

@@ -8,12 +8,12 @@ use Rattle.std.proofs.lemmas.List.{length-drop, take-append-drop, length-take-le
 use Rattle.std.proofs.lemmas.Grind.{flat_map-append}
 use Rattle.bac_tag.specs.Spelling.{Joined, OneOf, AppendsLeast}
 use Rattle.bac_tag.specs.Laws.Spelling.{IsLeast-joined}
+use Rattle.bac_productions.specs.Productions.{Optional, Items}
+use Rattle.bac_productions.specs.Laws.Least.{least_joined, least_nothing, appends_item}
 use Rattle.bac_field_parts.specs.declared.field.Field.{Field}
-use Rattle.bac_service.specs.Productions.{Optional, Items}
 use Rattle.bac_field_parts.specs.Symbols.{Symbol, Language, IsStop, symbols_in, Made, taken_symbols, IfStop, behind, place_of, Lawful, has, disjoint, lead_in}
 use Rattle.bac_field_parts.specs.declared.making.Fault.{Fault}
 use Rattle.bac_field_parts.specs.declared.making.Fault.TheVariants.{OutOfMemory, Stop as Stopped}
-use Rattle.bac_service.specs.Laws.Least.{least_joined, least_nothing, appends_item}
 use Rattle.bac_field_parts.specs.Laws.Parts.{pair_said, maybe_said, list_said, Maybe, Listing, Choice, either_said, choice_stop_first, choice_stop_second, pair_stop_second, maybe_stop_present, maybe_stop_absent, list_stop_part, list_stop_then, list_stop_end}
 
 pub symbols_length : (octets : List ℕ) (fields : List Field) → length (symbols_in octets fields) ≡ 3 * length fields + 1

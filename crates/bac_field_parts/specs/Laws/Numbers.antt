@@ -7,7 +7,7 @@ use Rattle.std.proofs.lemmas.List.{length-drop, take-append-drop, length-take-le
 use Rattle.bac_tag.specs.HeadOctets.{Part, Headed, least_head, AreParts}
 use Rattle.bac_tag.specs.Laws.Octets.{NoGreater-same}
 use Rattle.bac_tag.specs.Spelling.{IsLeast, Joined, Joins}
-use Rattle.bac_service.specs.Productions.{IsInhabited}
+use Rattle.bac_productions.specs.Productions.{IsInhabited}
 use Rattle.bac_tag.proofs.HeadOctetLemmas.{headed_least, parts_are}
 use Rattle.bac_field_parts.specs.declared.field.Field.{Field}
 use Rattle.bac_field_parts.specs.declared.making.Fault.{Fault}

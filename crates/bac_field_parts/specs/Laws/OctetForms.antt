@@ -5,9 +5,9 @@ use Rattle.bac_tag.specs.HeadOctets.{Part, octet, Headed}
 use Rattle.bac_tag.specs.Laws.Octets.{NoGreater-same}
 use Rattle.bac_tag.specs.Octets.{IsOctets}
 use Rattle.bac_tag.specs.Spelling.{Joins, IsLeast}
+use Rattle.bac_productions.specs.Laws.Least.{least_joined}
+use Rattle.bac_productions.specs.Productions.{IsInhabited}
 use Rattle.bac_npdu_parts.specs.Addresses.{two_octets, counted}
-use Rattle.bac_service.specs.Laws.Least.{least_joined}
-use Rattle.bac_service.specs.Productions.{IsInhabited}
 use Rattle.bac_field_parts.specs.OctetForms.{IsOneOctet, AreTwoOctets, AreCounted}
 use Rattle.bac_field_parts.specs.Opaques.{AreTheOctets}
 use Rattle.bac_field_parts.specs.Symbols.{HasContents, no_octet_number}

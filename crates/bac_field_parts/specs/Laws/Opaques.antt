@@ -2,7 +2,7 @@
 use Rattle.std.specs.Prelude.{◌≡◌, ℕ, ◌<◌, Bool, true, false, Option, None, Some, List, [], ◌∷◌, ◌++◌, IsTrue, refl}
 use Rattle.std.proofs.Common.{lit<}
 use Rattle.bac_tag.specs.Spelling.{Joined}
-use Rattle.bac_service.specs.Productions.{IsInhabited}
+use Rattle.bac_productions.specs.Productions.{IsInhabited}
 use Rattle.bac_service.specs.declared.kind.Kind.{Kind}
 use Rattle.bac_service.specs.declared.kind.Kind.TheVariants.{Confirmed, Unconfirmed, ComplexAck, Error}
 use Rattle.bac_field_parts.specs.OpaqueFields.{opaque_steps}

@@ -13,9 +13,9 @@ use Rattle.bac_data.specs.OpenValue.{Elements}
 use Rattle.bac_data.specs.Spells.{SpellsOpen}
 use Rattle.bac_data.specs.Events.{Event, application, contextual, opening, closing, events, value_of_events, SpellsEvents, Opens as OpensGroups}
 use Rattle.bac_data.proofs.EventLemmas.{events_spelled, value_spelled}
-use Rattle.bac_service.specs.Productions.{Head}
-use Rattle.bac_service.specs.Laws.Least.{least_alike, least_joined}
-use Rattle.bac_service.specs.Laws.Tag.{opening_inhabited}
+use Rattle.bac_productions.specs.Productions.{Head}
+use Rattle.bac_productions.specs.Laws.Least.{least_alike, least_joined}
+use Rattle.bac_productions.specs.Laws.Tag.{opening_inhabited}
 use Rattle.bac_field_parts.specs.declared.field.Field.{Field}
 use Rattle.bac_field_parts.specs.declared.making.Fault.{Fault}
 use Rattle.bac_field_parts.specs.Names.{number_of}

@@ -8,7 +8,7 @@ use Rattle.std.proofs.lemmas.Bool.{and_parts}
 use Rattle.bac_tag.specs.declared.refusals.Why.TheVariants.{Tag}
 use Rattle.bac_tag.specs.Spelling.{IsRefusal, Joined, OneOf}
 use Rattle.bac_tag.specs.Laws.Spelling.{refused_alike}
-use Rattle.bac_service.specs.Productions.{Optional, Items}
+use Rattle.bac_productions.specs.Productions.{Optional, Items}
 use Rattle.bac_field_parts.specs.Symbols.{Symbol, lead_of, has, disjoint, Says, Language, Opens, Lawful, IsStop}
 use Rattle.bac_field_parts.specs.Laws.Languages.{opens_apart, opens_left, opens_right, opens_more, both_lawful, both_stop_first, both_stop_second, either_lawful, either_stop_first, either_stop_second, lawful_alike, stop_alike}
 

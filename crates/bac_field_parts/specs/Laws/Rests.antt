@@ -11,7 +11,7 @@ use Rattle.bac_data.specs.Events.{Event, application, contextual, opening, closi
 use Rattle.bac_data.specs.Spells.{SpellsOpen}
 use Rattle.bac_data.proofs.EventLemmas.{events_spelled, value_spelled}
 use Rattle.bac_data.proofs.OpenLemmas.{Opens-append, Opens-split, events-opens}
-use Rattle.bac_service.specs.Laws.Tag.{opening_inhabited, closing_inhabited}
+use Rattle.bac_productions.specs.Laws.Tag.{opening_inhabited, closing_inhabited}
 use Rattle.bac_field_parts.specs.declared.names.Name.TheVariants as name
 use Rattle.bac_field_parts.specs.Names.{number_of}
 use Rattle.bac_field_parts.specs.Fields.{next, closing_field}

@@ -18,6 +18,7 @@ use Rattle.bac_value.specs.PrimContents.{application_number, IsPrim, PrimContent
 use Rattle.bac_value.specs.Laws.Prim.{prim_only_values, prim_written_contents, prim_limit}
 use Rattle.bac_data.specs.Events.{Event, application, contextual, opening, closing, SpellsEvent}
 use Rattle.bac_data.specs.Spells.{SpellsPrimitive, SpellsContext}
+use Rattle.bac_productions.specs.Productions.{IsInhabited}
 use Rattle.bac_field_parts.specs.Names.{number_of}
 use Rattle.bac_field_parts.specs.OpenValueFields.{event_field}
 use Rattle.bac_tag.specs.declared.heads.TagHead.TheVariants.{App, AppBool, Ctx}
@@ -26,7 +27,6 @@ use Rattle.bac_tag.specs.Spelling.{IsLeast}
 use Rattle.bac_value.specs.declared.types.boolean_value.Boolean.{Boolean as BooleanType}
 use Rattle.bac_tag.proofs.WritingLemmas.{some_least}
 use Rattle.bac_data.proofs.EventLeastLemmas.{least_contents}
-use Rattle.bac_service.specs.Productions.{IsInhabited}
 use Rattle.bac_field_parts.specs.PrimitiveFields.{truth, primitive_field}
 use Rattle.std.specs.List.{AllByRecursion}
 use Rattle.bac_field_parts.specs.declared.field.Field.{Field}

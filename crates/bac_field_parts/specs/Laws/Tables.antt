@@ -8,8 +8,8 @@ use Rattle.std.proofs.lemmas.List.{length-drop, take-append-drop, length-take-le
 use Rattle.std.proofs.lemmas.Grind.{flat_map-append}
 use Rattle.bac_tag.specs.Octets.{Extends}
 use Rattle.bac_tag.specs.Spelling.{Joined, AppendsLeast}
-use Rattle.bac_service.specs.Laws.Least.{least_joined, least_nothing, appends_item}
-use Rattle.bac_service.specs.Productions.{Items}
+use Rattle.bac_productions.specs.Laws.Least.{least_joined, least_nothing, appends_item}
+use Rattle.bac_productions.specs.Productions.{Items}
 use Rattle.bac_field_parts.specs.declared.field.Field.{Field}
 use Rattle.bac_field_parts.specs.declared.making.Fault.{Fault}
 use Rattle.bac_field_parts.specs.Symbols.{Symbol, Says, Language, Lawful, IsStop, Made, IfStop, behind, symbols_in, taken_symbols, lead_in, lead_of, has, disjoint}

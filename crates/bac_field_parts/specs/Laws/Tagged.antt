@@ -5,8 +5,8 @@ use Rattle.std.proofs.lemmas.Bool.{and_parts}
 use Rattle.bac_tag.specs.Spelling.{Joined, AppendsLeast}
 use Rattle.bac_tag.specs.declared.heads.TagHead.{TagHead}
 use Rattle.bac_tag.specs.declared.heads.TagHead.TheVariants.{Open, Close}
-use Rattle.bac_service.specs.Laws.Tag.{opening_inhabited, closing_inhabited}
-use Rattle.bac_service.specs.Productions.{Head, IsInhabited}
+use Rattle.bac_productions.specs.Laws.Tag.{opening_inhabited, closing_inhabited}
+use Rattle.bac_productions.specs.Productions.{Head, IsInhabited}
 use Rattle.bac_field_parts.specs.Symbols.{Symbol, Language, Lawful, IsStop, Made, nothing_said, is_edge}
 use Rattle.bac_field_parts.specs.Laws.Languages.{lawful_alike, stop_alike}
 use Rattle.bac_field_parts.specs.Laws.Parts.{pair_said}

@@ -5,9 +5,9 @@ use Rattle.bac_tag.specs.Spelling.{Joined, Joins}
 use Rattle.bac_tag.specs.declared.heads.TagHead.TheVariants.{Open, Close}
 use Rattle.bac_value.specs.Identifier.{Identifier}
 use Rattle.bac_value.specs.declared.types.enumeration.Enumerated.{Enumerated}
-use Rattle.bac_service.specs.Contents.{ObjectField, UnsignedField, EnumeratedPart, ApplicationEnumeratedPart, of_number}
+use Rattle.bac_productions.specs.Contents.{ObjectField, UnsignedField, EnumeratedPart, ApplicationEnumeratedPart, of_number}
+use Rattle.bac_productions.specs.Productions.{Head, Optional, IsInhabited}
 use Rattle.bac_service.specs.ErrorCause.{SpellsErrorCause}
-use Rattle.bac_service.specs.Productions.{Head, Optional, IsInhabited}
 use Rattle.std.proofs.Common.{lit<}
 use Rattle.bac_field_parts.specs.Opaques.{IsCauseChoice}
 use Rattle.bac_service.specs.WritePropertyMultipleError.{SpellsWriteError}

@@ -2,9 +2,9 @@
 use Rattle.std.specs.Prelude.{◌≡◌, ◌↔◌, ℕ, ◌<◌, true, Option, None, Some, List, [], ◌∷◌, ◌++◌, refl, slice_get}
 use Rattle.std.proofs.Common.{sym, ◌∙◌, ap, subst, lit<}
 use Rattle.bac_tag.specs.Spelling.{Joins, EndsItself}
+use Rattle.bac_productions.specs.Laws.Least.{least_alike}
 use Rattle.bac_service.specs.ServiceTable.{ServiceProduction, read_property, read_property_ack, read_property_multiple, read_property_multiple_ack, write_property, write_property_multiple, write_property_multiple_error, who_is, i_am, subscribe_cov, cov_notification, service_error, rows, production_of}
 use Rattle.bac_service.specs.Services.{SaidBy, Said, ServiceValue, typed, opaque, SpellsSaid, SpellsService}
-use Rattle.bac_service.specs.Laws.Least.{least_alike}
 use Rattle.bac_service.specs.declared.kind.Kind.TheVariants.{Error}
 use Rattle.bac_fields.specs.ServiceFields.{service_steps}
 use Rattle.bac_fields.specs.ServiceSymbols.{service_said, SpellsAfterHead}

@@ -6,7 +6,7 @@ use Rattle.std.proofs.lemmas.Bool.{both_ways, eqb-true}
 use Rattle.bac_tag.specs.Octets.{IsOctets}
 use Rattle.bac_tag.specs.Laws.Octets.{octets_append, octets_front, octets_back}
 use Rattle.bac_tag.specs.Spelling.{Joined, OneOf}
-use Rattle.bac_service.specs.Productions.{Optional, IsInhabited}
+use Rattle.bac_productions.specs.Productions.{Optional, IsInhabited}
 use Rattle.bac_npdu_parts.specs.Addresses.{SourceValue, DestinationValue, address_octets, destination_octets, source_octets, hops_octets, HasAddress}
 use Rattle.bac_npdu_parts.specs.Control.{least_of}
 use Rattle.bac_npdu_parts.specs.Frames.{FrameValue, BodyValue, apdu, message, SpellsBody, SpellsFrame, control_of}

@@ -12,11 +12,11 @@ use Rattle.bac_value.specs.Laws.NumberTypes.{number_each_length}
 use Rattle.bac_numbers.specs.Numbers.{NumberContents}
 use Rattle.bac_value.specs.Primitives.{IsTheList}
 use Rattle.bac_value.specs.declared.types.enumeration.Enumerated.{Enumerated}
-use Rattle.bac_service.specs.Contents.{ObjectField, UnsignedField, PriorityField, EnumeratedPart, ApplicationEnumeratedPart}
+use Rattle.bac_productions.specs.Contents.{ObjectField, UnsignedField, PriorityField, EnumeratedPart, ApplicationEnumeratedPart}
+use Rattle.bac_productions.specs.Laws.Field.{HasLengths, field_inhabited}
+use Rattle.bac_productions.specs.Laws.Tag.{opening_inhabited, closing_inhabited}
+use Rattle.bac_productions.specs.Productions.{Head, Items, Optional, Grouped, IsInhabited}
 use Rattle.bac_service.specs.ErrorCause.{SpellsErrorCause}
-use Rattle.bac_service.specs.Laws.Field.{HasLengths, field_inhabited}
-use Rattle.bac_service.specs.Laws.Tag.{opening_inhabited, closing_inhabited}
-use Rattle.bac_service.specs.Productions.{Head, Items, Optional, Grouped, IsInhabited}
 use Rattle.bac_service.specs.PropertyReference.{SpellsPropertyReference}
 use Rattle.bac_service.specs.PropertyResult.{SpellsPropertyResult}
 use Rattle.bac_service.specs.PropertyValue.{SpellsPropertyValue}

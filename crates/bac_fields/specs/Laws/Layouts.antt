@@ -5,11 +5,11 @@ use Rattle.std.proofs.lemmas.Bool.{or_cases, cases_lt, ltb-true, leb-true, leb-f
 use Rattle.std.proofs.Common.{inl, inr}
 use Rattle.bac_tag.specs.HeadOctets.{Part, octet}
 use Rattle.bac_tag.specs.Spelling.{Joins, EndsItself}
+use Rattle.bac_productions.specs.Laws.Least.{appends_alike}
 use Rattle.bac_npdu_parts.specs.Addresses.{two_octets}
 use Rattle.bac_npdu_parts.specs.declared.messages.port.Port.{Port}
 use Rattle.bac_npdu_parts.specs.Messages.{MessageValue, who_is_router, i_am_router, i_could_be_router, reject_message, router_busy, router_available, init_table, init_table_ack, establish, disconnect, what_is_network_number, network_number_is, opaque, SpellsMessage, IsMessage, networks_of, network_or_none, table_of, table_or_none}
 use Rattle.bac_npdu_parts.specs.MessageTypes.{is_typed, IsVendored}
-use Rattle.bac_service.specs.Laws.Least.{appends_alike}
 use Rattle.bac_field_parts.specs.declared.field.Field.{Field}
 use Rattle.bac_fields.specs.MessageFields.{message_steps}
 use Rattle.bac_fields.specs.MessageSymbols.{message_said, Layout, who_is, i_am, could_be, reject, busy, available, table, table_ack, establishing, disconnecting, number_wanted, number_told, plain, vendored, SaidIn, message_in, layout_said, typed_layout, layout_told, type_in, IsOpaqueType}

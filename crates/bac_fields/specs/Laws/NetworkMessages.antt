@@ -5,10 +5,10 @@ use Rattle.std.specs.Option.{option_map, option_map_or}
 use Rattle.std.proofs.Common.{◌∙◌, ap, lit<, append_assoc}
 use Rattle.bac_tag.specs.HeadOctets.{Part, octet, Headed}
 use Rattle.bac_tag.specs.Spelling.{Joins, Joined}
+use Rattle.bac_productions.specs.Productions.{Items, Optional, IsInhabited}
 use Rattle.bac_npdu_parts.specs.Addresses.{two_octets, counted}
 use Rattle.bac_npdu_parts.specs.declared.messages.port.Port.{Port}
 use Rattle.bac_npdu_parts.specs.Messages.{networks_of, network_or_none, ports_of, table_of, table_or_none}
-use Rattle.bac_service.specs.Productions.{Items, Optional, IsInhabited}
 use Rattle.bac_field_parts.specs.declared.names.Name.{Name}
 use Rattle.bac_field_parts.specs.declared.names.Name.TheVariants as name
 use Rattle.bac_field_parts.specs.Fields.{Step, next, item_steps, word}

@@ -5,9 +5,9 @@ use Rattle.std.specs.List.{flat_map}
 use Rattle.bac_tag.specs.Spelling.{Joined}
 use Rattle.bac_tag.specs.declared.heads.TagHead.TheVariants.{Open, Close}
 use Rattle.bac_value.specs.Identifier.{Identifier}
-use Rattle.bac_service.specs.Contents.{ObjectField, UnsignedField}
+use Rattle.bac_productions.specs.Contents.{ObjectField, UnsignedField}
+use Rattle.bac_productions.specs.Productions.{Head, Items}
 use Rattle.bac_service.specs.CovNotification.{Notification, SpellsNotification}
-use Rattle.bac_service.specs.Productions.{Head, Items}
 use Rattle.bac_service.specs.PropertyValue.{SpellsPropertyValue}
 use Rattle.bac_service.specs.declared.kind.Kind.{Kind}
 use Rattle.bac_service.specs.declared.kind.Kind.TheVariants.{Confirmed, Unconfirmed}

@@ -2,10 +2,10 @@
 use Rattle.std.specs.Prelude.{◌≡◌, ℕ, Option, None, Some, List, [], ◌∷◌, ◌++◌, refl, ◌⊎◌, Bool}
 use Rattle.std.specs.Option.{option_map_or, option_map}
 use Rattle.bac_tag.specs.Spelling.{Joined, Joins, OneOf}
-use Rattle.bac_service.specs.Productions.{Optional, Head, Items, Grouped}
+use Rattle.bac_productions.specs.Productions.{Optional, Head, Items, Grouped}
+use Rattle.bac_productions.specs.Contents.{ObjectField, UnsignedField, EnumeratedPart, of_number, PriorityField, InstanceField, ApplicationObject, ApplicationUnsigned, ApplicationUnsigned16, ApplicationEnumeratedPart}
 use Rattle.bac_service.specs.declared.service.read_property.ReadProperty.{ReadProperty}
 use Rattle.bac_value.specs.Identifier.{Identifier}
-use Rattle.bac_service.specs.Contents.{ObjectField, UnsignedField, EnumeratedPart, of_number, PriorityField, InstanceField, ApplicationObject, ApplicationUnsigned, ApplicationUnsigned16, ApplicationEnumeratedPart}
 use Rattle.bac_service.specs.ReadProperty.{SpellsReadProperty}
 use Rattle.bac_value.specs.declared.types.enumeration.Enumerated.{Enumerated}
 use Rattle.bac_field_parts.specs.declared.names.Name.TheVariants as name

@@ -3,6 +3,7 @@ use Rattle.std.specs.Prelude.{◌≡◌, ◌↔◌, ℕ, ◌<◌, nat_eq, cond, 
 use Rattle.std.specs.Map.{lookup}
 use Rattle.std.proofs.Common.{sym, ◌∙◌, ap, subst, eqb-true}
 use Rattle.bac_tag.specs.Spelling.{Joins, EndsItself}
+use Rattle.bac_productions.specs.Laws.Least.{least_alike}
 use Rattle.bac_service.specs.ServiceTable.{ServiceProduction, read_property, read_property_ack, read_property_multiple, read_property_multiple_ack, write_property, write_property_multiple, write_property_multiple_error, who_is, i_am, subscribe_cov, cov_notification, service_error, rows, production_of}
 use Rattle.bac_service.specs.Services.{SaidBy, Said, typed, opaque, SpellsBy, SpellsSaid, SpellsService}
 use Rattle.bac_service.specs.Laws.Service.{spelled_as}
@@ -16,7 +17,6 @@ use Rattle.bac_field_parts.specs.Laws.Opaques.{has_word, opaque_said, SpellsOpaq
 use Rattle.bac_fields.specs.Laws.Among.{among_stopped}
 use Rattle.bac_field_parts.specs.Laws.Languages.{stop_at_first}
 use Rattle.bac_field_parts.specs.declared.field.Field.{Field}
-use Rattle.bac_service.specs.Laws.Least.{least_alike}
 use Rattle.bac_fields.specs.ServiceFields.{service_steps}
 
 not_none : {A : Type 0} (a : A) → None ≡ Some a → ⊥

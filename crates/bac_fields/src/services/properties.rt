@@ -219,9 +219,9 @@ impl Message for ValueFields {
 pub(crate) struct CauseFields;
 
 impl Message for CauseFields {
+    ghost use Rattle.bac_productions.specs.Productions.{Grouped};
     ghost use Rattle.bac_service.specs.declared.service.error_cause.ErrorCause.{ErrorCause};
     ghost use Rattle.bac_service.specs.ErrorCause.{SpellsErrorCause};
-    ghost use Rattle.bac_service.specs.Productions.{Grouped};
     ghost use Rattle.bac_field_parts.specs.declared.names.Name.TheVariants as name;
     ghost use Rattle.bac_fields.specs.Laws.ServiceMessages.{cause_said, cause_message};
 
@@ -328,9 +328,9 @@ impl FromFields for ReferenceFields {
 
 impl FromFields for CauseFields {
     ghost use Rattle.std.specs.Prelude.{true, false, ◌∷◌, [], Some};
+    ghost use Rattle.bac_productions.specs.Productions.{Grouped};
     ghost use Rattle.bac_service.specs.declared.service.error_cause.ErrorCause.{ErrorCause};
     ghost use Rattle.bac_service.specs.ErrorCause.{SpellsErrorCause};
-    ghost use Rattle.bac_service.specs.Productions.{Grouped};
     ghost use Rattle.bac_fields.specs.Laws.ServiceMessages.{cause_said};
     ghost use Rattle.bac_fields.specs.Laws.Items.{cause_lawful};
 

@@ -138,7 +138,7 @@ pub(crate) struct ReadMultipleFields;
 
 impl Message for ReadMultipleFields {
     ghost use Rattle.std.specs.Prelude.{List};
-    ghost use Rattle.bac_service.specs.Productions.{Items};
+    ghost use Rattle.bac_productions.specs.Productions.{Items};
     ghost use Rattle.bac_service.specs.ReadAccessSpecification.{Specification, SpellsSpecification};
     ghost use Rattle.bac_field_parts.specs.declared.names.Name.TheVariants as name;
     ghost use Rattle.bac_fields.specs.Laws.ServiceMessages.{SpellsChosen, read_multiple_said, read_multiple_message};
@@ -209,7 +209,7 @@ pub(crate) struct ReadMultipleAckFields;
 
 impl Message for ReadMultipleAckFields {
     ghost use Rattle.std.specs.Prelude.{List};
-    ghost use Rattle.bac_service.specs.Productions.{Items};
+    ghost use Rattle.bac_productions.specs.Productions.{Items};
     ghost use Rattle.bac_service.specs.ReadAccessResult.{AccessResult, SpellsAccessResult};
     ghost use Rattle.bac_field_parts.specs.declared.names.Name.TheVariants as name;
     ghost use Rattle.bac_fields.specs.Laws.ServiceMessages.{SpellsChosen, read_multiple_ack_said, read_multiple_ack_message};

@@ -108,7 +108,7 @@ pub(crate) struct WriteMultipleFields;
 
 impl Message for WriteMultipleFields {
     ghost use Rattle.std.specs.Prelude.{List};
-    ghost use Rattle.bac_service.specs.Productions.{Items};
+    ghost use Rattle.bac_productions.specs.Productions.{Items};
     ghost use Rattle.bac_service.specs.WriteAccessSpecification.{WriteSpecification, SpellsWriteSpecification};
     ghost use Rattle.bac_field_parts.specs.declared.names.Name.TheVariants as name;
     ghost use Rattle.bac_fields.specs.Laws.ServiceMessages.{SpellsChosen, write_multiple_said, write_multiple_message};

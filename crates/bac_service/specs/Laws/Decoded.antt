@@ -3,11 +3,11 @@ use Rattle.std.specs.Prelude.{◌≡◌, ◌≢◌, ◌↔◌, ℕ, true, false,
 use Rattle.bac_tag.specs.declared.refusals.Refusal.{Refusal}
 use Rattle.bac_tag.specs.declared.refusals.Why.TheVariants.{OutOfMemory}
 use Rattle.bac_tag.specs.Spelling.{HasMark, IsWholeRefusal}
+use Rattle.bac_productions.specs.Reasons.{IsServiceReason}
+use Rattle.bac_productions.specs.Laws.Whole.{whole_alike}
+use Rattle.bac_productions.specs.Laws.Least.{mark_alike}
 use Rattle.bac_service.specs.declared.kind.Kind.{Kind}
 use Rattle.bac_service.specs.declared.service.Service.{Service}
-use Rattle.bac_service.specs.Reasons.{IsServiceReason}
-use Rattle.bac_service.specs.Laws.Whole.{whole_alike}
-use Rattle.bac_service.specs.Laws.Least.{mark_alike}
 use Rattle.bac_service.specs.ServiceTable.{is_small}
 use Rattle.bac_service.specs.Services.{value_of, SpellsService, IsServiceOf}
 use Rattle.bac_service.specs.Decoded.{IsFound, IsRefused}

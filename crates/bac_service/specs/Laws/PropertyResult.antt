@@ -5,13 +5,13 @@ use Rattle.bac_tag.specs.Spelling.{OneOf, Joins, Joined}
 use Rattle.bac_data.specs.OpenValue.{Elements}
 use Rattle.bac_data.specs.Spells.{SpellsOpen}
 use Rattle.bac_value.specs.declared.types.enumeration.Enumerated.{Enumerated}
+use Rattle.bac_productions.specs.Contents.{EnumeratedField, UnsignedField, EnumeratedPart, of_number}
+use Rattle.bac_productions.specs.Productions.{Optional, Grouped, IsRecordOf}
 use Rattle.bac_service.specs.declared.service.error_cause.ErrorCause.{ErrorCause}
 use Rattle.bac_service.specs.declared.service.property_result.ReadResult.{ReadResult}
 use Rattle.bac_service.specs.declared.service.property_result.ReadResult.TheVariants.{Value, Error}
 use Rattle.bac_service.specs.declared.service.property_result.PropertyResult.{PropertyResult}
-use Rattle.bac_service.specs.Contents.{EnumeratedField, UnsignedField, EnumeratedPart, of_number}
 use Rattle.bac_service.specs.ErrorCause.{SpellsErrorCause}
-use Rattle.bac_service.specs.Productions.{Optional, Grouped, IsRecordOf}
 use Rattle.bac_service.specs.PropertyResult.{SpellsReadResult, SpellsPropertyResult, read_result_of}
 
 abbrev pub choice_of : ReadResult → Elements ⊎ ErrorCause

@@ -5,11 +5,11 @@ use Rattle.std.proofs.lemmas.List.Elements.{recursion_from_All, All-from_get_or}
 use Rattle.bac_tag.specs.Octets.{IsOctets}
 use Rattle.bac_tag.specs.Laws.Octets.{NoGreater-same}
 use Rattle.bac_tag.specs.Spelling.{IsLeast, AppendsLeast}
+use Rattle.bac_productions.specs.Laws.Least.{least_alike}
+use Rattle.bac_productions.specs.Productions.{HasLeast}
 use Rattle.bac_service.specs.declared.kind.Kind.{Kind}
 use Rattle.bac_service.specs.ServiceTable.{ServiceProduction, cov_notification, production_of, is_small}
 use Rattle.bac_service.specs.Services.{SaidBy, Said, ServiceValue, typed, opaque, notification_kind, notification_choice, SpellsBy, SpellsSaid, SpellsService, IsPlaced, IsServiceOf}
-use Rattle.bac_service.specs.Laws.Least.{least_alike}
-use Rattle.bac_service.specs.Productions.{HasLeast}
 
 -- ---- the rows
 

@@ -5,11 +5,11 @@ use Rattle.std.proofs.Common.{ap, subst}
 use Rattle.bac_tag.specs.Spelling.{Joins, Joined, AppendsLeast}
 use Rattle.bac_value.specs.Identifier.{Identifier}
 use Rattle.bac_value.specs.declared.types.boolean_value.Boolean.{Boolean}
+use Rattle.bac_productions.specs.Contents.{UnsignedField, ObjectField, BooleanField}
+use Rattle.bac_productions.specs.Productions.{Optional, IsRecordOf}
+use Rattle.bac_productions.specs.Laws.Least.{appends_alike}
 use Rattle.bac_service.specs.declared.service.subscribe_cov.SubscribeCov.{SubscribeCov}
-use Rattle.bac_service.specs.Contents.{UnsignedField, ObjectField, BooleanField}
-use Rattle.bac_service.specs.Productions.{Optional, IsRecordOf}
 use Rattle.bac_service.specs.SubscribeCov.{SpellsSubscribeCov}
-use Rattle.bac_service.specs.Laws.Least.{appends_alike}
 
 -- a field of a Boolean and the bit in it
 abbrev pub BitField : Boolean → List ℕ → Type 0

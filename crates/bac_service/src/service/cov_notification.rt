@@ -2,12 +2,12 @@
 
 ghost use Rattle.bac_service.specs.CovNotification.{SpellsNotification, notification_parts};
 
-use crate::production::Production;
-use crate::production::field::Field;
-use crate::production::group::{Group, write_group};
-use crate::production::record::Record;
 use crate::service::Said;
 use crate::service::property_value::PropertyValue;
+use bac_productions::Production;
+use bac_productions::field::Field;
+use bac_productions::group::{Group, write_group};
+use bac_productions::record::Record;
 use bac_tag::OutOfMemory;
 use bac_value::ObjectId;
 use bac_value::layers::Unsigned32;

@@ -2,9 +2,9 @@
 
 ghost use Rattle.bac_service.specs.ErrorCause.{SpellsErrorCause, error_cause_parts};
 
-use crate::production::Production;
-use crate::production::field::ApplicationField;
-use crate::production::record::Record;
+use bac_productions::Production;
+use bac_productions::field::ApplicationField;
+use bac_productions::record::Record;
 use bac_tag::OutOfMemory;
 use bac_value::Enumerated;
 

@@ -3,10 +3,10 @@
 ghost use Rattle.bac_service.specs.IAm.{SpellsIAm, i_am_parts};
 
 use crate::named::Named;
-use crate::production::Production;
-use crate::production::field::ApplicationField;
-use crate::production::record::{Fields, Record};
 use crate::service::{Said, Service};
+use bac_productions::Production;
+use bac_productions::field::ApplicationField;
+use bac_productions::record::{Fields, Record};
 use bac_tag::OutOfMemory;
 use bac_value::layers::{Unsigned16, Unsigned32};
 use bac_value::{Enumerated, ObjectId};

@@ -5,9 +5,9 @@ ghost use Rattle.bac_tag.specs.Octets.{Extends};
 ghost use Rattle.bac_tag.specs.Spelling.{AppendsLeast};
 ghost use Rattle.bac_service.specs.ObjectProperty.{SpellsObjectProperty};
 
-use crate::production::Production;
-use crate::production::field::Field;
-use crate::production::option::number_under;
+use bac_productions::Production;
+use bac_productions::field::Field;
+use bac_productions::option::number_under;
 use bac_tag::OutOfMemory;
 use bac_value::layers::Unsigned32;
 use bac_value::{Enumerated, ObjectId};

@@ -2,10 +2,10 @@
 
 ghost use Rattle.bac_service.specs.PropertyReference.{SpellsPropertyReference, property_reference_parts};
 
-use crate::production::Production;
-use crate::production::field::Field;
-use crate::production::option::{bare_number, number_under};
-use crate::production::record::Record;
+use bac_productions::Production;
+use bac_productions::field::Field;
+use bac_productions::option::{bare_number, number_under};
+use bac_productions::record::Record;
 use bac_tag::OutOfMemory;
 use bac_value::Enumerated;
 use bac_value::layers::Unsigned32;

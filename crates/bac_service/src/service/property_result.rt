@@ -1,19 +1,19 @@
 //! What reading a property gave (the listOfResults of ReadAccessResult, clause 21).
 
 ghost use Rattle.std.specs.Prelude.{◌≡◌};
-ghost use Rattle.bac_service.specs.Productions.{either_of};
+ghost use Rattle.bac_productions.specs.Productions.{either_of};
 ghost use Rattle.bac_service.specs.PropertyResult.{SpellsPropertyResult, read_result_of};
 ghost use Rattle.bac_service.specs.Laws.PropertyResult.{property_result_parts};
 
-use crate::production::Production;
-use crate::production::choice::Choice;
-use crate::production::field::Field;
-use crate::production::group::{Group, write_group};
-use crate::production::open_value::{OpenValue, write_open};
-use crate::production::option::{bare_number, number_under};
-use crate::production::record::{Fields, Record};
 use crate::service::error_cause::ErrorCause;
 use bac_data::Any;
+use bac_productions::Production;
+use bac_productions::choice::Choice;
+use bac_productions::field::Field;
+use bac_productions::group::{Group, write_group};
+use bac_productions::open_value::{OpenValue, write_open};
+use bac_productions::option::{bare_number, number_under};
+use bac_productions::record::{Fields, Record};
 use bac_tag::OutOfMemory;
 use bac_value::Enumerated;
 use bac_value::layers::Unsigned32;

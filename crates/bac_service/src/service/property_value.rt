@@ -2,12 +2,12 @@
 
 ghost use Rattle.bac_service.specs.PropertyValue.{SpellsPropertyValue, property_value_parts};
 
-use crate::production::Production;
-use crate::production::field::Field;
-use crate::production::open_value::{OpenValue, write_open};
-use crate::production::option::{bare, bare_number, number_under, under};
-use crate::production::record::Record;
 use bac_data::Any;
+use bac_productions::Production;
+use bac_productions::field::Field;
+use bac_productions::open_value::{OpenValue, write_open};
+use bac_productions::option::{bare, bare_number, number_under, under};
+use bac_productions::record::Record;
 use bac_tag::OutOfMemory;
 use bac_value::layers::Unsigned32;
 use bac_value::{Enumerated, Priority};

@@ -3,10 +3,10 @@
 ghost use Rattle.bac_service.specs.ReadProperty.{SpellsReadProperty, read_property_parts};
 
 use crate::named::Named;
-use crate::production::option::bare_number;
-use crate::production::record::{Fields, Record};
 use crate::service::object_property::{ObjectProperty, write_object_property};
 use crate::service::{Said, Service};
+use bac_productions::option::bare_number;
+use bac_productions::record::{Fields, Record};
 use bac_tag::OutOfMemory;
 use bac_value::ObjectId;
 

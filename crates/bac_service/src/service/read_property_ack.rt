@@ -3,12 +3,12 @@
 ghost use Rattle.bac_service.specs.ReadPropertyAck.{SpellsReadPropertyAck, read_property_ack_parts};
 
 use crate::named::Named;
-use crate::production::open_value::{OpenValue, write_open};
-use crate::production::option::bare_number;
-use crate::production::record::{Fields, Record};
 use crate::service::object_property::{ObjectProperty, write_object_property};
 use crate::service::{Said, Service};
 use bac_data::Any;
+use bac_productions::open_value::{OpenValue, write_open};
+use bac_productions::option::bare_number;
+use bac_productions::record::{Fields, Record};
 use bac_tag::OutOfMemory;
 use bac_value::ObjectId;
 

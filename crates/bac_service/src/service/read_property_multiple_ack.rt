@@ -3,12 +3,12 @@
 ghost use Rattle.bac_service.specs.ReadAccessResult.{SpellsAccessResult, access_result_parts};
 
 use crate::named::NamedList;
-use crate::production::Production;
-use crate::production::field::Field;
-use crate::production::group::{Group, write_group};
-use crate::production::record::Record;
 use crate::service::Service;
 use crate::service::property_result::PropertyResult;
+use bac_productions::Production;
+use bac_productions::field::Field;
+use bac_productions::group::{Group, write_group};
+use bac_productions::record::Record;
 use bac_tag::OutOfMemory;
 use bac_value::ObjectId;
 
@@ -74,8 +74,8 @@ pub struct ReadPropertyMultipleAck {
 impl NamedList for ReadPropertyMultipleAck {
     ghost use Rattle.std.specs.Prelude.{◌↔◌, map, ℕ, List, true, refl};
     ghost use Rattle.std.proofs.Common.{lit<};
+    ghost use Rattle.bac_productions.specs.Productions.{Items};
     ghost use Rattle.bac_service.specs.declared.kind.Kind.TheVariants.{ComplexAck};
-    ghost use Rattle.bac_service.specs.Productions.{Items};
     ghost use Rattle.bac_service.specs.ReadAccessResult.{SpellsAccessResult, access_result_of};
     ghost use Rattle.bac_service.specs.ServiceTable.{read_property_multiple_ack};
     ghost use Rattle.bac_service.specs.Services.{value_of, SpellsService};

@@ -7,9 +7,9 @@ ghost use Rattle.bac_service.specs.ErrorCause.{SpellsErrorCause};
 ghost use Rattle.bac_service.specs.ServiceTable.{service_error, production_of};
 ghost use Rattle.bac_service.specs.declared.kind.Kind.TheVariants.{Error};
 
-use crate::production::record::Record;
 use crate::service::error_cause::ErrorCause;
 use crate::service::has_cause;
+use bac_productions::record::Record;
 use bac_tag::OutOfMemory;
 use std::marker::Model;
 

@@ -4,11 +4,11 @@ ghost use Rattle.bac_service.specs.SubscribeCov.{SpellsSubscribeCov};
 ghost use Rattle.bac_service.specs.Laws.SubscribeCov.{subscribe_cov_parts};
 
 use crate::named::Named;
-use crate::production::Production;
-use crate::production::field::Field;
-use crate::production::option::{bare, bare_number, bit_of, boolean_of, number_under, under};
-use crate::production::record::{Fields, Record};
 use crate::service::{Said, Service};
+use bac_productions::Production;
+use bac_productions::field::Field;
+use bac_productions::option::{bare, bare_number, bit_of, boolean_of, number_under, under};
+use bac_productions::record::{Fields, Record};
 use bac_tag::OutOfMemory;
 use bac_value::layers::Unsigned32;
 use bac_value::{Boolean, ObjectId};

@@ -3,10 +3,10 @@
 ghost use Rattle.bac_service.specs.WhoIs.{SpellsWhoIs, who_is_parts};
 
 use crate::named::Named;
-use crate::production::Production;
-use crate::production::field::Field;
-use crate::production::record::{Fields, Record};
 use crate::service::{Said, Service};
+use bac_productions::Production;
+use bac_productions::field::Field;
+use bac_productions::record::{Fields, Record};
 use bac_tag::OutOfMemory;
 use bac_value::Instance;
 

@@ -3,14 +3,14 @@
 ghost use Rattle.bac_service.specs.WriteProperty.{SpellsWriteProperty, write_property_parts};
 
 use crate::named::Named;
-use crate::production::Production;
-use crate::production::field::Field;
-use crate::production::open_value::{OpenValue, write_open};
-use crate::production::option::{bare, bare_number, under};
-use crate::production::record::{Fields, Record};
 use crate::service::object_property::{ObjectProperty, write_object_property};
 use crate::service::{Said, Service};
 use bac_data::Any;
+use bac_productions::Production;
+use bac_productions::field::Field;
+use bac_productions::open_value::{OpenValue, write_open};
+use bac_productions::option::{bare, bare_number, under};
+use bac_productions::record::{Fields, Record};
 use bac_tag::OutOfMemory;
 use bac_value::{ObjectId, Priority};
 

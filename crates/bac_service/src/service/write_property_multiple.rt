@@ -3,12 +3,12 @@
 ghost use Rattle.bac_service.specs.WriteAccessSpecification.{SpellsWriteSpecification, write_specification_parts};
 
 use crate::named::NamedList;
-use crate::production::Production;
-use crate::production::field::Field;
-use crate::production::group::{Group, write_group};
-use crate::production::record::Record;
 use crate::service::Service;
 use crate::service::property_value::PropertyValue;
+use bac_productions::Production;
+use bac_productions::field::Field;
+use bac_productions::group::{Group, write_group};
+use bac_productions::record::Record;
 use bac_tag::OutOfMemory;
 use bac_value::ObjectId;
 
@@ -65,8 +65,8 @@ pub struct WritePropertyMultiple {
 impl NamedList for WritePropertyMultiple {
     ghost use Rattle.std.specs.Prelude.{◌↔◌, map, ℕ, List, true, refl};
     ghost use Rattle.std.proofs.Common.{lit<};
+    ghost use Rattle.bac_productions.specs.Productions.{Items};
     ghost use Rattle.bac_service.specs.declared.kind.Kind.TheVariants.{Confirmed};
-    ghost use Rattle.bac_service.specs.Productions.{Items};
     ghost use Rattle.bac_service.specs.WriteAccessSpecification.{SpellsWriteSpecification, write_specification_of};
     ghost use Rattle.bac_service.specs.ServiceTable.{write_property_multiple};
     ghost use Rattle.bac_service.specs.Services.{value_of, SpellsService};

@@ -3,14 +3,14 @@
 ghost use Rattle.bac_service.specs.WritePropertyMultipleError.{SpellsWriteError, write_error_parts};
 
 use crate::named::Named;
-use crate::production::Production;
-use crate::production::field::Field;
-use crate::production::group::Group;
-use crate::production::option::{bare_number, number_under};
-use crate::production::record::{Fields, Record};
 use crate::service::error_cause::ErrorCause;
 use crate::service::object_property::ObjectProperty;
 use crate::service::{Said, Service};
+use bac_productions::Production;
+use bac_productions::field::Field;
+use bac_productions::group::Group;
+use bac_productions::option::{bare_number, number_under};
+use bac_productions::record::{Fields, Record};
 use bac_tag::OutOfMemory;
 use bac_value::{Enumerated, ObjectId};
 

@@ -1,4 +1,4 @@
-use Rattle.bac_service.specs.Laws.Least.{least_alike}
+use Rattle.bac_productions.specs.Laws.Least.{least_alike}
 use Rattle.bac_apdu.proofs.FormerLemmas.{apdu_same, back}
 use Rattle.bac_apdu.proofs.laws.former_apdus_are_kept.Goals as goal
 

@@ -1,6 +1,6 @@
 use Rattle.std.proofs.Common.{◌++◌, ◌∙◌, ap, append_assoc, List, ℕ}
 use Rattle.bac_data.proofs.EventLeastLemmas.{least_context}
-use Rattle.bac_service.specs.Laws.Least.{extends_more}
+use Rattle.bac_productions.specs.Laws.Least.{extends_more}
 use Rattle.bac_field_parts.proofs.elements.append_context.Goals as goal
 
 pub returns-clause-ok : goal.returns-clause-ok

@@ -7,7 +7,7 @@ use Rattle.bac_tag.specs.declared.heads.TagHead.TheVariants.{App}
 use Rattle.bac_tag.specs.Heads.{Heads}
 use Rattle.bac_tag.specs.Spelling.{IsLeast}
 use Rattle.bac_value.specs.PrimContents.{IsWrittenOf}
-use Rattle.bac_service.specs.Laws.Least.{extends_more}
+use Rattle.bac_productions.specs.Laws.Least.{extends_more}
 use Rattle.bac_field_parts.specs.Laws.Strings.{none_first, none_long, none_longer, none_written, written_made}
 use Rattle.bac_field_parts.proofs.elements.append_string.Goals as goal
 

@@ -1,6 +1,6 @@
 use Rattle.std.proofs.Common.{List, ℕ, reverse, sym, subst}
 use Rattle.std.proofs.lemmas.List.{take_rest}
-use Rattle.bac_service.specs.Laws.Least.{extends_more}
+use Rattle.bac_productions.specs.Laws.Least.{extends_more}
 use Rattle.bac_field_parts.specs.Laws.Steps.{HasStepped, steps_none, steps_more}
 use Rattle.bac_field_parts.proofs.groups.make_elements.Goals as goal
 

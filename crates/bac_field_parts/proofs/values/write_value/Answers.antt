@@ -3,9 +3,9 @@ use Rattle.std.proofs.lemmas.Result.{on_ok_weaker}
 use Rattle.bac_tag.specs.declared.heads.TagHead.{TagHead}
 use Rattle.bac_tag.specs.Spelling.{IsLeast}
 use Rattle.bac_tag.specs.Heads.{Heads}
-use Rattle.bac_service.specs.Fields.{heading}
-use Rattle.bac_service.specs.Laws.Field.{appends_field}
-use Rattle.bac_service.specs.Laws.Least.{extends_written}
+use Rattle.bac_productions.specs.Fields.{heading}
+use Rattle.bac_productions.specs.Laws.Field.{appends_field}
+use Rattle.bac_productions.specs.Laws.Least.{extends_written}
 use Rattle.bac_field_parts.proofs.values.write_value.Goals as goal
 
 pub returns-clause-ok : goal.returns-clause-ok

@@ -1,6 +1,6 @@
 use Rattle.std.proofs.Common.{sym, ◌∙◌}
 use Rattle.std.proofs.lemmas.Result.{IfOk-weaker, IfErr-weaker}
-use Rattle.bac_service.specs.Laws.Least.{extends_more}
+use Rattle.bac_productions.specs.Laws.Least.{extends_more}
 use Rattle.bac_fields.specs.Laws.Frames.{message_stops_body, apdu_stops_body}
 use Rattle.bac_field_parts.specs.Laws.Making.{stop_then}
 use Rattle.bac_fields.proofs.FrameMaking.{on_ok, is_forty, not_forty, message_after, apdu_after}

@@ -1,4 +1,4 @@
-use Rattle.bac_service.specs.Laws.Least.{least_alike}
+use Rattle.bac_productions.specs.Laws.Least.{least_alike}
 use Rattle.bac_apdu.proofs.FormerLemmas.{back}
 use Rattle.bac_npdu_parts.proofs.FormerLemmas.{frame_same}
 use Rattle.bac_npdu_parts.proofs.laws.former_frames_are_kept.Goals as goal

@@ -1,7 +1,7 @@
 use Rattle.std.specs.Prelude.{ℕ, List, ◌⊎◌}
 use Rattle.std.proofs.Common.{inl, inr}
 use Rattle.bac_tag.specs.Spelling.{IsViable, IsPartway}
-use Rattle.bac_service.specs.Contents.{ApplicationEnumerated, ApplicationEnumeratedPart, of_number}
+use Rattle.bac_productions.specs.Contents.{ApplicationEnumerated, ApplicationEnumeratedPart, of_number}
 use Rattle.bac_service.proofs.laws.causes_are_viable_in_turn.Goals as goal
 
 -- an Enumerated is viable where the number in it is

@@ -1,8 +1,8 @@
 use Rattle.std.specs.Prelude.{◌≡◌, ℕ, ◌<◌, true, Option, None, Some, [], refl}
 use Rattle.std.proofs.Common.{sym}
 use Rattle.bac_tag.specs.Spelling.{IsViable}
+use Rattle.bac_productions.specs.Productions.{IsInhabited}
 use Rattle.bac_service.specs.declared.kind.Kind.{Kind}
-use Rattle.bac_service.specs.Productions.{IsInhabited}
 use Rattle.bac_service.specs.ServiceTable.{ServiceProduction, production_of}
 use Rattle.bac_service.specs.Services.{typed, opaque, SpellsBy, SpellsService}
 use Rattle.bac_service.specs.Laws.Service.{spelled_as}

@@ -1,5 +1,5 @@
 use Rattle.std.specs.Prelude.{◌↔◌}
-use Rattle.bac_service.specs.Laws.Least.{least_alike}
+use Rattle.bac_productions.specs.Laws.Least.{least_alike}
 use Rattle.bac_service.proofs.WideningLemmas.{former_same}
 use Rattle.bac_service.proofs.laws.former_services_are_kept.Goals as goal
 

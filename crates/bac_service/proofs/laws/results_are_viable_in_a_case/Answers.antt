@@ -2,10 +2,10 @@ use Rattle.std.specs.Prelude.{ℕ, ◌⊎◌, List, ◌++◌}
 use Rattle.std.proofs.Common.{inl, inr}
 use Rattle.bac_tag.specs.Spelling.{IsViable}
 use Rattle.bac_data.specs.Spells.{SpellsOpen}
+use Rattle.bac_productions.specs.Productions.{Grouped}
 use Rattle.bac_service.specs.declared.service.property_result.ReadResult.{ReadResult}
 use Rattle.bac_service.specs.declared.service.property_result.ReadResult.TheVariants.{Value, Error}
 use Rattle.bac_service.specs.ErrorCause.{SpellsErrorCause}
-use Rattle.bac_service.specs.Productions.{Grouped}
 use Rattle.bac_service.specs.PropertyResult.{SpellsReadResult}
 use Rattle.bac_service.proofs.laws.results_are_viable_in_a_case.Goals as goal
 

@@ -4,7 +4,7 @@ use Rattle.std.proofs.lemmas.List.{take_rest}
 use Rattle.std.proofs.lemmas.Result.{err_from_is_err_and}
 use Rattle.bac_data.specs.OpenValue.{Elements}
 use Rattle.bac_data.specs.Spells.{SpellsOpen}
-use Rattle.bac_service.specs.Laws.Least.{extends_more}
+use Rattle.bac_productions.specs.Laws.Least.{extends_more}
 use Rattle.bac_field_parts.specs.OpenValueFields.{open_steps}
 use Rattle.bac_field_parts.specs.Symbols.{Made, steps_said, symbols_in}
 use Rattle.bac_field_parts.specs.Laws.Making.{stop_then}

@@ -1,7 +1,7 @@
 use Rattle.std.proofs.Common.{◌≡◌, ◌++◌, ◌∷◌, [], ◌<◌, length, refl, sym, ◌∙◌, arith}
 use Rattle.std.proofs.lemmas.Bool.{and_parts}
 use Rattle.std.proofs.lemmas.List.{take_rest, length-drop}
-use Rattle.bac_service.specs.Laws.Least.{extends_more}
+use Rattle.bac_productions.specs.Laws.Least.{extends_more}
 use Rattle.bac_field_parts.specs.Laws.Making.{some_taken}
 use Rattle.bac_field_parts.specs.Laws.Tables.{none_counted, more_counted, full_stop, item_counted_stop, end_counted_stop, set_extends, all_counted}
 use Rattle.bac_field_parts.proofs.tables.TableFromFields.make.Goals as goal

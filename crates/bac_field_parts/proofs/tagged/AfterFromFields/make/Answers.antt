@@ -4,7 +4,7 @@ use Rattle.std.proofs.lemmas.Result.{IfOk-weaker, IfErr-weaker}
 use Rattle.bac_tag.specs.declared.heads.TagHead.{TagHead}
 use Rattle.bac_tag.specs.declared.heads.TagHead.TheVariants.{Open, Close}
 use Rattle.bac_tag.specs.Heads.{IsValid}
-use Rattle.bac_service.specs.Laws.Least.{extends_more}
+use Rattle.bac_productions.specs.Laws.Least.{extends_more}
 use Rattle.bac_field_parts.specs.Laws.Making.{stop_then}
 use Rattle.bac_field_parts.specs.Laws.Tagged.{after_made, after_stopped}
 use Rattle.bac_field_parts.specs.Symbols.{is_edge}

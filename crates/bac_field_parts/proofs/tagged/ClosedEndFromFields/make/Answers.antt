@@ -1,5 +1,5 @@
 use Rattle.std.proofs.lemmas.Bool.{leb-true}
-use Rattle.bac_service.specs.Laws.Tag.{closing_inhabited}
+use Rattle.bac_productions.specs.Laws.Tag.{closing_inhabited}
 use Rattle.bac_field_parts.specs.Laws.Leaves.{end_stopped}
 use Rattle.bac_field_parts.proofs.tagged.ClosedEndFromFields.make.Goals as goal
 

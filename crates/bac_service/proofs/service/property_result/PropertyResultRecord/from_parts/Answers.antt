@@ -1,5 +1,5 @@
 use Rattle.std.specs.Option.{option_map}
-use Rattle.bac_service.specs.Productions.{either_of}
+use Rattle.bac_productions.specs.Productions.{either_of}
 use Rattle.bac_service.specs.Laws.PropertyResult.{property_result_alike}
 use Rattle.bac_service.proofs.service.property_result.PropertyResultRecord.from_parts.Goals as goal
 

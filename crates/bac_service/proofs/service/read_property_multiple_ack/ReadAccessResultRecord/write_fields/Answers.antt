@@ -1,6 +1,6 @@
 use Rattle.std.proofs.lemmas.List.{map-id}
 use Rattle.std.proofs.lemmas.Result.{on_ok_weaker}
-use Rattle.bac_service.specs.Laws.Least.{appends_joined, appends_nothing, extends_more}
+use Rattle.bac_productions.specs.Laws.Least.{appends_joined, appends_nothing, extends_more}
 use Rattle.bac_service.proofs.service.read_property_multiple_ack.ReadAccessResultRecord.write_fields.Goals as goal
 
 pub returns-in-Some-clause-ok : goal.returns-in-Some-clause-ok

@@ -1,5 +1,5 @@
 use Rattle.std.proofs.lemmas.Result.{on_ok_weaker}
-use Rattle.bac_service.specs.Laws.Least.{appends_joined, extends_more}
+use Rattle.bac_productions.specs.Laws.Least.{appends_joined, extends_more}
 use Rattle.bac_service.proofs.service.write_property.WritePropertyRecord.write_fields.Goals as goal
 
 pub returns-clause-ok : goal.returns-clause-ok

@@ -1,0 +1,21 @@
+-- What only proofs need: laws of the definitions, which no contract cites.
+pub mod Faults
+pub mod Lead
+pub mod Collisions
+pub mod Production
+pub mod Longest
+pub mod Reach
+pub mod Refusal
+pub mod Least
+pub mod Record
+pub mod List
+pub mod Choice
+pub mod Tag
+pub mod Group
+pub mod Field
+pub mod WideNumber
+pub mod OpenValue
+pub mod HasLeast
+pub mod Whole
+pub mod Viable
+pub mod Canonical

@@ -1,0 +1,16 @@
+-- Why nothing was read.
+use Rattle.std.specs.Prelude.{◌≡◌, ℕ}
+use Rattle.bac_tag.specs.declared.refusals.Refusal.{Refusal}
+use Rattle.bac_tag.specs.declared.refusals.Why.TheVariants.{Trailing}
+use Rattle.bac_productions.specs.Reasons.{IsReachReason}
+use Rattle.bac_productions.specs.declared.production.ReadFault.{ReadFault}
+use Rattle.bac_productions.specs.declared.production.ReadFault.TheVariants.{OutOfMemory, Refused}
+
+-- a fact on the refusal, where the octets are refused
+abbrev pub IfRefused : ReadFault → (Refusal → Type 0) → Type 0
+IfRefused OutOfMemory P = Unit {0}
+IfRefused (Refused refusal) P = P refusal
+
+-- Trailing is told where a whole spelling ends and nowhere else, and OutOfMemory never
+abbrev pub EndsOrGoesOn : ℕ → Refusal → Type 0
+EndsOrGoesOn taken reach = (reach.why ≡ Trailing → reach.place ≡ taken) × IsReachReason reach.why

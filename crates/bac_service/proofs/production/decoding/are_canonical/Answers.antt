@@ -1,4 +1,0 @@
-use Rattle.bac_service.proofs.production.decoding.are_canonical.Goals as goal
-
-pub canonical_len-requires : goal.canonical_len-requires
-canonical_len-requires g c = g.met.P.Production.decided c.requires

@@ -1,7 +1,0 @@
-use Rattle.bac_service.proofs.production.decoding.decode.Goals as goal
-
-pub read_spelling-requires : goal.read_spelling-requires
-read_spelling-requires g c = g.met.P.Production.decided c.requires
-
-pub decode_part_by_part-requires : goal.decode_part_by_part-requires
-decode_part_by_part-requires g c = g.met.P.Production.decided c.requires
