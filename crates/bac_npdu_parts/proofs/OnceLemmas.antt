@@ -82,6 +82,9 @@ port_same p n i info e f g =
     let c = ap (λ (l : List ℕ). let q : Port = record { network = p.network; id = p.id; info = l } in q) g in
     a ∙ b ∙ c
 
+ports_next_same : (p q : Port) (ps qs : List Port) → p ≡ q → ps ≡ qs → p ∷ ps ≡ q ∷ qs
+ports_next_same p q ps qs e f = ap (λ (x : Port). x ∷ ps) e ∙ ap (λ (l : List Port). q ∷ l) f
+
 ports_are : (ps : List Port) (b : List ℕ) → Headed (ports_of ps) End b → ports (length ps) b ≡ ps
 unfolding ports number_at
 ports_are [] b h = refl
@@ -156,6 +159,8 @@ message_is (network_number_is n t) o (x ∷ y ∷ []) h = absurd h.1.1.1.1
 message_is (network_number_is n t) o (x ∷ y ∷ z ∷ b) h = ap (λ (k : ℕ). message_at k (x ∷ y ∷ z ∷ b)) h.1.0.0 ∙ ap (λ (k : ℕ). network_number_is k z) (number_is x y n h.1.1.0.0 h.1.1.1.0.0) ∙ ap (λ (k : ℕ). network_number_is n k) h.1.1.1.1.0.0
 message_is (opaque m) o b h = untyped m.vendor refl
   where
+    layoutless : message_at o b ≡ cond (nat_lt o 128) (opaque (record { kind = o; vendor = None; octets = b })) (opaque (record { kind = o; vendor = Some (number_at 0 b); octets = drop 2 b }))
+    layoutless = ap (λ (f : Bool). cond f (typed_message o b) (cond (nat_lt o 128) (opaque (record { kind = o; vendor = None; octets = b })) (opaque (record { kind = o; vendor = Some (number_at 0 b); octets = drop 2 b })))) (ap is_typed h.1.0.0 ∙ h.0.0)
 
     untyped : (v : Option ℕ) → m.vendor ≡ v → message_at o b ≡ opaque m
     untyped None e =

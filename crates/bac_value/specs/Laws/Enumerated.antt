@@ -5,16 +5,16 @@ use Rattle.std.proofs.Common.{◌≡◌, ℕ, ◌≤◌, ◌<◌, ◌+◌, ◌*�
 use Rattle.std.proofs.Math.Nat.{pow-le-pow_right, mul-le-mul_right}
 use Rattle.std.proofs.lemmas.Nat.{pow-add}
 use Rattle.std.proofs.lemmas.List.{get_or-take}
-use Rattle.std.proofs.lemmas.Int.Digits.{number_lt}
-use Rattle.bac_tag.specs.Laws.Octets.{octets_drop}
+use Rattle.std.proofs.lemmas.Int.Digits.{number_lt, number_more}
+use Rattle.bac_tag.specs.Laws.Octets.{octets_take, octets_drop}
 use Rattle.bac_tag.specs.Octets.{IsOctets}
 use Rattle.bac_tag.specs.Number.{number}
-use Rattle.bac_tag.specs.Laws.Number.{begins_number}
+use Rattle.bac_tag.specs.Laws.Number.{begins_number, begins_number_only}
 use Rattle.bac_value.specs.declared.types.enumeration.Enumerated.{Enumerated}
 use Rattle.bac_value.specs.Primitives.{IsBegun, IsHopelessAt}
 use Rattle.bac_numbers.specs.Numbers.{NumberContents}
 use Rattle.bac_numbers.specs.Laws.Numbers.{number-drop}
-use Rattle.bac_value.specs.Laws.NumberTypes.{number_begun, number_each_length}
+use Rattle.bac_value.specs.Laws.NumberTypes.{number_begun, number_begins, number_each_length}
 
 abbrev pub enumerated_number : Enumerated → ℕ
 enumerated_number value = value.0
@@ -65,6 +65,24 @@ four_begun front size wide p within sized le place zeros =
     ] in
     number_begun enumerated_number enumerated_of (λ n. refl) 0 (2 ^ 32 - 1) front size p sized
     (begins_number 0 (2 ^ 32 - 1) front size rest (omega arith) (lit≤ tt) (small_enough front (drop wide front) rest (octets_drop wide front p) (sym (number-drop wide front zeros)) behind) (positive front rest))
+
+-- and with another octet there none can
+pub four_hopeless : (front : List ℕ) (size place : ℕ) → IsOctets front → length front ≤ size → (1 ≤ size) × (size ≤ 8) → place < length front → place + 4 < size → ((k : ℕ) → k < place → get_or front k 0 ≡ 0) → 0 < get_or front place 0
+    → IsHopelessAt (λ (value : Enumerated) octets. NumberContents 0 (2 ^ 32 - 1) value.0 octets) front size place
+four_hopeless front size place p within sized le four zeros some =
+    let front_is : length (take place front) ≡ place = omega (arith, length-take place front) in
+    let long : length (take (place + 1) front) ≡ place + 1 = omega (arith, length-take (place + 1) front) in
+    let step : number (take (place + 1) front) ≡ number (take place front) * 256 + get_or front place 0 = number_more 256 front place le in
+    let rest : ℕ = size - place - 1 in
+    let exponent : 4 ≤ rest = omega arith in
+    let worth : 256 ^ 4 ≤ 256 ^ rest = pow-le-pow_right (lit≤ tt) exponent in
+    let much : 1 * 256 ^ rest ≤ number (take (place + 1) front) * 256 ^ rest = mul-le-mul_right (256 ^ rest) (omega arith) in (
+      le,
+      four_begun (take place front) size place (octets_take place front p) (omega arith) sized (omega arith) (inl (omega (arith, front_is))) (λ k l. get_or-take place front k 0 l ∙ zeros k l),
+      λ begun.
+          let two = begins_number_only 0 (2 ^ 32 - 1) (take (place + 1) front) size rest (omega (arith, long)) (number_begins enumerated_number enumerated_of (λ n. refl) 0 (2 ^ 32 - 1) (take (place + 1) front) size begun) in
+          omega (arith, two.0),
+    )
 
 -- zeros in a front are zeros of the whole
 pub front_zeros : (front : List ℕ) (wide : ℕ) → wide ≤ length front → ((k : ℕ) → k < length (take wide front) → get_or (take wide front) k 0 ≡ 0) → (k : ℕ) → k < wide → get_or front k 0 ≡ 0
