@@ -135,7 +135,7 @@ pub fn read_head(octets: &[u8]) -> Result<HeadRead<'_>, Refusal>
     })
 }
 
-/// Returns the place of the control octet if an ignored bit of it is not 0, and None otherwise.
+/// Returns the place of the control octet (clause 6.2.2) if an ignored bit of it is not 0, and None otherwise.
 #[inline(always)]
 pub fn mark_of(control: Control) -> Option<usize>
     ensures { IsControlMark (control_octet control) result }

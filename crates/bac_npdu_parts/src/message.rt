@@ -74,7 +74,7 @@ pub enum NetMessage {
     Opaque(OpaqueNet),
 }
 
-/// Returns true if messages of this type have a layout.
+/// Returns true if messages of this type have a layout (clause 6.4).
 #[inline(always)]
 pub fn has_layout(kind: u8) -> bool
     ensures { result ≡ is_typed kind }

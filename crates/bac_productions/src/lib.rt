@@ -56,13 +56,13 @@ pub mod decoding;
 pub mod field;
 pub mod group;
 pub mod laws;
-pub mod list;
-pub mod long_head;
+mod list;
+mod long_head;
 pub mod open_value;
 pub mod option;
-pub mod pair;
+mod pair;
 pub mod production;
 pub mod record;
-pub mod tag;
+mod tag;
 
 pub use production::Production;

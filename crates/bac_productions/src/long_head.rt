@@ -12,7 +12,7 @@ use std::marker::Model;
 /// A head that was found: how many octets it has, and the length in it. Both are in one number, which a call returns in
 /// a register.
 #[derive(Drop)]
-pub struct FoundHead {
+pub(crate) struct FoundHead {
     /// 256 times the length, plus the number of octets.
     number: u64,
 }
@@ -35,7 +35,7 @@ impl FoundHead {
 
     /// Returns how many octets it has.
     #[inline(always)]
-    pub fn taken(&self) -> usize
+    pub(crate) fn taken(&self) -> usize
         ensures { result ≡ self.now.taken }
     {
         (self.number % 256) as usize
@@ -43,7 +43,7 @@ impl FoundHead {
 
     /// Returns the length in it.
     #[inline(always)]
-    pub fn size(&self) -> usize
+    pub(crate) fn size(&self) -> usize
         ensures { result ≡ self.now.len }
     {
         (self.number / 256) as usize
@@ -65,7 +65,7 @@ fn find_head(octets: &[u8], context: bool, number: u8) -> Option<FoundHead>
 /// takes. The head is looked for only if the first octet leaves the number or the length to the octets after it. None
 /// says nothing about the octets.
 #[inline(always)]
-pub fn long_head(octets: &[u8], context: bool, number: u8) -> Option<FoundHead>
+pub(crate) fn long_head(octets: &[u8], context: bool, number: u8) -> Option<FoundHead>
     requires { IsValid (headed context number 0) }
     ensures { IfSome result (λ found. Takes (λ len. Heads (headed context number len)) octets.now (found.len, found.taken)) }
 {

@@ -87,7 +87,7 @@ impl Spelling<()> {
 
 /// Returns how many of `taken` octets are before their mark: all of them if there is none.
 #[inline(always)]
-pub fn same_octets(taken: usize, mark: Option<usize>) -> usize
+pub(crate) fn same_octets(taken: usize, mark: Option<usize>) -> usize
     ensures all { IfNone mark (result ≡ taken) }
     ensures some { IfSome mark (λ place. result ≡ place) }
 {
@@ -100,7 +100,7 @@ pub fn same_octets(taken: usize, mark: Option<usize>) -> usize
 /// Returns how many octets of two parts, one after the other, are before the mark of the whole. `first` and `second`
 /// are the same numbers for each part alone, and the first part has `taken` octets.
 #[inline(always)]
-pub fn joined_same(first: usize, taken: usize, second: usize) -> usize
+pub(crate) fn joined_same(first: usize, taken: usize, second: usize) -> usize
     requires { taken + second < 2 ^ 64 }
     ensures first { first < taken → result ≡ first }
     ensures second { taken ≤ first → result ≡ taken + second }
@@ -112,7 +112,7 @@ pub fn joined_same(first: usize, taken: usize, second: usize) -> usize
 /// Returns true if the mark of the part after `taken` octets is wanted. It is if the mark of the whole is wanted and
 /// all the octets before the part are canonical.
 #[inline(always)]
-pub fn is_wanted_behind(wanted: bool, same: usize, taken: usize) -> bool
+pub(crate) fn is_wanted_behind(wanted: bool, same: usize, taken: usize) -> bool
     ensures { IsTrue result ↔ (IsTrue wanted × (same ≡ taken)) }
 {
     wanted && same == taken
@@ -185,7 +185,7 @@ impl Front<()> {
 
 /// Returns the reach of octets whose first `taken` octets are a whole spelling that cannot continue. The octets after
 /// them, if there are any, are trailing.
-pub fn complete_at(octets: &[u8], taken: usize) -> Refusal
+pub(crate) fn complete_at(octets: &[u8], taken: usize) -> Refusal
     ensures place { result.place ≡ taken }
     ensures short { (result.why ≡ Why.Short) ↔ (taken ≡ length octets.now) }
     ensures reason { IsReachReason result.why }

@@ -18,7 +18,7 @@ use std::alloc::Global;
 
 /// The tag at an edge of a group: the opening one if `OPENS`, and otherwise the closing one.
 #[derive(Drop)]
-pub struct Edge<const N: u8, const OPENS: bool>;
+pub(crate) struct Edge<const N: u8, const OPENS: bool>;
 
 /// Returns the head of the tag.
 #[inline(always)]
