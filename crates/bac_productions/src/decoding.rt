@@ -48,10 +48,7 @@ fn decode_part_by_part<P: Production>(
 /// The place is that of the first octet with which no spelling continues. The reason is `Trailing` if the octets before
 /// it are a spelling, and `Short` if all the octets begin one. `OutOfMemory` at 0 if memory is refused.
 #[inline(always)]
-pub fn decode<P: Production>(
-    alloc: Global,
-    octets: &[u8],
-) -> Result<(P, Option<usize>), Refusal>
+pub fn decode<P: Production>(alloc: Global, octets: &[u8]) -> Result<(P, Option<usize>), Refusal>
     requires { P.collisions ≡ [] }
     ensures found { IfOk result (λ found. P.spells (P.view found.0) octets.now) }
     ensures mark { IfOk result (λ found. HasMark (P.spells (P.view found.0)) octets.now found.1) }
