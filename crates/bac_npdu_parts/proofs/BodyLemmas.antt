@@ -7,7 +7,7 @@ use Rattle.bac_tag.specs.declared.refusals.Why.TheVariants.{Short, Trailing, Pdu
 use Rattle.bac_tag.specs.Laws.Octets.{NoGreater-same}
 use Rattle.bac_tag.specs.Refusals.{behind}
 use Rattle.bac_tag.specs.Spelling.{HasMark, IsWholeRefusal}
-use Rattle.bac_tag.specs.HeadOctets.{Part, typed, limits, octet, window, Headed, least_head}
+use Rattle.bac_tag.specs.HeadOctets.{Part, octet, Headed, least_head}
 use Rattle.bac_tag.proofs.BehindLemmas.{whole_body}
 use Rattle.bac_data.specs.Refusals.{IsItemReason}
 use Rattle.bac_apdu.specs.FirstOctet.{IsTypePlace, IsWindowPlace}
@@ -63,10 +63,8 @@ message_refused b r h = record {
 numbers_told : (ps : List Part) (b : List ℕ) → AreNumbers ps → Headed ps (λ rest. rest ≡ []) b → b ≡ least_head ps
 numbers_told [] b n h = h
 numbers_told (p ∷ ps) [] n h = absurd h
-numbers_told (octet k ∷ ps) (o ∷ b) n h = ap (λ (x : ℕ). x ∷ b) h.0.0 ∙ ap (λ (l : List ℕ). k ∷ l) (numbers_told ps b n.1 h.1)
-numbers_told (typed t x y z w ∷ ps) (o ∷ b) n h = absurd n.0
-numbers_told (limits s r ∷ ps) (o ∷ b) n h = absurd n.0
-numbers_told (window w ∷ ps) (o ∷ b) n h = absurd n.0
+numbers_told (octet k ∷ ps) (o ∷ b) n h = ap (λ (x : ℕ). x ∷ b) h.0.0 ∙ ap (λ (l : List ℕ). k ∷ l) (numbers_told ps b n h.1)
+numbers_told (p ∷ ps) (o ∷ b) n h = absurd n
 
 pub message_once : (m : MessageValue) (b c : List ℕ) → SpellsMessage m b → SpellsMessage m c → b ≡ c
 message_once m b c p q = numbers_told (octets_of m) b (message_numbers m) p.1 ∙ sym (numbers_told (octets_of m) c (message_numbers m) q.1)

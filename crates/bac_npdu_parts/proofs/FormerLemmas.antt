@@ -4,9 +4,9 @@ use Rattle.std.proofs.Common.{sym, ◌∙◌}
 use Rattle.bac_apdu.specs.Apdus.{ApduValue, SpellsApdu}
 use Rattle.bac_apdu.specs.FormerApdus.{SpellsFormerApdu, IsKept as IsKeptApdu}
 use Rattle.bac_npdu_parts.specs.MessageTypes.{is_typed}
-use Rattle.bac_npdu_parts.specs.Messages.{MessageValue, opaque, SpellsMessage}
+use Rattle.bac_npdu_parts.specs.Messages.{MessageValue, opaque, type_of, SpellsMessage}
 use Rattle.bac_npdu_parts.specs.Frames.{BodyValue, apdu, message, FrameValue, SpellsBody, SpellsFrame}
-use Rattle.bac_npdu_parts.specs.FormerFrames.{had_layout, type_of, SpellsFormerMessage, SpellsFormerBody, SpellsFormerFrame, IsKept}
+use Rattle.bac_npdu_parts.specs.FormerFrames.{had_layout, SpellsFormerMessage, SpellsFormerBody, SpellsFormerFrame, IsKept}
 use Rattle.bac_npdu_parts.proofs.FrameLemmas.{framed_as}
 
 -- a message of a type that had a layout then as it has now; the second line is that of each other variant

@@ -1,6 +1,6 @@
 -- Network messages of a fixed number of octets.
-use Rattle.std.specs.Prelude.{◌≡◌, ℕ, zero, suc, ◌+◌, ◌*◌, ◌/◌, ◌%◌, ◌<◌, nat_eq, cond, true, false, Option, Some, None, List, [], ◌∷◌, ◌++◌, length, drop, slice_index, Err, refl}
-use Rattle.std.proofs.Common.{inl, inr, sym, ◌∙◌, ap, subst, arith}
+use Rattle.std.specs.Prelude.{◌≡◌, ℕ, zero, suc, ◌+◌, ◌*◌, ◌/◌, ◌%◌, ◌<◌, nat_eq, cond, Bool, true, false, Option, Some, None, List, [], ◌∷◌, ◌++◌, length, drop, slice_index, Err, refl}
+use Rattle.std.proofs.Common.{inl, inr, sym, ◌∙◌, ap, subst, eqb-true, arith}
 use Rattle.std.proofs.lemmas.List.{length-append, length-take-le}
 use Rattle.bac_tag.specs.declared.refusals.Refusal.{Refusal}
 use Rattle.bac_tag.specs.declared.refusals.Why.TheVariants.{Short, Trailing, OutOfMemory}
@@ -9,7 +9,7 @@ use Rattle.bac_tag.specs.HeadOctets.{Part, Headed}
 use Rattle.bac_tag.proofs.BehindLemmas.{whole_short, whole_trailing}
 use Rattle.bac_tag.proofs.FilledLemmas.{octets_from, filled, filled_viable, filled_taken, filled_split, viable_itself}
 use Rattle.bac_npdu_parts.specs.MessageTypes.{is_typed}
-use Rattle.bac_npdu_parts.specs.Messages.{MessageValue, who_is_router, i_am_router, i_could_be_router, reject_message, router_busy, router_available, init_table, init_table_ack, establish, disconnect, what_is_network_number, network_number_is, opaque, octets_of, SpellsMessage}
+use Rattle.bac_npdu_parts.specs.Messages.{MessageValue, what_is_network_number, opaque, octets_of, type_of, IsMessage, SpellsMessage}
 use Rattle.bac_npdu_parts.specs.Decoded.{IsSized, BeginsWith, IsMessageRefused}
 
 -- how many octets messages of a type have, where all have as many
@@ -21,29 +21,28 @@ whole_long [] b h = ap (λ (l : List ℕ). length l) h
 whole_long (p ∷ ps) [] h = absurd h
 whole_long (p ∷ ps) (o ∷ b) h = ap suc (whole_long ps b h.1)
 
-none_sized : {P : Type 0} (o k n : ℕ) → o ≡ k → size_at k ≡ None → size_at o ≡ Some n → P
-none_sized o k n e f g = absurd (let i : Some n ≡ None = sym g ∙ ap size_at e ∙ f in cc)
-
-as_sized : (o k n m l : ℕ) → o ≡ k → size_at k ≡ Some m → size_at o ≡ Some n → l ≡ m → l ≡ n
-as_sized o k n m l e f g h = let i : m ≡ n = (let j : Some m ≡ Some n = sym f ∙ sym (ap size_at e) ∙ g in cc) in h ∙ i
-
 pub not_typed : {P : Type 0} (o k : ℕ) → o ≡ k → is_typed k ≡ false → is_typed o ≡ true → P
 not_typed o k e f g = absurd (let i : true ≡ false = sym g ∙ ap is_typed e ∙ f in cc)
 
+-- The first octet is the type. Here and below, the line after those of some messages is that of each other message.
+pub first_is : (m : MessageValue) (o : ℕ) (b : List ℕ) → SpellsMessage m (o ∷ b) → o ≡ type_of m
+first_is (opaque x) o b p = p.1.0.0
+first_is _ o b p = p.1.0.0
+
+-- so many octets are as many as these, where these are told
+abbrev has_size : ℕ → Option ℕ → Bool
+has_size size None = true
+has_size size (Some n) = nat_eq size n
+
+size_is : (m : MessageValue) → IsMessage m → is_typed (type_of m) ≡ true → has_size (length (octets_of m)) (size_at (type_of m)) ≡ true
+size_is (opaque x) h t = not_typed x.kind x.kind refl h.0 t
+size_is _ h t = refl
+
 pub sized_told : (m : MessageValue) (o n : ℕ) (b : List ℕ) → is_typed o ≡ true → size_at o ≡ Some n → SpellsMessage m (o ∷ b) → length (o ∷ b) ≡ n
-sized_told (who_is_router x) o n b t e p = none_sized o 0 n p.1.0.0 refl e
-sized_told (i_am_router x) o n b t e p = none_sized o 1 n p.1.0.0 refl e
-sized_told (i_could_be_router x y) o n b t e p = as_sized o 2 n 4 (length (o ∷ b)) p.1.0.0 refl e (whole_long (octets_of (i_could_be_router x y)) (o ∷ b) p.1)
-sized_told (reject_message x y) o n b t e p = as_sized o 3 n 4 (length (o ∷ b)) p.1.0.0 refl e (whole_long (octets_of (reject_message x y)) (o ∷ b) p.1)
-sized_told (router_busy x) o n b t e p = none_sized o 4 n p.1.0.0 refl e
-sized_told (router_available x) o n b t e p = none_sized o 5 n p.1.0.0 refl e
-sized_told (init_table x) o n b t e p = none_sized o 6 n p.1.0.0 refl e
-sized_told (init_table_ack x) o n b t e p = none_sized o 7 n p.1.0.0 refl e
-sized_told (establish x y) o n b t e p = as_sized o 8 n 4 (length (o ∷ b)) p.1.0.0 refl e (whole_long (octets_of (establish x y)) (o ∷ b) p.1)
-sized_told (disconnect x) o n b t e p = as_sized o 9 n 3 (length (o ∷ b)) p.1.0.0 refl e (whole_long (octets_of (disconnect x)) (o ∷ b) p.1)
-sized_told what_is_network_number o n b t e p = as_sized o 18 n 1 (length (o ∷ b)) p.1.0.0 refl e (whole_long (octets_of what_is_network_number) (o ∷ b) p.1)
-sized_told (network_number_is x y) o n b t e p = as_sized o 19 n 4 (length (o ∷ b)) p.1.0.0 refl e (whole_long (octets_of (network_number_is x y)) (o ∷ b) p.1)
-sized_told (opaque x) o n b t e p = not_typed o x.kind p.1.0.0 p.0.0 t
+sized_told m o n b t e p =
+    let first = first_is m o b p in
+    let size = sym (ap (has_size (length (octets_of m))) (sym (ap size_at first) ∙ e)) ∙ size_is m p.0 (sym (ap is_typed first) ∙ t) in
+    whole_long (octets_of m) (o ∷ b) p.1 ∙ eqb-true (length (octets_of m)) n size
 
 -- the octet at a place is the first of those from it on
 pub parted : (n : ℕ) (b : List ℕ) → n < length b → (rest : List ℕ) × (b ≡ filled n b ++ slice_index b n ∷ rest)
@@ -95,19 +94,8 @@ pub low_octet : (a b : ℕ) → b < 256 → b ≡ (256 * a + b) % 256
 low_octet a b lt = omega (arith, lt)
 
 pub nothing_spells : (m : MessageValue) → SpellsMessage m [] → ⊥
-nothing_spells (who_is_router x) p = p.1
-nothing_spells (i_am_router x) p = p.1
-nothing_spells (i_could_be_router x y) p = p.1
-nothing_spells (reject_message x y) p = p.1
-nothing_spells (router_busy x) p = p.1
-nothing_spells (router_available x) p = p.1
-nothing_spells (init_table x) p = p.1
-nothing_spells (init_table_ack x) p = p.1
-nothing_spells (establish x y) p = p.1
-nothing_spells (disconnect x) p = p.1
-nothing_spells what_is_network_number p = p.1
-nothing_spells (network_number_is x y) p = p.1
 nothing_spells (opaque x) p = p.1
+nothing_spells _ p = p.1
 
 -- no octets begin a network message
 pub nothing_refused : (b : List ℕ) → length b < 1 → IsMessageRefused b (record { place = length b; why = Short })

@@ -8,7 +8,7 @@ use Rattle.bac_tag.specs.declared.refusals.Why.TheVariants.{Short, OutOfMemory}
 use Rattle.bac_tag.specs.HeadOctets.{Headed}
 use Rattle.bac_tag.proofs.BehindLemmas.{whole_short}
 use Rattle.bac_npdu_parts.specs.MessageTypes.{is_typed}
-use Rattle.bac_npdu_parts.specs.Messages.{MessageValue, who_is_router, i_am_router, i_could_be_router, reject_message, router_busy, router_available, init_table, init_table_ack, establish, disconnect, what_is_network_number, network_number_is, opaque, networks_of, SpellsMessage}
+use Rattle.bac_npdu_parts.specs.Messages.{MessageValue, i_am_router, router_busy, router_available, opaque, networks_of, type_of, SpellsMessage}
 use Rattle.bac_npdu_parts.specs.Decoded.{small_message, IsMessageRefused}
 use Rattle.bac_npdu_parts.specs.Refused.{IsNetworksRefusal}
 use Rattle.bac_npdu_parts.proofs.MessageLemmas.{not_typed, high_octet, low_octet}
@@ -21,19 +21,11 @@ not_these : {P : Type 0} (o k : ℕ) → o ≡ k → has_networks k ≡ false �
 not_these o k e f g = absurd (let i : true ≡ false = sym g ∙ ap has_networks e ∙ f in cc)
 
 networks_told : (m : MessageValue) (o : ℕ) (b : List ℕ) → is_typed o ≡ true → has_networks o ≡ true → SpellsMessage m (o ∷ b) → (ns : List ℕ) × Headed (networks_of ns) (λ rest. rest ≡ []) b
-networks_told (who_is_router x) o b t n p = not_these o 0 p.1.0.0 refl n
 networks_told (i_am_router x) o b t n p = (x, p.1.1)
-networks_told (i_could_be_router x y) o b t n p = not_these o 2 p.1.0.0 refl n
-networks_told (reject_message x y) o b t n p = not_these o 3 p.1.0.0 refl n
 networks_told (router_busy x) o b t n p = (x, p.1.1)
 networks_told (router_available x) o b t n p = (x, p.1.1)
-networks_told (init_table x) o b t n p = not_these o 6 p.1.0.0 refl n
-networks_told (init_table_ack x) o b t n p = not_these o 7 p.1.0.0 refl n
-networks_told (establish x y) o b t n p = not_these o 8 p.1.0.0 refl n
-networks_told (disconnect x) o b t n p = not_these o 9 p.1.0.0 refl n
-networks_told what_is_network_number o b t n p = not_these o 18 p.1.0.0 refl n
-networks_told (network_number_is x y) o b t n p = not_these o 19 p.1.0.0 refl n
 networks_told (opaque x) o b t n p = not_typed o x.kind p.1.0.0 p.0.0 t
+networks_told m o b t n p = not_these o (type_of m) p.1.0.0 refl n
 
 -- each network has two octets
 are_even : (ns b : List ℕ) → Headed (networks_of ns) (λ rest. rest ≡ []) b → length b % 2 ≡ 0

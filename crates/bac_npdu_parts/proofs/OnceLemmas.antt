@@ -1,6 +1,6 @@
 -- No list spells two frames.
 use Rattle.std.specs.Prelude.{◌≡◌, ℕ, zero, suc, ◌+◌, ◌*◌, ◌/◌, ◌%◌, ◌<◌, ◌≤◌, nat_eq, nat_lt, cond, Bool, true, false, Option, Some, None, List, [], ◌∷◌, ◌++◌, length, map, take, drop, slice_index, refl}
-use Rattle.std.proofs.Common.{sym, ◌∙◌, ap, subst, arith}
+use Rattle.std.proofs.Common.{sym, ◌∙◌, ap, ap₂, subst, arith}
 use Rattle.std.proofs.Math.Seq.{take-append_seam, drop-append_seam}
 use Rattle.std.proofs.lemmas.Bool.{lt-leb, le-leb}
 use Rattle.std.proofs.lemmas.List.{append-nil}
@@ -9,7 +9,7 @@ use Rattle.bac_apdu.specs.Apdus.{ApduValue, SpellsApdu}
 use Rattle.bac_npdu_parts.specs.declared.messages.port.Port.{Port}
 use Rattle.bac_npdu_parts.specs.MessageTypes.{OpaqueNetValue, is_typed, IsVendored}
 use Rattle.bac_npdu_parts.specs.Messages.{MessageValue, who_is_router, i_am_router, i_could_be_router, reject_message, router_busy, router_available, init_table, init_table_ack, establish, disconnect, what_is_network_number, network_number_is, opaque, networks_of, network_or_none, ports_of, table_of, table_or_none, SpellsMessage}
-use Rattle.bac_npdu_parts.specs.Addresses.{SourceValue, DestinationValue}
+use Rattle.bac_npdu_parts.specs.Addresses.{SourceValue, DestinationValue, two_octets}
 use Rattle.bac_npdu_parts.specs.Frames.{BodyValue, apdu, message, FrameValue, is_there, is_message, SpellsBody, SpellsFrame}
 use Rattle.bac_npdu_parts.proofs.HeadLemmas.{cons_same, addresses_agree, flag_once}
 use Rattle.bac_npdu_parts.proofs.MessageLemmas.{nothing_spells}
@@ -129,34 +129,41 @@ vendor_octets n xs [] h = absurd h
 vendor_octets n xs (x ∷ []) h = absurd h.1
 vendor_octets n xs (x ∷ y ∷ b) h = (number_is x y n h.0.0 h.1.0.0, all_octets xs b h.1.1)
 
+-- a network, and an octet after it or before it
+network_octet : (n p : ℕ) (b : List ℕ) → Headed (two_octets n ++ octet p ∷ []) End b → (number_at 0 b ≡ n) × (slice_index b 2 ≡ p)
+unfolding number_at
+network_octet n p [] h = absurd h
+network_octet n p (x ∷ []) h = absurd h.1
+network_octet n p (x ∷ y ∷ []) h = absurd h.1.1
+network_octet n p (x ∷ y ∷ z ∷ b) h = (number_is x y n h.0.0 h.1.0.0, h.1.1.0.0)
+
+octet_network : (r n : ℕ) (b : List ℕ) → Headed (octet r ∷ two_octets n) End b → (slice_index b 0 ≡ r) × (number_at 1 b ≡ n)
+unfolding number_at
+octet_network r n [] h = absurd h
+octet_network r n (x ∷ []) h = absurd h.1
+octet_network r n (x ∷ y ∷ []) h = absurd h.1.1
+octet_network r n (x ∷ y ∷ z ∷ b) h = (h.0.0, number_is y z n h.1.0.0 h.1.1.0.0)
+
+network_alone : (n : ℕ) (b : List ℕ) → Headed (two_octets n) End b → number_at 0 b ≡ n
+unfolding number_at
+network_alone n [] h = absurd h
+network_alone n (x ∷ []) h = absurd h.1
+network_alone n (x ∷ y ∷ b) h = number_is x y n h.0.0 h.1.0.0
+
 message_is : (m : MessageValue) (o : ℕ) (b : List ℕ) → SpellsMessage m (o ∷ b) → message_at o b ≡ m
-unfolding message_at typed_message number_at
+unfolding message_at typed_message
 message_is (who_is_router v) o b h = ap (λ (k : ℕ). message_at k b) h.1.0.0 ∙ ap who_is_router (number_or_none_is v b h.1.1)
 message_is (i_am_router ns) o b h = ap (λ (k : ℕ). message_at k b) h.1.0.0 ∙ ap i_am_router (numbers_are ns b h.1.1)
-message_is (i_could_be_router n p) o [] h = absurd h.1.1
-message_is (i_could_be_router n p) o (x ∷ []) h = absurd h.1.1.1
-message_is (i_could_be_router n p) o (x ∷ y ∷ []) h = absurd h.1.1.1.1
-message_is (i_could_be_router n p) o (x ∷ y ∷ z ∷ b) h = ap (λ (k : ℕ). message_at k (x ∷ y ∷ z ∷ b)) h.1.0.0 ∙ ap (λ (k : ℕ). i_could_be_router k z) (number_is x y n h.1.1.0.0 h.1.1.1.0.0) ∙ ap (λ (k : ℕ). i_could_be_router n k) h.1.1.1.1.0.0
-message_is (reject_message r n) o [] h = absurd h.1.1
-message_is (reject_message r n) o (x ∷ []) h = absurd h.1.1.1
-message_is (reject_message r n) o (x ∷ y ∷ []) h = absurd h.1.1.1.1
-message_is (reject_message r n) o (x ∷ y ∷ z ∷ b) h = ap (λ (k : ℕ). message_at k (x ∷ y ∷ z ∷ b)) h.1.0.0 ∙ ap (λ (k : ℕ). reject_message x k) (number_is y z n h.1.1.1.0.0 h.1.1.1.1.0.0) ∙ ap (λ (k : ℕ). reject_message k n) h.1.1.0.0
+message_is (i_could_be_router n p) o b h = let q = network_octet n p b h.1.1 in ap (λ (k : ℕ). message_at k b) h.1.0.0 ∙ ap₂ i_could_be_router q.0 q.1
+message_is (reject_message r n) o b h = let q = octet_network r n b h.1.1 in ap (λ (k : ℕ). message_at k b) h.1.0.0 ∙ ap₂ reject_message q.0 q.1
 message_is (router_busy ns) o b h = ap (λ (k : ℕ). message_at k b) h.1.0.0 ∙ ap router_busy (numbers_are ns b h.1.1)
 message_is (router_available ns) o b h = ap (λ (k : ℕ). message_at k b) h.1.0.0 ∙ ap router_available (numbers_are ns b h.1.1)
 message_is (init_table ps) o b h = ap (λ (k : ℕ). message_at k b) h.1.0.0 ∙ ap init_table (table_is ps b h.1.1)
 message_is (init_table_ack t) o b h = ap (λ (k : ℕ). message_at k b) h.1.0.0 ∙ ap init_table_ack (tables_are t b h.1.1)
-message_is (establish n t) o [] h = absurd h.1.1
-message_is (establish n t) o (x ∷ []) h = absurd h.1.1.1
-message_is (establish n t) o (x ∷ y ∷ []) h = absurd h.1.1.1.1
-message_is (establish n t) o (x ∷ y ∷ z ∷ b) h = ap (λ (k : ℕ). message_at k (x ∷ y ∷ z ∷ b)) h.1.0.0 ∙ ap (λ (k : ℕ). establish k z) (number_is x y n h.1.1.0.0 h.1.1.1.0.0) ∙ ap (λ (k : ℕ). establish n k) h.1.1.1.1.0.0
-message_is (disconnect n) o [] h = absurd h.1.1
-message_is (disconnect n) o (x ∷ []) h = absurd h.1.1.1
-message_is (disconnect n) o (x ∷ y ∷ b) h = ap (λ (k : ℕ). message_at k (x ∷ y ∷ b)) h.1.0.0 ∙ ap disconnect (number_is x y n h.1.1.0.0 h.1.1.1.0.0)
+message_is (establish n t) o b h = let q = network_octet n t b h.1.1 in ap (λ (k : ℕ). message_at k b) h.1.0.0 ∙ ap₂ establish q.0 q.1
+message_is (disconnect n) o b h = ap (λ (k : ℕ). message_at k b) h.1.0.0 ∙ ap disconnect (network_alone n b h.1.1)
 message_is what_is_network_number o b h = ap (λ (k : ℕ). message_at k b) h.1.0.0
-message_is (network_number_is n t) o [] h = absurd h.1.1
-message_is (network_number_is n t) o (x ∷ []) h = absurd h.1.1.1
-message_is (network_number_is n t) o (x ∷ y ∷ []) h = absurd h.1.1.1.1
-message_is (network_number_is n t) o (x ∷ y ∷ z ∷ b) h = ap (λ (k : ℕ). message_at k (x ∷ y ∷ z ∷ b)) h.1.0.0 ∙ ap (λ (k : ℕ). network_number_is k z) (number_is x y n h.1.1.0.0 h.1.1.1.0.0) ∙ ap (λ (k : ℕ). network_number_is n k) h.1.1.1.1.0.0
+message_is (network_number_is n f) o b h = let q = network_octet n f b h.1.1 in ap (λ (k : ℕ). message_at k b) h.1.0.0 ∙ ap₂ network_number_is q.0 q.1
 message_is (opaque m) o b h = untyped m.vendor refl
   where
     layoutless : message_at o b ≡ cond (nat_lt o 128) (opaque (record { kind = o; vendor = None; octets = b })) (opaque (record { kind = o; vendor = Some (number_at 0 b); octets = drop 2 b }))

@@ -1,5 +1,5 @@
 -- Frames are equal exactly where they are the same frame.
-use Rattle.std.proofs.Common.{◌≡◌, ℕ, Bool, true, false, ◌&&◌, nat_eq, Option, None, Some, List, refl, ap}
+use Rattle.std.proofs.Common.{◌≡◌, ℕ, Bool, false, ◌&&◌, nat_eq, Option, None, Some, List, refl, ap}
 use Rattle.std.specs.Bool.{Decides, beq}
 use Rattle.std.specs.Option.{option_eq}
 use Rattle.std.specs.Cmp.{unsigned_Decides, booleans_Decides}
@@ -32,46 +32,14 @@ same_destination a b = nat_eq a.network b.network && (nat_eq a.hops b.hops && po
 abbrev same_source : SourceValue → SourceValue → Bool
 same_source a b = nat_eq a.network b.network && pointwise nat_eq a.address b.address
 
-abbrev same_message : NetMessage → NetMessage → Bool
-same_message (held.WhoIsRouter n) (held.WhoIsRouter m) = option_eq nat_eq n m
-same_message (held.IAmRouter ns) (held.IAmRouter ms) = pointwise nat_eq ns.items ms.items
-same_message (held.ICouldBeRouter n p) (held.ICouldBeRouter m q) = nat_eq n m && nat_eq p q
-same_message (held.RejectMessage r n) (held.RejectMessage s m) = nat_eq r s && nat_eq n m
-same_message (held.RouterBusy ns) (held.RouterBusy ms) = pointwise nat_eq ns.items ms.items
-same_message (held.RouterAvailable ns) (held.RouterAvailable ms) = pointwise nat_eq ns.items ms.items
-same_message (held.InitTable ps) (held.InitTable qs) = same_ports ps qs
-same_message (held.InitTableAck ps) (held.InitTableAck qs) = option_eq same_ports ps qs
-same_message (held.Establish n t) (held.Establish m u) = nat_eq n m && nat_eq t u
-same_message (held.Disconnect n) (held.Disconnect m) = nat_eq n m
-same_message held.WhatIsNetworkNumber held.WhatIsNetworkNumber = true
-same_message (held.NetworkNumberIs n f) (held.NetworkNumberIs m g) = nat_eq n m && nat_eq f g
-same_message (held.Opaque a) (held.Opaque b) = same_opaque_net a b
-same_message _ _ = false
-
-message_is : (a b : NetMessage) → of_message.eq-value.it a b ≡ same_message a b
-message_is (held.WhoIsRouter n) (held.WhoIsRouter m) = refl
-message_is (held.IAmRouter ns) (held.IAmRouter ms) = refl
-message_is (held.ICouldBeRouter n p) (held.ICouldBeRouter m q) = refl
-message_is (held.RejectMessage r n) (held.RejectMessage s m) = refl
-message_is (held.RouterBusy ns) (held.RouterBusy ms) = refl
-message_is (held.RouterAvailable ns) (held.RouterAvailable ms) = refl
-message_is (held.InitTable ps) (held.InitTable qs) = refl
-message_is (held.InitTableAck ps) (held.InitTableAck qs) = refl
-message_is (held.Establish n t) (held.Establish m u) = refl
-message_is (held.Disconnect n) (held.Disconnect m) = refl
-message_is held.WhatIsNetworkNumber held.WhatIsNetworkNumber = refl
-message_is (held.NetworkNumberIs n f) (held.NetworkNumberIs m g) = refl
-message_is (held.Opaque a) (held.Opaque b) = refl
-message_is _ _ = refl
-
 abbrev same_body : Body → Body → Bool
 same_body (HeldApdu a) (HeldApdu b) = same_apdu a b
-same_body (Net a) (Net b) = same_message a b
+same_body (Net a) (Net b) = of_message.eq-value.it a b
 same_body _ _ = false
 
 body_is : (a b : Body) → of_body.eq-value.it a b ≡ same_body a b
 body_is (HeldApdu a) (HeldApdu b) = apdu_is a b
-body_is (Net a) (Net b) = message_is a b
+body_is (Net a) (Net b) = refl
 body_is (HeldApdu a) (Net b) = refl
 body_is (Net a) (HeldApdu b) = refl
 
@@ -111,7 +79,7 @@ sources v w =
 two : (n m p q : ℕ) → Decides (nat_eq n m && nat_eq p q) ((n ≡ m) × (p ≡ q))
 two n m p q = both (nat_eq n m) (nat_eq p q) (unsigned_Decides n m) (unsigned_Decides p q)
 
-message_tells : (a b : NetMessage) → Decides (same_message a b) (message_value a ≡ message_value b)
+message_tells : (a b : NetMessage) → Decides (of_message.eq-value.it a b) (message_value a ≡ message_value b)
 message_tells (held.WhoIsRouter n) (held.WhoIsRouter m) = by_parts (option_eq nat_eq n m) (options unsigned_Decides n m) (λ e. ap who_is_router e) (λ e. cc)
 message_tells (held.IAmRouter ns) (held.IAmRouter ms) = by_parts (pointwise nat_eq ns.items ms.items) (bytes_decides ns.items ms.items) (λ e. ap i_am_router e) (λ e. cc)
 message_tells (held.ICouldBeRouter n p) (held.ICouldBeRouter m q) = by_parts (nat_eq n m && nat_eq p q) (two n m p q) (λ e. λ i. i_could_be_router (e.0 i) (e.1 i)) (λ e. (cc, cc))
@@ -134,7 +102,7 @@ body_spelled f c s = (s.body, s.is_body)
 module _ (open_only : (number : ℕ) (v : Elements) (b : List ℕ) → SpellsOpen 32 number v b → AreElements v) where
   body_tells : (a b : Body) (c d : List ℕ) → SpellsBody (body_value a) c → SpellsBody (body_value b) d → Decides (same_body a b) (body_value a ≡ body_value b)
   body_tells (HeldApdu a) (HeldApdu b) c d s t = by_parts (same_apdu a b) (apdus_tell open_only a b c d s t) (λ e. ap apdu e) (λ e. cc)
-  body_tells (Net a) (Net b) c d s t = by_parts (same_message a b) (message_tells a b) (λ e. ap message e) (λ e. cc)
+  body_tells (Net a) (Net b) c d s t = by_parts (of_message.eq-value.it a b) (message_tells a b) (λ e. ap message e) (λ e. cc)
   body_tells (HeldApdu a) (Net b) c d s t = (λ h. absurd (cc h), λ e. absurd (cc e))
   body_tells (Net a) (HeldApdu b) c d s t = (λ h. absurd (cc h), λ e. absurd (cc e))
 

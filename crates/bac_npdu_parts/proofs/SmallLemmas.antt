@@ -7,12 +7,13 @@ use Rattle.bac_tag.specs.HeadOctets.{HasBit}
 use Rattle.bac_apdu.specs.Apdus.{ApduValue, SpellsApdu}
 use Rattle.bac_apdu.specs.Decoded.{begins_small as begins_small_apdu, is_small as is_small_apdu}
 use Rattle.bac_npdu_parts.specs.Addresses.{SourceValue, DestinationValue, source_octets, hops_octets, address_of}
-use Rattle.bac_npdu_parts.specs.MessageTypes.{is_typed}
-use Rattle.bac_npdu_parts.specs.Messages.{MessageValue, who_is_router, i_am_router, i_could_be_router, reject_message, router_busy, router_available, init_table, init_table_ack, establish, disconnect, what_is_network_number, network_number_is, opaque, SpellsMessage}
+use Rattle.bac_npdu_parts.specs.Messages.{MessageValue, init_table_ack, opaque, type_of, SpellsMessage}
 use Rattle.bac_npdu_parts.specs.Heads.{says_message, says_destination, says_source, source_place, body_place}
 use Rattle.bac_npdu_parts.specs.HeadsRead.{behind_control}
 use Rattle.bac_npdu_parts.specs.Frames.{BodyValue, apdu, message, FrameValue, is_there, is_message, SpellsBody, SpellsFrame}
 use Rattle.bac_npdu_parts.specs.Decoded.{few_octets, small_message, begins_small_message, begins_small, is_short_address, is_small_message, is_small_body, is_small}
+use Rattle.bac_npdu_parts.proofs.MessageLemmas.{nothing_spells}
+use Rattle.bac_npdu_parts.proofs.UntypedLemmas.{untyped_large}
 use Rattle.bac_npdu_parts.proofs.FrameReadLemmas.{front_of, front_then}
 use Rattle.bac_npdu_parts.proofs.HeadLemmas.{flag_told}
 use Rattle.bac_npdu_parts.proofs.HeadRefusedLemmas.{HasParts, parts_of}
@@ -21,46 +22,23 @@ use Rattle.bac_npdu_parts.proofs.FrameLemmas.{framed_tail, framed_long}
 
 -- ---- network messages
 
-untyped_small : (kind count : ℕ) → is_typed kind ≡ false → small_message kind count ≡ false
-untyped_small kind count untyped = grind (arith, nat_tests)
-
 more_than_one : (count : ℕ) → nat_eq (count + 2) 1 ≡ false
 more_than_one count = grind (arith, nat_tests)
 
 kind_small : (o kind count : ℕ) → o ≡ kind → small_message o count ≡ small_message kind count
 kind_small o kind count e = ap (λ (k : ℕ). small_message k count) e
 
-message_small : (m : MessageValue) (b : List ℕ) → SpellsMessage m b → begins_small_message b ≡ is_small_message m
-message_small (who_is_router network) [] s = absurd s.1
-message_small (who_is_router network) (o ∷ b) s = kind_small o 0 (length (o ∷ b)) s.1.0.0
-message_small (i_am_router networks) [] s = absurd s.1
-message_small (i_am_router networks) (o ∷ b) s = kind_small o 1 (length (o ∷ b)) s.1.0.0
-message_small (i_could_be_router network performance) [] s = absurd s.1
-message_small (i_could_be_router network performance) (o ∷ b) s = kind_small o 2 (length (o ∷ b)) s.1.0.0
-message_small (reject_message reason network) [] s = absurd s.1
-message_small (reject_message reason network) (o ∷ b) s = kind_small o 3 (length (o ∷ b)) s.1.0.0
-message_small (router_busy networks) [] s = absurd s.1
-message_small (router_busy networks) (o ∷ b) s = kind_small o 4 (length (o ∷ b)) s.1.0.0
-message_small (router_available networks) [] s = absurd s.1
-message_small (router_available networks) (o ∷ b) s = kind_small o 5 (length (o ∷ b)) s.1.0.0
-message_small (init_table ports) [] s = absurd s.1
-message_small (init_table ports) (o ∷ b) s = kind_small o 6 (length (o ∷ b)) s.1.0.0
-message_small (init_table_ack None) [] s = absurd s.1
-message_small (init_table_ack None) (o ∷ b) s = kind_small o 7 (length (o ∷ b)) s.1.0.0 ∙ ap (λ (l : List ℕ). small_message 7 (length (o ∷ l))) s.1.1
-message_small (init_table_ack (Some ports)) [] s = absurd s.1
-message_small (init_table_ack (Some ports)) (o ∷ []) s = absurd s.1.1
-message_small (init_table_ack (Some ports)) (o ∷ p ∷ b) s =
+first_small : (m : MessageValue) (o : ℕ) (b : List ℕ) → SpellsMessage m (o ∷ b) → begins_small_message (o ∷ b) ≡ is_small_message m
+first_small (init_table_ack None) o b s = kind_small o 7 (length (o ∷ b)) s.1.0.0 ∙ ap (λ (l : List ℕ). small_message 7 (length (o ∷ l))) s.1.1
+first_small (init_table_ack (Some ports)) o [] s = absurd s.1.1
+first_small (init_table_ack (Some ports)) o (p ∷ b) s =
     kind_small o 7 (length (o ∷ p ∷ b)) s.1.0.0 ∙ ap (λ (n : ℕ). small_message 7 n) (let e : length (o ∷ p ∷ b) ≡ length b + 2 = omega arith in e) ∙ more_than_one (length b)
-message_small (establish network time) [] s = absurd s.1
-message_small (establish network time) (o ∷ b) s = kind_small o 8 (length (o ∷ b)) s.1.0.0
-message_small (disconnect network) [] s = absurd s.1
-message_small (disconnect network) (o ∷ b) s = kind_small o 9 (length (o ∷ b)) s.1.0.0
-message_small what_is_network_number [] s = absurd s.1
-message_small what_is_network_number (o ∷ b) s = kind_small o 18 (length (o ∷ b)) s.1.0.0
-message_small (network_number_is network flag) [] s = absurd s.1
-message_small (network_number_is network flag) (o ∷ b) s = kind_small o 19 (length (o ∷ b)) s.1.0.0
-message_small (opaque m) [] s = absurd s.1
-message_small (opaque m) (o ∷ b) s = kind_small o m.kind (length (o ∷ b)) s.1.0.0 ∙ untyped_small m.kind (length (o ∷ b)) s.0.0
+first_small (opaque m) o b s = kind_small o m.kind (length (o ∷ b)) s.1.0.0 ∙ untyped_large m.kind (length (o ∷ b)) s.0.0
+first_small m o b s = kind_small o (type_of m) (length (o ∷ b)) s.1.0.0
+
+message_small : (m : MessageValue) (b : List ℕ) → SpellsMessage m b → begins_small_message b ≡ is_small_message m
+message_small m [] s = absurd (nothing_spells m s)
+message_small m (o ∷ b) s = first_small m o b s
 
 -- ---- what stands in front of a body
 

@@ -14,7 +14,7 @@ use Rattle.bac_tag.proofs.HeadOctetLemmas.{headed_long}
 use Rattle.bac_tag.proofs.BehindLemmas.{whole_short, whole_trailing}
 use Rattle.bac_npdu_parts.specs.declared.messages.port.Port.{Port}
 use Rattle.bac_npdu_parts.specs.MessageTypes.{is_typed}
-use Rattle.bac_npdu_parts.specs.Messages.{MessageValue, who_is_router, i_am_router, i_could_be_router, reject_message, router_busy, router_available, init_table, init_table_ack, establish, disconnect, what_is_network_number, network_number_is, opaque, ports_of, table_of, SpellsMessage}
+use Rattle.bac_npdu_parts.specs.Messages.{MessageValue, init_table, init_table_ack, opaque, ports_of, table_of, type_of, SpellsMessage}
 use Rattle.bac_npdu_parts.specs.Decoded.{small_message, IsMessageRefused}
 use Rattle.bac_npdu_parts.specs.Refused.{EndsInPort, IsPortRefusal, LacksPorts, GoesOn, IsTableRefusal}
 use Rattle.bac_npdu_parts.proofs.WrittenLemmas.{ports_append}
@@ -159,20 +159,11 @@ not_these o k e f g = absurd (let i : true ≡ false = sym g ∙ ap has_table e 
 
 -- a table, or nothing in type 7
 table_told : (m : MessageValue) (o : ℕ) (b : List ℕ) → is_typed o ≡ true → has_table o ≡ true → SpellsMessage m (o ∷ b) → ((o ≡ 7) × (b ≡ [])) ⊎ ((ps : List Port) × Headed (table_of ps) (λ rest. rest ≡ []) b)
-table_told (who_is_router x) o b t n p = not_these o 0 p.1.0.0 refl n
-table_told (i_am_router x) o b t n p = not_these o 1 p.1.0.0 refl n
-table_told (i_could_be_router x y) o b t n p = not_these o 2 p.1.0.0 refl n
-table_told (reject_message x y) o b t n p = not_these o 3 p.1.0.0 refl n
-table_told (router_busy x) o b t n p = not_these o 4 p.1.0.0 refl n
-table_told (router_available x) o b t n p = not_these o 5 p.1.0.0 refl n
 table_told (init_table x) o b t n p = inr (x, p.1.1)
 table_told (init_table_ack None) o b t n p = inl (p.1.0.0, p.1.1)
 table_told (init_table_ack (Some x)) o b t n p = inr (x, p.1.1)
-table_told (establish x y) o b t n p = not_these o 8 p.1.0.0 refl n
-table_told (disconnect x) o b t n p = not_these o 9 p.1.0.0 refl n
-table_told what_is_network_number o b t n p = not_these o 18 p.1.0.0 refl n
-table_told (network_number_is x y) o b t n p = not_these o 19 p.1.0.0 refl n
 table_told (opaque x) o b t n p = not_typed o x.kind p.1.0.0 p.0.0 t
+table_told m o b t n p = not_these o (type_of m) p.1.0.0 refl n
 
 -- how messages with a table are made and refused
 module _ (k : ℕ) (t : is_typed k ≡ true) (n : has_table k ≡ true) (make : List Port → MessageValue)

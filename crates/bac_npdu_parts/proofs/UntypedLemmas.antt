@@ -1,6 +1,7 @@
 -- Network messages without a layout.
-use Rattle.std.specs.Prelude.{◌≡◌, ℕ, suc, ◌+◌, ◌-◌, ◌*◌, ◌<◌, ◌≤◌, nat_eq, ◌&&◌, ◌||◌, Bool, true, false, Option, Some, None, List, [], ◌∷◌, ◌++◌, length, map, take, drop, slice_index, refl}
-use Rattle.std.proofs.Common.{inl, inr, sym, ◌∙◌, ap, ne_eqb, length-drop, arith}
+use Rattle.std.specs.Prelude.{◌≡◌, ℕ, suc, ◌+◌, ◌-◌, ◌*◌, ◌<◌, ◌≤◌, true, false, Option, Some, None, List, [], ◌∷◌, ◌++◌, length, map, take, drop, slice_index, refl}
+use Rattle.std.proofs.Common.{inl, inr, sym, ◌∙◌, ap, length-drop, arith}
+use Rattle.std.proofs.lemmas.Bool.Decides.{nat_tests}
 use Rattle.std.proofs.lemmas.List.{take_all}
 use Rattle.bac_tag.specs.declared.refusals.Why.TheVariants.{Short, OutOfMemory}
 use Rattle.bac_tag.specs.HeadOctets.{octet, Headed}
@@ -8,7 +9,7 @@ use Rattle.bac_tag.proofs.HeadOctetLemmas.{headed_long}
 use Rattle.bac_tag.proofs.BehindLemmas.{whole_short}
 use Rattle.bac_tag.proofs.FilledLemmas.{filled, filled_viable, viable_itself}
 use Rattle.bac_npdu_parts.specs.MessageTypes.{is_typed, IsVendored}
-use Rattle.bac_npdu_parts.specs.Messages.{MessageValue, who_is_router, i_am_router, i_could_be_router, reject_message, router_busy, router_available, init_table, init_table_ack, establish, disconnect, what_is_network_number, network_number_is, opaque, network_or_none, SpellsMessage}
+use Rattle.bac_npdu_parts.specs.Messages.{MessageValue, opaque, network_or_none, type_of, SpellsMessage}
 use Rattle.bac_npdu_parts.specs.Decoded.{small_message, IsMessageRefused}
 use Rattle.bac_npdu_parts.proofs.MessageLemmas.{high_octet, low_octet}
 
@@ -41,19 +42,8 @@ with_vendor k o None xs b v e w h = absurd (omega (arith, v, e, w))
 with_vendor k o (Some n) xs b v e w h = let l = headed_long (network_or_none (Some n) ++ map octet xs) (λ rest. rest ≡ []) b h in omega (arith, l)
 
 pub vendored_long : (m : MessageValue) (o : ℕ) (b : List ℕ) → is_typed o ≡ false → 128 ≤ o → SpellsMessage m (o ∷ b) → 2 ≤ length b
-vendored_long (who_is_router x) o b t v p = as_typed o 0 p.1.0.0 refl t
-vendored_long (i_am_router x) o b t v p = as_typed o 1 p.1.0.0 refl t
-vendored_long (i_could_be_router x y) o b t v p = as_typed o 2 p.1.0.0 refl t
-vendored_long (reject_message x y) o b t v p = as_typed o 3 p.1.0.0 refl t
-vendored_long (router_busy x) o b t v p = as_typed o 4 p.1.0.0 refl t
-vendored_long (router_available x) o b t v p = as_typed o 5 p.1.0.0 refl t
-vendored_long (init_table x) o b t v p = as_typed o 6 p.1.0.0 refl t
-vendored_long (init_table_ack x) o b t v p = as_typed o 7 p.1.0.0 refl t
-vendored_long (establish x y) o b t v p = as_typed o 8 p.1.0.0 refl t
-vendored_long (disconnect x) o b t v p = as_typed o 9 p.1.0.0 refl t
-vendored_long what_is_network_number o b t v p = as_typed o 18 p.1.0.0 refl t
-vendored_long (network_number_is x y) o b t v p = as_typed o 19 p.1.0.0 refl t
 vendored_long (opaque x) o b t v p = with_vendor x.kind o x.vendor x.octets b v p.1.0.0 p.0.1 p.1.1
+vendored_long m o b t v p = as_typed o (type_of m) p.1.0.0 refl t
 
 abbrev begun : List ℕ → MessageValue
 begun b = opaque (record { kind = slice_index b 0; vendor = Some (256 * slice_index b 1 + slice_index b 2); octets = [] })
@@ -71,20 +61,8 @@ vendored_short (o ∷ b) small some t v lt = record {
 
 -- ---- memory
 
-or_false : (a b : Bool) → a ≡ false → b ≡ false → (a || b) ≡ false
-or_false true b e f = e
-or_false false b e f = f
-
-and_false : (a b : Bool) → a ≡ false → (a && b) ≡ false
-and_false true b e = absurd (let i : true ≡ false = e in cc)
-and_false false b e = refl
-
-not_that : (k c : ℕ) → is_typed c ≡ true → is_typed k ≡ false → nat_eq k c ≡ false
-not_that k c e t = ne_eqb k c (λ s. as_typed k c s e t)
-
-untyped_large : (k n : ℕ) → is_typed k ≡ false → small_message k n ≡ false
-untyped_large k n t =
-    or_false _ _ (not_that k 0 refl t) (or_false _ _ (not_that k 2 refl t) (or_false _ _ (not_that k 3 refl t) (or_false _ _ (not_that k 8 refl t) (or_false _ _ (not_that k 9 refl t) (or_false _ _ (not_that k 18 refl t) (or_false _ _ (not_that k 19 refl t) (and_false _ _ (not_that k 7 refl t))))))))
+pub untyped_large : (k n : ℕ) → is_typed k ≡ false → small_message k n ≡ false
+untyped_large k n t = grind (arith, nat_tests)
 
 pub untyped_memory : (b : List ℕ) → is_typed (slice_index b 0) ≡ false → IsMessageRefused b (record { place = 0; why = OutOfMemory })
 untyped_memory b t = record { refused = λ w. absurd (w refl); memory = λ _. (refl, untyped_large (slice_index b 0) (length b) t); reason = inr (inr refl) }

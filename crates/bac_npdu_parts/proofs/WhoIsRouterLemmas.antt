@@ -7,25 +7,15 @@ use Rattle.bac_tag.specs.Spelling.{IsWholeRefusal}
 use Rattle.bac_tag.proofs.BehindLemmas.{whole_short, whole_trailing}
 use Rattle.bac_tag.proofs.FilledLemmas.{filled, filled_viable, viable_itself}
 use Rattle.bac_npdu_parts.specs.MessageTypes.{is_typed}
-use Rattle.bac_npdu_parts.specs.Messages.{MessageValue, who_is_router, i_am_router, i_could_be_router, reject_message, router_busy, router_available, init_table, init_table_ack, establish, disconnect, what_is_network_number, network_number_is, opaque, octets_of, SpellsMessage}
+use Rattle.bac_npdu_parts.specs.Messages.{MessageValue, who_is_router, opaque, octets_of, SpellsMessage}
 use Rattle.bac_npdu_parts.specs.Decoded.{IsSized, BeginsWith, IsMessageRefused}
 use Rattle.bac_npdu_parts.proofs.MessageLemmas.{whole_long, not_typed, parted, high_octet, low_octet}
 
 who_told : (m : MessageValue) (o : ℕ) (b : List ℕ) → o ≡ 0 → SpellsMessage m (o ∷ b) → (length b ≡ 0) ⊎ (length b ≡ 2)
 who_told (who_is_router None) o b f p = let l = whole_long (octets_of (who_is_router None)) (o ∷ b) p.1 in inl (omega (arith, l))
 who_told (who_is_router (Some n)) o b f p = let l = whole_long (octets_of (who_is_router (Some n))) (o ∷ b) p.1 in inr (omega (arith, l))
-who_told (i_am_router x) o b f p = absurd (omega (arith, f, p.1.0.0))
-who_told (i_could_be_router x y) o b f p = absurd (omega (arith, f, p.1.0.0))
-who_told (reject_message x y) o b f p = absurd (omega (arith, f, p.1.0.0))
-who_told (router_busy x) o b f p = absurd (omega (arith, f, p.1.0.0))
-who_told (router_available x) o b f p = absurd (omega (arith, f, p.1.0.0))
-who_told (init_table x) o b f p = absurd (omega (arith, f, p.1.0.0))
-who_told (init_table_ack x) o b f p = absurd (omega (arith, f, p.1.0.0))
-who_told (establish x y) o b f p = absurd (omega (arith, f, p.1.0.0))
-who_told (disconnect x) o b f p = absurd (omega (arith, f, p.1.0.0))
-who_told what_is_network_number o b f p = absurd (omega (arith, f, p.1.0.0))
-who_told (network_number_is x y) o b f p = absurd (omega (arith, f, p.1.0.0))
 who_told (opaque x) o b f p = not_typed o x.kind p.1.0.0 p.0.0 (ap is_typed f)
+who_told _ o b f p = absurd (omega (arith, f, p.1.0.0))
 
 module _ (b : List ℕ) (small : (k : ℕ) → slice_index b k < 256) (h : BeginsWith 0 b) where
   abbrev begun : MessageValue

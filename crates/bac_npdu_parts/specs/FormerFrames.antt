@@ -1,23 +1,14 @@
 -- The frames as they were spelled while WritePropertyMultiple and its error were opaque and at most 16 groups nested.
-use Rattle.std.specs.Prelude.{◌≡◌, ℕ, ◌||◌, nat_lt, nat_eq, Bool, true, false, List, [], ◌∷◌}
-use Rattle.bac_tag.specs.HeadOctets.{Part, octet, Headed}
+use Rattle.std.specs.Prelude.{◌≡◌, ℕ, ◌||◌, nat_lt, nat_eq, Bool, true, false, List, []}
+use Rattle.bac_tag.specs.HeadOctets.{Headed}
 use Rattle.bac_apdu.specs.FormerApdus.{SpellsFormerApdu, IsKept as IsKeptApdu}
 use Rattle.bac_npdu_parts.specs.MessageTypes.{is_typed, IsVendored}
-use Rattle.bac_npdu_parts.specs.Messages.{MessageValue, opaque, octets_of}
+use Rattle.bac_npdu_parts.specs.Messages.{MessageValue, opaque, octets_of, type_of}
 use Rattle.bac_npdu_parts.specs.Frames.{BodyValue, apdu, message, FrameValue, Framed}
 
 -- the types of network messages that had a layout: 0 to 9, 18 and 19
 abbrev pub had_layout : ℕ → Bool
 had_layout kind = nat_lt kind 10 || (nat_eq kind 18 || nat_eq kind 19)
-
--- the number that the first of these octets is
-abbrev pub first_number : List Part → ℕ
-first_number (octet number ∷ ps) = number
-first_number _ = 0
-
--- the type of a message
-abbrev pub type_of : MessageValue → ℕ
-type_of m = first_number (octets_of m)
 
 -- an opaque message was of another type, with a vendor where its type wants one
 abbrev pub WasMessage : MessageValue → Type 0

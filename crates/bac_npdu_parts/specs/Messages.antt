@@ -87,6 +87,15 @@ octets_of what_is_network_number = octet 18 ∷ []
 octets_of (network_number_is network flag) = octet 19 ∷ two_octets network ++ octet flag ∷ []
 octets_of (opaque message) = octet message.kind ∷ network_or_none message.vendor ++ map octet message.octets
 
+-- the number that the first of these octets is
+abbrev pub first_number : List Part → ℕ
+first_number (octet number ∷ ps) = number
+first_number _ = 0
+
+-- the type of a message
+abbrev pub type_of : MessageValue → ℕ
+type_of m = first_number (octets_of m)
+
 -- an opaque message has a type without a layout, and a vendor where its type wants one
 abbrev pub IsMessage : MessageValue → Type 0
 IsMessage (opaque message) = (is_typed message.kind ≡ false) × IsVendored message.kind message.vendor
