@@ -1,7 +1,7 @@
 -- What is printed of APDUs, network messages and frames.
 use Rattle.std.specs.Prelude.{codes, Option, None, Some}
 use Rattle.std.specs.Option.{option_map_or}
-use Rattle.std.proofs.Common.{◌≡◌, ℕ, ◌+◌, ◌≤◌, Bool, true, false, List, [], ◌∷◌, ◌++◌, length, refl, sym, ap, ◌∙◌, append_assoc, append-nil, arith}
+use Rattle.std.proofs.Common.{◌≡◌, ℕ, ◌+◌, ◌≤◌, Bool, true, false, not, ◌&&◌, List, [], ◌∷◌, ◌++◌, length, refl, sym, ap, ◌∙◌, append_assoc, append-nil, arith}
 use Rattle.bac_tag.proofs.HeadOctetLemmas.{headed_rest}
 use Rattle.bac_record.specs.Digits.{hexadecimal}
 use Rattle.bac_service.specs.declared.kind.Kind.{Kind}
@@ -12,7 +12,7 @@ use Rattle.bac_apdu.specs.declared.segment.SegHead.{SegHead}
 use Rattle.bac_apdu.specs.declared.segment.SegHead.TheVariants.{Request, Ack}
 use Rattle.bac_apdu.specs.Apdus.{ApduValue, confirmed_request, unconfirmed_request, simple_ack, complex_ack, segment_ack, error, reject, abort, segment, SpellsServiceOf, head_of, SpellsBody as SpellsApduBody}
 use Rattle.bac_npdu_parts.specs.declared.messages.port.Port.{Port}
-use Rattle.bac_npdu_parts.specs.Messages.{MessageValue, who_is_router, i_am_router, i_could_be_router, reject_message, router_busy, router_available, init_table, init_table_ack, establish, disconnect, what_is_network_number, network_number_is, opaque}
+use Rattle.bac_npdu_parts.specs.Messages.{MessageValue, who_is_router, i_am_router, router_busy, router_available, init_table, init_table_ack, opaque}
 use Rattle.bac_npdu_parts.specs.Addresses.{SourceValue, DestinationValue, HasAddress}
 use Rattle.bac_npdu_parts.specs.Frames.{FrameValue, BodyValue, apdu, message, SpellsBody, SpellsFrame}
 use Rattle.bac_text.specs.Words.{number, truth as truth_text, listed as listed_text, optional as optional_text}
@@ -25,7 +25,7 @@ use Rattle.bac_text.specs.MessageText.{networks_text, port_text, message_text}
 use Rattle.bac_text.specs.FrameText.{address_text, destination_text, source_text, body_text, text}
 use Rattle.bac_field_parts.specs.declared.names.Name.{Name}
 use Rattle.bac_field_parts.specs.declared.names.Name.TheVariants as name
-use Rattle.bac_field_parts.specs.Fields.{next, aside, pass, word, octet_field, two_octets_field, octets_field, counted_field, counter_field, held_field, address_field, item_steps}
+use Rattle.bac_field_parts.specs.Fields.{Step, next, aside, pass, word, octet_field, two_octets_field, octets_field, counted_field, counter_field, held_field, address_field, item_steps}
 use Rattle.bac_field_parts.specs.PrimitiveFields.{truth}
 use Rattle.bac_fields.specs.ServiceFields.{service_steps}
 use Rattle.bac_fields.specs.ApduFields.{request_head_steps, segment_steps, part_steps, apdu_steps}
@@ -34,7 +34,7 @@ use Rattle.bac_fields.specs.FrameFields.{source_size, destination_steps, source_
 use Rattle.bac_field_parts.specs.Names.{word_of}
 use Rattle.bac_fields.specs.Line.{as_word, as_number, form_of, shown, begins, lead, printed}
 use Rattle.bac_fields.proofs.EventRanges.{Each}
-use Rattle.bac_fields.proofs.LineLemmas.{Prints, same_line, both, opened, one, held, passed, nothing, closed, truth_in, optional_part, item, list_rest}
+use Rattle.bac_fields.proofs.LineLemmas.{Prints, line_of, same_line, both, opened, one, held, passed, nothing, closed, truth_in, optional_part, item, list_rest}
 use Rattle.bac_fields.proofs.ServiceLines.{service_line}
 use Rattle.bac_fields.proofs.FramePlaces.{body_of}
 
@@ -132,21 +132,39 @@ table_line : (ports : Option (List Port)) → Prints false (option_map_or ports_
 table_line None = nothing
 table_line (Some ports) = ports_line ports
 
+-- fields that begin nothing, one after another
+abbrev are_plain : List Step → Bool
+are_plain [] = true
+are_plain (next v ∷ steps) = not (begins (form_of v.name)) && are_plain steps
+are_plain _ = false
+
+-- and what is printed of them
+abbrev lines_of : List Step → List ℕ
+lines_of (next v ∷ []) = line_of false v
+lines_of (next v ∷ steps) = line_of false v ++ lines_of steps
+lines_of _ = []
+
+plain_then : (a b : Bool) → (not a && b) ≡ true → (a ≡ false) × (b ≡ true)
+plain_then true b e = absurd (let i : false ≡ true = e in cc)
+plain_then false b e = (refl, e)
+
+plain_lines : (steps : List Step) → are_plain steps ≡ true → Prints false steps (lines_of steps)
+plain_lines [] e = nothing
+plain_lines (next v ∷ []) e = one false v (plain_then (begins (form_of v.name)) true e).0
+plain_lines (next v ∷ step ∷ steps) e = let rest = plain_then (begins (form_of v.name)) (are_plain (step ∷ steps)) e in both (one false v rest.0) (plain_lines (step ∷ steps) rest.1)
+plain_lines (step ∷ steps) e = absurd (let i : false ≡ true = e in cc)
+
+-- the last line is that of each message whose fields are always the same
 message_line : (m : MessageValue) → Prints false (message_steps m) (codes " " ++ message_text m)
 message_line (who_is_router value) = both (typed 0) (optional_part " network=" (two_octets_field name.Network) number value network)
 message_line (i_am_router networks) = both (typed 1) (networks_line networks)
-message_line (i_could_be_router value performance) = both (both (typed 2) (network value)) (octet_line name.Performance performance refl)
-message_line (reject_message reason value) = both (both (typed 3) (octet_line name.Reason reason refl)) (network value)
 message_line (router_busy networks) = both (typed 4) (networks_line networks)
 message_line (router_available networks) = both (typed 5) (networks_line networks)
 message_line (init_table ports) = both (typed 6) (ports_line ports)
 message_line (init_table_ack ports) = both (typed 7) (table_line ports)
-message_line (establish value time) = both (both (typed 8) (network value)) (octet_line name.Time time refl)
-message_line (disconnect value) = both (typed 9) (network value)
-message_line what_is_network_number = typed 18
-message_line (network_number_is value flag) = both (both (typed 19) (network value)) (octet_line name.Flag flag refl)
 message_line (opaque m) =
     both (both (typed m.kind) (optional_part " vendor=" (two_octets_field name.Vendor) number m.vendor (λ n. one false (two_octets_field name.Vendor n) refl))) (one false (octets_field name.Data m.octets) refl)
+message_line m = plain_lines (message_steps m) refl
 
 -- ---- frames
 

@@ -20,7 +20,7 @@ use Rattle.bac_apdu.specs.declared.segment.SegHead.{SegHead}
 use Rattle.bac_apdu.specs.declared.segment.SegHead.TheVariants.{Request, Ack}
 use Rattle.bac_apdu.specs.Apdus.{ApduValue, confirmed_request, unconfirmed_request, simple_ack, complex_ack, segment_ack, error, reject, abort, segment, head_of, SpellsServiceOf, SpellsBody as SpellsApduBody, SpellsApdu}
 use Rattle.bac_npdu_parts.specs.declared.messages.port.Port.{Port}
-use Rattle.bac_npdu_parts.specs.Messages.{MessageValue, who_is_router, i_am_router, i_could_be_router, reject_message, router_busy, router_available, init_table, init_table_ack, establish, disconnect, what_is_network_number, network_number_is, opaque, networks_of, network_or_none, ports_of, table_of, table_or_none, octets_of, SpellsMessage}
+use Rattle.bac_npdu_parts.specs.Messages.{MessageValue, who_is_router, i_am_router, router_busy, router_available, init_table, init_table_ack, opaque, networks_of, network_or_none, ports_of, table_of, table_or_none, octets_of, SpellsMessage}
 use Rattle.bac_npdu_parts.specs.Addresses.{SourceValue, DestinationValue, destination_octets, source_octets, hops_octets}
 use Rattle.bac_npdu_parts.specs.Control.{ControlValue, least_of}
 use Rattle.bac_npdu_parts.specs.Frames.{FrameValue, BodyValue, apdu, message, control_of, addresses_of, SpellsBody, SpellsFrame}
@@ -28,7 +28,7 @@ use Rattle.bac_npdu_parts.proofs.WrittenLemmas.{least_append, least_octets, leas
 use Rattle.bac_npdu_parts.proofs.FrameLemmas.{least_before, control_spelled, frame_least}
 use Rattle.bac_field_parts.specs.declared.names.Name.{Name}
 use Rattle.bac_field_parts.specs.declared.names.Name.TheVariants as name
-use Rattle.bac_field_parts.specs.Fields.{FieldValue, Step, next, aside, pass, word, octet_field, two_octets_field, octets_field, counted_field, counter_field, address_field, item_steps, optional}
+use Rattle.bac_field_parts.specs.Fields.{FieldValue, Step, next, aside, pass, word, octet_field, two_octets_field, octets_field, counted_field, counter_field, address_field, fields_of, item_steps, optional}
 use Rattle.bac_field_parts.specs.PrimitiveFields.{truth}
 use Rattle.bac_fields.specs.ServiceFields.{service_steps}
 use Rattle.bac_fields.specs.ApduFields.{part_steps, apdu_steps}
@@ -37,7 +37,7 @@ use Rattle.bac_fields.specs.FrameFields.{source_size, source_steps, addresses_st
 use Rattle.bac_field_parts.specs.Names.{number_of}
 use Rattle.bac_fields.specs.Places.{HoldsNumber, AreAt}
 use Rattle.bac_field_parts.specs.Symbols.{has_contents}
-use Rattle.bac_fields.proofs.PlaceLemmas.{Lays, lays_nothing, lays_next, lays_pass, lays_both, lays_same, lays_aside, count, count-append, count-placed, fits_all, Tells, tells_nothing, tells_next, tells_both, tells_same, Placed, are_at}
+use Rattle.bac_fields.proofs.PlaceLemmas.{Lays, lays_nothing, lays_next, lays_pass, lays_both, lays_same, lays_aside, count, count-append, count-placed, fits_all, joined, Tells, tells_nothing, tells_next, tells_both, tells_same, Placed, are_at}
 use Rattle.bac_fields.proofs.ServicePlaces.{Behind, service_led}
 
 -- ---- network messages
@@ -78,25 +78,29 @@ table_tells (Some ports) = ports_tell ports
 type_tells : (type : ℕ) → Tells (next (octet_field name.NetworkMessage type) ∷ []) (type ∷ [])
 type_tells type = tells_next (octet_field name.NetworkMessage type)
 
-network : (n : ℕ) → Tells (next (two_octets_field name.Network n) ∷ []) (n / 256 ∷ n % 256 ∷ [])
-network n = tells_next (two_octets_field name.Network n)
+-- steps that are fields, one after another
+abbrev AreFields : List Step → Type 0
+AreFields [] = Unit {0}
+AreFields (next v ∷ steps) = AreFields steps
+AreFields _ = ⊥
 
+fields_tell : (steps : List Step) → AreFields steps → Tells steps (joined (fields_of steps))
+fields_tell [] h = tells_nothing
+fields_tell (next v ∷ steps) h = tells_both (tells_next v) (fields_tell steps h)
+fields_tell (step ∷ steps) h = absurd h
+
+-- the last line is that of each message whose fields are always the same
 pub message_tells : (m : MessageValue) → Tells (message_steps m) (least_head (octets_of m))
 message_tells (who_is_router n) = tells_both (type_tells 0) (network_tells name.Network n)
 message_tells (i_am_router networks) = tells_both (type_tells 1) (listed_tells name.Networks (networks_tell networks))
-message_tells (i_could_be_router n performance) = tells_both (type_tells 2) (tells_both (network n) (tells_next (octet_field name.Performance performance)))
-message_tells (reject_message reason n) = tells_both (type_tells 3) (tells_both (tells_next (octet_field name.Reason reason)) (network n))
 message_tells (router_busy networks) = tells_both (type_tells 4) (listed_tells name.Networks (networks_tell networks))
 message_tells (router_available networks) = tells_both (type_tells 5) (listed_tells name.Networks (networks_tell networks))
 message_tells (init_table ports) = tells_both (type_tells 6) (ports_tell ports)
 message_tells (init_table_ack ports) = tells_both (type_tells 7) (table_tells ports)
-message_tells (establish n time) = tells_both (type_tells 8) (tells_both (network n) (tells_next (octet_field name.Time time)))
-message_tells (disconnect n) = tells_both (type_tells 9) (network n)
-message_tells what_is_network_number = type_tells 18
-message_tells (network_number_is n flag) = tells_both (type_tells 19) (tells_both (network n) (tells_next (octet_field name.Flag flag)))
 message_tells (opaque m) =
     tells_same (ap (λ l. m.kind ∷ l) (ap (λ l. least_head (network_or_none m.vendor) ++ l) (sym (least_octets m.octets)) ∙ sym (least_append (network_or_none m.vendor) (map octet m.octets))))
     (tells_both (type_tells m.kind) (tells_both (network_tells name.Vendor m.vendor) (tells_next (octets_field name.Data m.octets))))
+message_tells m = fields_tell (message_steps m) tt
 
 -- the octets of a network message are its spelling
 pub message_spelled : (m : MessageValue) (b : List ℕ) → SpellsMessage m b → IsLeast (SpellsMessage m) (least_head (octets_of m))
@@ -128,19 +132,14 @@ network_few of_name (Some n) = omega arith
 message_few : (m : MessageValue) → count (message_steps m) ≤ 2 * length (least_head (octets_of m)) + 2
 message_few (who_is_router n) = omega (arith, network_few name.Network n)
 message_few (i_am_router networks) = let few = list_few (word name.Networks) (flat_map listed_network_steps networks) _ (networks_few networks) in omega (arith, few)
-message_few (i_could_be_router n performance) = omega arith
-message_few (reject_message reason n) = omega arith
 message_few (router_busy networks) = let few = list_few (word name.Networks) (flat_map listed_network_steps networks) _ (networks_few networks) in omega (arith, few)
 message_few (router_available networks) = let few = list_few (word name.Networks) (flat_map listed_network_steps networks) _ (networks_few networks) in omega (arith, few)
 message_few (init_table ports) = let few = list_few (counter_field name.Ports (length ports)) (flat_map (item_steps port_steps) ports) _ (ports_few ports) in omega (arith, few)
 message_few (init_table_ack ports) = omega (arith, table_few ports)
-message_few (establish n time) = omega arith
-message_few (disconnect n) = omega arith
-message_few what_is_network_number = omega arith
-message_few (network_number_is n flag) = omega arith
 message_few (opaque m) =
     let vendor : List Step = optional (two_octets_field name.Vendor) m.vendor in
     omega (arith, network_few name.Vendor m.vendor, count-append vendor (next (octets_field name.Data m.octets) ∷ []), ap length (least_append (network_or_none m.vendor) (map octet m.octets)), length-append (least_head (network_or_none m.vendor)) (least_head (map octet m.octets)))
+message_few _ = omega arith
 
 -- ---- APDUs
 

@@ -1,14 +1,12 @@
 -- The fields of a network message tell it.
 use Rattle.std.specs.Prelude.{◌≡◌, ℕ, Option, Some, List, [], ◌∷◌, ◌++◌, refl}
 use Rattle.std.proofs.Common.{sym, ◌∙◌, ap, subst}
-use Rattle.bac_npdu_parts.specs.Messages.{MessageValue, SpellsMessage}
-use Rattle.bac_fields.specs.MessageSymbols.{message_said, Layout, who_is, i_am, could_be, reject, busy, available, table, table_ack, establishing, disconnecting, number_wanted, number_told, plain, vendored, SaidIn, message_in, layout_said, layout_told}
+use Rattle.bac_npdu_parts.specs.Messages.{MessageValue, type_of, SpellsMessage}
+use Rattle.bac_fields.specs.MessageSymbols.{message_said, Layout, who_is, i_am, busy, available, table, table_ack, disconnecting, number_wanted, plain, vendored, SaidIn, message_in, layout_said, layout_told}
 use Rattle.bac_field_parts.specs.Symbols.{no_number, no_octet_number, no_octets, number_said, contents_said}
 use Rattle.bac_field_parts.specs.Tables.{SpellsTable}
-use Rattle.bac_field_parts.specs.declared.names.Name.TheVariants as name
-use Rattle.bac_fields.specs.Laws.Layouts.{type_of, message_begins, layout_of, said_in, layout_is, who_is_alike, i_am_alike, could_be_alike, reject_alike, busy_alike, available_alike, table_alike, table_ack_alike, establishing_alike, disconnecting_alike, number_wanted_alike, number_told_alike, plain_alike, vendored_alike}
-use Rattle.bac_field_parts.specs.Laws.Messages.{Alike}
-use Rattle.bac_fields.specs.Laws.NetworkMessages.{who_is_router_message, networks_message, network_number_message, reject_message, disconnect_message, number_wanted_message, port_said, SpellsPort, port_message, table_parts_said, SpellsTableParts, init_table_message, init_table_ack_message, plain_message, vendored_message}
+use Rattle.bac_fields.specs.Laws.Layouts.{message_begins, layout_of, said_in, layout_is, SpellsIn, alike}
+use Rattle.bac_fields.specs.Laws.NetworkMessages.{who_is_router_message, networks_said, SpellsNetworks, networks_message, disconnect_message, number_wanted_message, port_said, SpellsPort, port_message, table_parts_said, SpellsTableParts, init_table_message, init_table_ack_message, plain_message, vendored_message}
 use Rattle.bac_field_parts.specs.Laws.Parts.{list_said}
 use Rattle.bac_fields.proofs.Once.{Telling, held_tells, end_tells, spelled_by, and_then, perhaps, each, by_parts}
 use Rattle.bac_fields.proofs.OnceItems.{word, plain as number}
@@ -28,27 +26,31 @@ ports_tell = spelled_by (λ v b h. (h.back, h.second)) (each port_tells (word 11
 table_tells : Telling table_parts_said SpellsTableParts (Some 45 ∷ [])
 table_tells = and_then (word 45) ports_tell
 
+networks_tell : (kind : ℕ) → Telling (networks_said kind) (SpellsNetworks kind) (Some 40 ∷ [])
+networks_tell kind = by_parts (networks_message kind) (and_then (word 40) (and_then (word 42) (each (number 43) (and_then (word 114) end_tells) refl)))
+
 -- ---- of one layout
 
-laid : (layout : Layout) {S : SaidIn layout → List ℕ → Type 0} {leads : List (Option ℕ)} → ((said : SaidIn layout) → Alike (S said) (SpellsMessage (message_in layout said))) → Telling (layout_said layout) S leads
+laid : (layout : Layout) {leads : List (Option ℕ)} → Telling (layout_said layout) (SpellsIn layout) leads
     → (v w : SaidIn layout) (b c : List ℕ) → SpellsMessage (message_in layout v) b → SpellsMessage (message_in layout w) c → layout_said layout v ≡ layout_said layout w → v ≡ w
-laid layout alike t v w b c h j e = t.once v w b c [] [] ((alike v b).1 h) ((alike w c).1 j) (ap (λ l. l ++ []) e)
+laid layout t v w b c h j e = t.once v w b c [] [] ((alike layout v b).1 h) ((alike layout w c).1 j) (ap (λ l. l ++ []) e)
 
+two_same : (v w : ℕ × ℕ) → v.0 ≡ w.0 → v.1 ≡ w.1 → v ≡ w
+two_same v w e f = λ i. (e i, f i)
+
+-- the last line is that of each layout of two numbers, in the fields after that of the type
 layout_same : (layout : Layout) (v w : SaidIn layout) (b c : List ℕ) → SpellsMessage (message_in layout v) b → SpellsMessage (message_in layout w) c → layout_said layout v ≡ layout_said layout w → v ≡ w
-layout_same who_is = laid who_is who_is_alike (by_parts who_is_router_message (and_then (word 40) (perhaps (number 41) end_tells refl)))
-layout_same i_am = laid i_am i_am_alike (by_parts (networks_message 1) (and_then (word 40) (and_then (word 42) (each (number 43) (and_then (word 114) end_tells) refl))))
-layout_same could_be = laid could_be could_be_alike (by_parts (network_number_message 2 name.Performance) (and_then (word 40) (and_then (number 41) (and_then (number 44) end_tells))))
-layout_same reject = laid reject reject_alike (by_parts reject_message (and_then (word 40) (and_then (number 29) (and_then (number 41) end_tells))))
-layout_same busy = laid busy busy_alike (by_parts (networks_message 4) (and_then (word 40) (and_then (word 42) (each (number 43) (and_then (word 114) end_tells) refl))))
-layout_same available = laid available available_alike (by_parts (networks_message 5) (and_then (word 40) (and_then (word 42) (each (number 43) (and_then (word 114) end_tells) refl))))
-layout_same table = laid table table_alike (by_parts init_table_message (and_then (word 40) (and_then table_tells end_tells)))
-layout_same table_ack = laid table_ack table_ack_alike (by_parts init_table_ack_message (and_then (word 40) (perhaps table_tells end_tells refl)))
-layout_same establishing = laid establishing establishing_alike (by_parts (network_number_message 8 name.Time) (and_then (word 40) (and_then (number 41) (and_then (number 48) end_tells))))
-layout_same disconnecting = laid disconnecting disconnecting_alike (by_parts disconnect_message (and_then (word 40) (and_then (number 41) end_tells)))
-layout_same number_wanted = laid number_wanted number_wanted_alike (by_parts number_wanted_message (and_then (word 40) end_tells))
-layout_same number_told = laid number_told number_told_alike (by_parts (network_number_message 19 name.Flag) (and_then (word 40) (and_then (number 41) (and_then (number 49) end_tells))))
-layout_same plain = laid plain plain_alike (by_parts plain_message (and_then (number 40) (and_then (octets 51) end_tells)))
-layout_same vendored = laid vendored vendored_alike (by_parts vendored_message (and_then (number 40) (and_then (number 50) (and_then (octets 51) end_tells))))
+layout_same who_is = laid who_is (by_parts who_is_router_message (and_then (word 40) (perhaps (number 41) end_tells refl)))
+layout_same i_am = laid i_am (networks_tell 1)
+layout_same busy = laid busy (networks_tell 4)
+layout_same available = laid available (networks_tell 5)
+layout_same table = laid table (by_parts init_table_message (and_then (word 40) (and_then table_tells end_tells)))
+layout_same table_ack = laid table_ack (by_parts init_table_ack_message (and_then (word 40) (perhaps table_tells end_tells refl)))
+layout_same disconnecting = laid disconnecting (by_parts disconnect_message (and_then (word 40) (and_then (number 41) end_tells)))
+layout_same number_wanted = laid number_wanted (by_parts number_wanted_message (and_then (word 40) end_tells))
+layout_same plain = laid plain (by_parts plain_message (and_then (number 40) (and_then (octets 51) end_tells)))
+layout_same vendored = laid vendored (by_parts vendored_message (and_then (number 40) (and_then (number 50) (and_then (octets 51) end_tells))))
+layout_same _ = λ v w b c h j e. two_same v w (ap (number_at 1) e) (ap (number_at 2) e)
 
 -- ---- of any layout
 

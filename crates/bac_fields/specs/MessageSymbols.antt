@@ -15,22 +15,19 @@ message_said message = steps_said (message_steps message) ++ finished ∷ []
 pub data Layout : Type 0 where
   who_is i_am could_be reject busy available table table_ack establishing disconnecting number_wanted number_told plain vendored : Layout
 
--- what a message of a layout says
+-- What a message of a layout says. The last line is that of each other layout: two numbers.
 abbrev pub SaidIn : Layout → Type 0
 SaidIn who_is = Option ℕ
 SaidIn i_am = List ℕ
-SaidIn could_be = ℕ × ℕ
-SaidIn reject = ℕ × ℕ
 SaidIn busy = List ℕ
 SaidIn available = List ℕ
 SaidIn table = List Port
 SaidIn table_ack = Option (List Port)
-SaidIn establishing = ℕ × ℕ
 SaidIn disconnecting = ℕ
 SaidIn number_wanted = Unit {0}
-SaidIn number_told = ℕ × ℕ
 SaidIn plain = ℕ × List ℕ
 SaidIn vendored = ℕ × (ℕ × List ℕ)
+SaidIn _ = ℕ × ℕ
 
 abbrev pub message_in : (layout : Layout) → SaidIn layout → MessageValue
 message_in who_is network = who_is_router network
