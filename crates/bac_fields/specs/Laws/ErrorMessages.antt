@@ -1,5 +1,5 @@
 -- Errors as their parts.
-use Rattle.std.specs.Prelude.{◌≡◌, ℕ, ◌<◌, Option, None, Some, List, [], ◌∷◌, ◌++◌, refl}
+use Rattle.std.specs.Prelude.{◌≡◌, ℕ, Option, None, Some, List, [], ◌∷◌, ◌++◌, refl}
 use Rattle.std.specs.Option.{option_map_or}
 use Rattle.bac_tag.specs.Spelling.{Joined, Joins}
 use Rattle.bac_tag.specs.declared.heads.TagHead.TheVariants.{Open, Close}
