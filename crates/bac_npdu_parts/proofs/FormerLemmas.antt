@@ -1,5 +1,5 @@
 -- Frames as they were spelled before.
-use Rattle.std.specs.Prelude.{◌≡◌, ◌↔◌, ℕ, List, refl}
+use Rattle.std.specs.Prelude.{◌≡◌, ◌↔◌, ℕ, List}
 use Rattle.std.proofs.Common.{sym, ◌∙◌}
 use Rattle.bac_apdu.specs.Apdus.{ApduValue, SpellsApdu}
 use Rattle.bac_apdu.specs.FormerApdus.{SpellsFormerApdu, IsKept as IsKeptApdu}
@@ -12,7 +12,7 @@ use Rattle.bac_npdu_parts.proofs.FrameLemmas.{framed_as}
 -- a message of a type that had a layout then as it has now; the second line is that of each other variant
 message_same : (m : MessageValue) (b : List ℕ) → had_layout (type_of m) ≡ is_typed (type_of m) → SpellsFormerMessage m b ↔ SpellsMessage m b
 message_same (opaque m) b e = (λ s. ((sym e ∙ s.0.0, s.0.1), s.1), λ s. ((e ∙ s.0.0, s.0.1), s.1))
-message_same _ b e = (λ s. (tt, s.1), λ s. (refl, s.1))
+message_same _ b e = (λ s. (tt, s.1), λ s. (e, s.1))
 
 module _ (spelled : (v : ApduValue) (b c : List ℕ) → IsKeptApdu v → SpellsFormerApdu v b → SpellsFormerApdu v c ↔ SpellsApdu v c) where
   body_same : (x : BodyValue) (b c : List ℕ) → IsKept x → SpellsFormerBody x b → SpellsFormerBody x c ↔ SpellsBody x c

@@ -1,5 +1,5 @@
-//! Network messages (clause 6.4), and everything that goes through all of them: a new one has its line in each match
-//! here, and in none elsewhere in this crate.
+//! Network messages (clause 6.4), and what goes through all of them: a new one has its line in each match here, and
+//! elsewhere in this crate only in the law that each one held is octets (`laws.rt`).
 
 ghost use Rattle.std.specs.Prelude.{◌≡◌, ◌/◌, ◌%◌, [], ◌∷◌, ◌++◌, OnOk};
 ghost use Rattle.bac_tag.specs.HeadOctets.{least_head};
