@@ -1,8 +1,6 @@
 //! Productions (clause 21): what services are made of, read and written. A program that handles services needs none of
 //! it: bac_service has them as structs, and calls.
 //!
-//! In the examples `rt` is the program's `HostRuntime`.
-//!
 //! # How it works
 //!
 //! A production is a type made of parts, each of which implements [`Production`]:
