@@ -1,5 +1,5 @@
 -- Frames are equal exactly where they are the same frame.
-use Rattle.std.proofs.Common.{◌≡◌, ℕ, Bool, false, ◌&&◌, nat_eq, Option, None, Some, List, refl, ap}
+use Rattle.std.proofs.Common.{◌≡◌, ℕ, Bool, true, false, ◌&&◌, nat_eq, Option, None, Some, List, refl, ap}
 use Rattle.std.specs.Bool.{Decides, beq}
 use Rattle.std.specs.Option.{option_eq}
 use Rattle.std.specs.Cmp.{unsigned_Decides, booleans_Decides}
@@ -79,6 +79,9 @@ sources v w =
 two : (n m p q : ℕ) → Decides (nat_eq n m && nat_eq p q) ((n ≡ m) × (p ≡ q))
 two n m p q = both (nat_eq n m) (nat_eq p q) (unsigned_Decides n m) (unsigned_Decides p q)
 
+never : {P : Type 0} → false ≡ true → P
+never h = absurd (cc h)
+
 message_tells : (a b : NetMessage) → Decides (of_message.eq-value.it a b) (message_value a ≡ message_value b)
 message_tells (held.WhoIsRouter n) (held.WhoIsRouter m) = by_parts (option_eq nat_eq n m) (options unsigned_Decides n m) (λ e. ap who_is_router e) (λ e. cc)
 message_tells (held.IAmRouter ns) (held.IAmRouter ms) = by_parts (pointwise nat_eq ns.items ms.items) (bytes_decides ns.items ms.items) (λ e. ap i_am_router e) (λ e. cc)
@@ -93,7 +96,7 @@ message_tells (held.Disconnect n) (held.Disconnect m) = by_parts (nat_eq n m) (u
 message_tells held.WhatIsNetworkNumber held.WhatIsNetworkNumber = (λ h. refl, λ e. refl)
 message_tells (held.NetworkNumberIs n f) (held.NetworkNumberIs m g) = by_parts (nat_eq n m && nat_eq f g) (two n m f g) (λ e. λ i. network_number_is (e.0 i) (e.1 i)) (λ e. (cc, cc))
 message_tells (held.Opaque a) (held.Opaque b) = by_parts (same_opaque_net a b) (opaque_net_decided a b) (λ e. ap opaque e) (λ e. cc)
-message_tells a b = (λ h. absurd (cc h), λ e. absurd (cc e))
+message_tells a b = (λ h. never h, λ e. absurd (cc e))
 
 -- the body after its head
 body_spelled : (f : FrameValue) (c : List ℕ) → SpellsFrame f c → (d : List ℕ) × SpellsBody f.body d
