@@ -1,5 +1,5 @@
 -- What two lists mean, and canonical octets of what was read.
-use Rattle.std.specs.Prelude.{◌≡◌, ◌↔◌, ℕ, Bool, true, Option, Some, None, List}
+use Rattle.std.specs.Prelude.{◌≡◌, ◌↔◌, ℕ, Option, Some, None, MatchOption, List}
 use Rattle.std.proofs.Common.{sym, ◌∙◌, subst}
 use Rattle.bac_tag.specs.Spelling.{IsLeast, HasMark}
 use Rattle.bac_tag.specs.Laws.Spelling.{IsLeast-one}
@@ -12,9 +12,14 @@ normalised f octets None written h n = subst (IsLeast (SpellsFrame f)) (sym (n �
 normalised f octets (Some place) written h n = n
 
 -- octets without a mark are their own canonical octets
-pub least_itself : (f : FrameValue) (b : List ℕ) (mark : Option ℕ) → mark ≡ None → HasMark (SpellsFrame f) b mark → IsLeast (SpellsFrame f) b
-least_itself f b None e h = subst (IsLeast (SpellsFrame f)) (sym h.is_mark) h.is_least
-least_itself f b (Some place) e h = absurd (let i : Some place ≡ None = e in cc)
+pub normal_itself : (f : FrameValue) (b : List ℕ) (mark : Option ℕ) → mark ≡ None → SpellsFrame f b → HasMark (SpellsFrame f) b mark → IsNormalOf b b
+normal_itself f b None e s h = (f, s, subst (IsLeast (SpellsFrame f)) (sym h.is_mark) h.is_least)
+normal_itself f b (Some place) e s h = absurd (let i : Some place ≡ None = e in cc)
+
+-- the octets that are compared: those that were written, or those of the side
+pub normal_compared : {V : Type 0} (written : Option V) (items : V → List ℕ) (b c : List ℕ) → MatchOption written (IsNormalOf b b) (λ new. IsNormalOf b (items new)) → MatchOption written (c ≡ b) (λ new. c ≡ items new) → IsNormalOf b c
+normal_compared None items b c n e = subst (IsNormalOf b) (sym e) n
+normal_compared (Some new) items b c n e = subst (IsNormalOf b) (sym e) n
 
 module _ (frames : (f g : FrameValue) (b : List ℕ) → SpellsFrame f b → SpellsFrame g b → f ≡ g) where
   -- canonical octets of both sides are equal exactly where the sides mean the same
@@ -26,10 +31,6 @@ module _ (frames : (f g : FrameValue) (b : List ℕ) → SpellsFrame f b → Spe
 
   pub meaning_told : (b c d e : List ℕ) → IsNormalOf b d → IsNormalOf c e → MeanTheSame b c ↔ (d ≡ e)
   meaning_told b c d e p q = let told = same_told p.0 q.0 b c d e p.1 q.1 p.2 q.2 in (told.1, told.0)
-
-  -- the same, where a comparison tells whether they are equal
-  pub same_compared : (x y : FrameValue) (l r b c : List ℕ) (t : Bool) → SpellsFrame x l → SpellsFrame y r → IsLeast (SpellsFrame x) b → IsLeast (SpellsFrame y) c → (t ≡ true) ↔ (b ≡ c) → (t ≡ true) ↔ MeanTheSame l r
-  same_compared x y l r b c t p q s u e = let told = same_told x y l r b c p q s u in (λ h. told.0 (e.0 h), λ m. e.1 (told.1 m))
 
   -- canonical octets of canonical octets are the same
   pub normal_once : (b c d : List ℕ) → IsNormalOf b c → IsNormalOf c d → c ≡ d

@@ -1,14 +1,14 @@
 //! Whether two inputs spell the same frame.
 
-ghost use Rattle.std.specs.Prelude.{◌≡◌, ◌≢◌, ◌↔◌, true, false, IfOk, IfErr};
+ghost use Rattle.std.specs.Prelude.{◌≡◌, ◌≢◌, ◌↔◌, true, false, IfOk, IfErr, MatchOption};
 ghost use Rattle.bac_tag.specs.declared.refusals.Why.TheVariants.{OutOfMemory};
 ghost use Rattle.bac_tag.specs.Spelling.{HasMark, IsLeast, IsSpelling, IsWholeRefusal};
 ghost use Rattle.bac_npdu_parts.specs.Frames.{SpellsFrame, value_of};
 ghost use Rattle.bac_npdu_parts.specs.Decoded.{begins_small, IsReasoned};
-ghost use Rattle.bac_npdu.specs.Meanings.{IsShortOfMemory, MeanTheSame};
+ghost use Rattle.bac_npdu.specs.Meanings.{IsNormalOf, IsShortOfMemory, MeanTheSame};
 
 use crate::frame_decoding::decode_marked;
-use crate::laws::frames_have_one_value;
+use crate::laws::canonical_octets_tell_the_meaning;
 use bac_npdu_parts::{Frame, encode_frame};
 use bac_tag::Refusal;
 use std::alloc::Global;
@@ -47,8 +47,35 @@ fn encoded(alloc: Global, side: Side, frame: &Frame) -> Result<Vec<u8>, (Side, R
     encode_frame(alloc, frame).map_err(|_refused| (side, Refusal::out_of_memory()))
 }
 
-/// Returns true if both inputs spell the same frame. Octets without a mark are canonical already, and are not written
-/// again.
+/// Returns the canonical octets of the frame that one side spells, or None if they are the octets of the side: octets
+/// without a mark are not written again.
+fn rewritten(alloc: Global, side: Side, octets: &[u8]) -> Result<Option<Vec<u8>>, (Side, Refusal)>
+    ensures spelled { IfOk result (λ _. IsSpelling SpellsFrame octets.now) }
+    ensures normal { IfOk result (λ written. MatchOption written (IsNormalOf octets.now octets.now) (λ new. IsNormalOf octets.now new.items)) }
+    ensures side { IfErr result (λ told. told.0 ≡ side) }
+    ensures refused { IfErr result (λ told. told.1.why ≢ OutOfMemory → IsWholeRefusal SpellsFrame octets.now told.1) }
+    ensures memory { IfErr result (λ told. told.1.why ≡ OutOfMemory → (told.1.place ≡ 0) × IsShortOfMemory octets.now) }
+    ensures reasons { IfErr result (λ told. IsReasoned octets.now told.1) }
+{
+    let (frame, mark) = read(alloc, side, octets)?;
+    match mark {
+        None => Ok(None),
+        Some(_) => Ok(Some(encoded(alloc, side, &frame)?)),
+    }
+}
+
+/// Returns the octets that were written, or those of the side if none were.
+#[inline(always)]
+fn compared<'a>(octets: &'a [u8], written: &'a Option<Vec<u8>>) -> &'a [u8]
+    ensures { MatchOption written.now (result.now ≡ octets.now) (λ new. result.now ≡ new.items) }
+{
+    match written {
+        Some(written) => written,
+        None => octets,
+    }
+}
+
+/// Returns true if both inputs spell the same frame.
 ///
 /// # Errors
 /// The side that spells no frame, with the refusal of [`decode_frame`]. If neither side spells one, it is the left
@@ -80,23 +107,8 @@ pub fn same_meaning(alloc: Global, left: &[u8], right: &[u8]) -> Result<bool, (S
     ensures right_memory { IfErr result (λ told. told.0 ≡ Side.Right → told.1.why ≡ OutOfMemory → (told.1.place ≡ 0) × IsSpelling SpellsFrame left.now × IsShortOfMemory right.now) }
 {
     // By this law equal canonical octets are those of one frame.
-    frames_have_one_value();
-    let (left_frame, left_mark) = read(alloc, Side::Left, left)?;
-    let (right_frame, right_mark) = read(alloc, Side::Right, right)?;
-    match (left_mark, right_mark) {
-        (None, None) => Ok(left == right),
-        (None, Some(_)) => {
-            let written = encoded(alloc, Side::Right, &right_frame)?;
-            Ok(left == written.as_slice())
-        }
-        (Some(_), None) => {
-            let written = encoded(alloc, Side::Left, &left_frame)?;
-            Ok(written.as_slice() == right)
-        }
-        (Some(_), Some(_)) => {
-            let left_written = encoded(alloc, Side::Left, &left_frame)?;
-            let right_written = encoded(alloc, Side::Right, &right_frame)?;
-            Ok(left_written == right_written)
-        }
-    }
+    canonical_octets_tell_the_meaning();
+    let left_written = rewritten(alloc, Side::Left, left)?;
+    let right_written = rewritten(alloc, Side::Right, right)?;
+    Ok(compared(left, &left_written) == compared(right, &right_written))
 }
