@@ -1,5 +1,5 @@
 -- Fields: what each says, and the octets that say it.
-use Rattle.std.specs.Prelude.{◌≡◌, ◌<◌, ◌^◌, ℕ, ◌+◌, ◌/◌, ◌%◌, List, [], ◌∷◌, ◌++◌, length, nat_lt, if◌then◌else◌, slice_set, Option, IfSome, MatchOption}
+use Rattle.std.specs.Prelude.{◌≡◌, ◌<◌, ◌^◌, ℕ, ◌+◌, ◌/◌, ◌%◌, Bool, true, false, List, [], ◌∷◌, ◌++◌, length, nat_lt, if◌then◌else◌, slice_set, Option, IfSome, MatchOption}
 use Rattle.std.specs.List.{flat_map}
 use Rattle.std.specs.Option.{option_map_or}
 use Rattle.bac_tag.specs.Writing.{narrow_head, narrow_opening}
@@ -56,6 +56,11 @@ opening_field name tag number = record { name = name; number = number; head = na
 
 abbrev pub closing_field : Name → ℕ → ℕ → FieldValue
 closing_field name tag number = record { name = name; number = number; head = narrow_opening 1 tag 7; contents = [] }
+
+-- the one if `opens`, and otherwise the other
+abbrev pub edge_field : (opens : Bool) → Name → ℕ → ℕ → FieldValue
+edge_field true name tag number = opening_field name tag number
+edge_field false name tag number = closing_field name tag number
 
 -- a number that an octet of the head of a frame or of an APDU holds, by itself or with others
 abbrev pub held_field : Name → ℕ → FieldValue

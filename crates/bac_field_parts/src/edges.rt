@@ -1,9 +1,8 @@
 //! Fields that say an opening or a closing tag (clause 20.2.1.3.2).
 
-ghost use Rattle.std.specs.Prelude.{nat_le};
-ghost use Rattle.bac_tag.specs.declared.heads.TagHead.TheVariants as tag;
-ghost use Rattle.bac_productions.specs.Productions.{Head};
-ghost use Rattle.bac_productions.specs.Laws.Tag.{opening_inhabited, closing_inhabited};
+ghost use Rattle.std.specs.Prelude.{◌≡◌, nat_le};
+ghost use Rattle.bac_productions.specs.Productions.{Head, edge};
+ghost use Rattle.bac_productions.specs.Laws.Tag.{edge_inhabited};
 ghost use Rattle.bac_field_parts.specs.Symbols.{the_number};
 
 use crate::forms::Form;
@@ -11,50 +10,37 @@ use crate::names::Name;
 use bac_tag::layers::append_head;
 use bac_tag::{OutOfMemory, TagHead};
 
-/// An opening tag with this number.
+/// The tag at an edge of a group or of a list: the opening one if `OPENS`, and otherwise the closing one. First the name
+/// of the field that says it, then the number of the tag, and last the number of the field.
 #[derive(Clone, Copy)]
-pub struct Opening(pub Name, pub u8, pub u8);
+pub struct Edge<const OPENS: bool>(pub Name, pub u8, pub u8);
 
-impl Form for Opening {
-    ghost Value = { Unit {0} };
+/// An opening tag.
+pub type Opening = Edge<true>;
 
-    ghost name = { λ form. form.0 };
+/// A closing tag.
+pub type Closing = Edge<false>;
 
-    ghost number = { λ form. the_number form.2 };
-
-    ghost spells = { λ form. Head (tag.Open form.1) };
-
-    ghost is_form = { λ form. nat_le form.1 254 };
-
-    #[inline(always)]
-    fn name(&self) -> Name {
-        self.0
+/// Returns the head of the tag.
+#[inline(always)]
+fn head_of(opens: bool, number: u8) -> TagHead
+    ensures { result ≡ edge opens number }
+{
+    if opens {
+        TagHead::Open(number)
+    } else {
+        TagHead::Close(number)
     }
-
-    #[inline(always)]
-    fn make(&self, given: u64, out: &mut Vec<u8>) -> Result<bool, OutOfMemory> {
-        if given != u64::from(self.2) {
-            return Ok(false);
-        }
-        append_head(TagHead::Open(self.1), out)?;
-        Ok(true)
-    }
-
-    ghost inhabited = { λ form sound. opening_inhabited form.1 sound };
 }
 
-/// A closing tag with this number.
-#[derive(Clone, Copy)]
-pub struct Closing(pub Name, pub u8, pub u8);
-
-impl Form for Closing {
+impl<const OPENS: bool> Form for Edge<OPENS> {
     ghost Value = { Unit {0} };
 
     ghost name = { λ form. form.0 };
 
     ghost number = { λ form. the_number form.2 };
 
-    ghost spells = { λ form. Head (tag.Close form.1) };
+    ghost spells = { λ form. Head (edge OPENS form.1) };
 
     ghost is_form = { λ form. nat_le form.1 254 };
 
@@ -68,9 +54,9 @@ impl Form for Closing {
         if given != u64::from(self.2) {
             return Ok(false);
         }
-        append_head(TagHead::Close(self.1), out)?;
+        append_head(head_of(OPENS, self.1), out)?;
         Ok(true)
     }
 
-    ghost inhabited = { λ form sound. closing_inhabited form.1 sound };
+    ghost inhabited = { λ form sound. edge_inhabited OPENS form.1 sound };
 }

@@ -11,7 +11,7 @@ ghost use Rattle.bac_field_parts.specs.Laws.Rests.{Rests};
 ghost use Rattle.bac_field_parts.specs.Laws.Groups.{Stepped, begins_inhabited};
 ghost use Rattle.bac_field_parts.specs.Laws.Steps.{HasStepped};
 
-use crate::edges::{Closing, Opening};
+use crate::edges::{Closing, Edge, Opening};
 use crate::elements::make_element;
 use crate::field::Field;
 use crate::forms::{Form, One};
@@ -97,7 +97,7 @@ fn end_group(
     let Some(number) = groups.pop() else {
         unreachable!()
     };
-    One(Closing(Name::GroupEnd, number, number)).make(fields, octets, out)?;
+    One::<Closing>(Edge(Name::GroupEnd, number, number)).make(fields, octets, out)?;
     Ok(())
 }
 
@@ -201,13 +201,13 @@ impl<const N: u8> FromFields for OpenValueFields<N> {
     }
 
     fn make(&self, fields: &[Field], octets: &[u8], out: &mut Vec<u8>) -> Result<usize, Fault> {
-        let first = One(Opening(Name::Value, N, 0)).make(fields, octets, out)?;
+        let first = One::<Opening>(Edge(Name::Value, N, 0)).make(fields, octets, out)?;
         let rest = &fields[first..];
         let taken = match make_elements(rest, octets, out) {
             Ok(taken) => taken,
             Err(fault) => return Err(fault.behind(first)),
         };
-        match One(Closing(Name::ValueEnd, N, 0)).make(&rest[taken..], octets, out) {
+        match One::<Closing>(Edge(Name::ValueEnd, N, 0)).make(&rest[taken..], octets, out) {
             Ok(last) => Ok(first + (taken + last)),
             Err(fault) => Err(fault.behind(taken).behind(first)),
         }

@@ -2,7 +2,7 @@
 
 ghost use Rattle.std.specs.Prelude.{◌∷◌, []};
 ghost use Rattle.bac_data.specs.Walks.{event_of, IsPackedStep};
-ghost use Rattle.bac_field_parts.specs.Fields.{Writes, next, listed_in, under_tag, opening_field, closing_field};
+ghost use Rattle.bac_field_parts.specs.Fields.{Writes, next, listed_in, under_tag, edge_field};
 ghost use Rattle.bac_field_parts.specs.OpenValueFields.{event_field, event_step, open_steps};
 
 use crate::heads::{head_len, tag_len};
@@ -10,20 +10,11 @@ use crate::parts::{HasFields, Items};
 use crate::primitives::tell_primitive;
 use bac_data::{Any, Event};
 use bac_field_parts::cursor::{Cursor, write_field};
-use bac_field_parts::edges::{Closing, Opening};
+use bac_field_parts::edges::{Closing, Edge, Opening};
 use bac_field_parts::{Field, Name};
 
-impl HasFields for Opening {
-    ghost steps = { λ part. next (opening_field part.0 part.1 part.2) ∷ [] };
-
-    #[inline(always)]
-    fn tell(&self, cursor: Cursor, room: &mut [Field]) -> Option<Cursor> {
-        write_field(self.0, u64::from(self.2), tag_len(self.1), 0, cursor, room)
-    }
-}
-
-impl HasFields for Closing {
-    ghost steps = { λ part. next (closing_field part.0 part.1 part.2) ∷ [] };
+impl<const OPENS: bool> HasFields for Edge<OPENS> {
+    ghost steps = { λ part. next (edge_field OPENS part.0 part.1 part.2) ∷ [] };
 
     #[inline(always)]
     fn tell(&self, cursor: Cursor, room: &mut [Field]) -> Option<Cursor> {
@@ -56,8 +47,10 @@ fn tell_event(event: &Event<'_>, cursor: Cursor, room: &mut [Field]) -> Option<C
     match event {
         Event::App(prim) => tell_primitive(prim, cursor, room),
         Event::Ctx(number, octets) => tell_context(*number, octets, cursor, room),
-        Event::Open(number) => Opening(Name::Group, *number, *number).tell(cursor, room),
-        Event::Close(number) => Closing(Name::GroupEnd, *number, *number).tell(cursor, room),
+        Event::Open(number) => Edge::<true>(Name::Group, *number, *number).tell(cursor, room),
+        Event::Close(number) => {
+            Edge::<false>(Name::GroupEnd, *number, *number).tell(cursor, room)
+        }
     }
 }
 
@@ -89,8 +82,9 @@ impl<const N: u8> HasFields for OpenValue<'_, N> {
 
     fn tell(&self, cursor: Cursor, room: &mut [Field]) -> Option<Cursor> {
         let elements = Elements(self.0);
-        let end = Closing(Name::ValueEnd, N, 0);
-        (Opening(Name::Value, N, 0), (elements, end)).tell(cursor, room)
+        let start: Opening = Edge(Name::Value, N, 0);
+        let end: Closing = Edge(Name::ValueEnd, N, 0);
+        (start, (elements, end)).tell(cursor, room)
     }
 }
 
@@ -103,7 +97,8 @@ impl<T: HasFields, const N: u8> HasFields for ListedIn<'_, T, N> {
 
     fn tell(&self, cursor: Cursor, room: &mut [Field]) -> Option<Cursor> {
         let items = Items(self.1);
-        let end = Closing(Name::ListEnd, N, 0);
-        (Opening(self.0, N, 0), (items, end)).tell(cursor, room)
+        let start: Opening = Edge(self.0, N, 0);
+        let end: Closing = Edge(Name::ListEnd, N, 0);
+        (start, (items, end)).tell(cursor, room)
     }
 }

@@ -9,7 +9,7 @@ use crate::parts::HasFields;
 use crate::services::properties::ValueFields;
 use crate::values::Under;
 use bac_field_parts::cursor::Cursor;
-use bac_field_parts::edges::{Closing, Opening};
+use bac_field_parts::edges::{Closing, Edge, Opening};
 use bac_field_parts::forms::One;
 use bac_field_parts::leaves::Octet;
 use bac_field_parts::making::{Each, End};
@@ -94,8 +94,8 @@ impl Message for ConfirmedFields {
     ghost parts = { λ message. (record { 0 = record { 0 = name.ConfirmedCovNotification; 1 = 1 } }, (record { 0 = record { name = name.Process; of = _ } }, (record { 0 = record { name = name.Device; of = _ } }, (record { 0 = record { name = name.Object; of = _ } }, (record { 0 = record { name = name.Remaining; of = _ } }, ((record { 0 = record { 0 = name.Values; 1 = 4; 2 = 0 } }, record { 0 = _; 1 = record { 0 = record { 0 = name.ListEnd; 1 = 4; 2 = 0 } } }), _)))))) };
 
     fn parts(&self) -> Self::Parts {
-        let start = One(Opening(Name::Values, 4, 0));
-        let end = One(Closing(Name::ListEnd, 4, 0));
+        let start = One::<Opening>(Edge(Name::Values, 4, 0));
+        let end = One::<Closing>(Edge(Name::ListEnd, 4, 0));
         let values = (start, Each(ValueFields, end));
         let remaining = number_under::<Unsigned32, 3>(Name::Remaining);
         let object = number_under::<ObjectId, 2>(Name::Object);
@@ -148,8 +148,8 @@ impl Message for UnconfirmedFields {
     ghost parts = { λ message. (record { 0 = record { 0 = name.UnconfirmedCovNotification; 1 = 2 } }, (record { 0 = record { name = name.Process; of = _ } }, (record { 0 = record { name = name.Device; of = _ } }, (record { 0 = record { name = name.Object; of = _ } }, (record { 0 = record { name = name.Remaining; of = _ } }, ((record { 0 = record { 0 = name.Values; 1 = 4; 2 = 0 } }, record { 0 = _; 1 = record { 0 = record { 0 = name.ListEnd; 1 = 4; 2 = 0 } } }), _)))))) };
 
     fn parts(&self) -> Self::Parts {
-        let start = One(Opening(Name::Values, 4, 0));
-        let end = One(Closing(Name::ListEnd, 4, 0));
+        let start = One::<Opening>(Edge(Name::Values, 4, 0));
+        let end = One::<Closing>(Edge(Name::ListEnd, 4, 0));
         let values = (start, Each(ValueFields, end));
         let remaining = number_under::<Unsigned32, 3>(Name::Remaining);
         let object = number_under::<ObjectId, 2>(Name::Object);

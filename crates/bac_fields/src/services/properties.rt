@@ -4,7 +4,7 @@ use crate::open_values::OpenValue;
 use crate::parts::HasFields;
 use crate::values::{Optional, Typed, Under, unsigned};
 use bac_field_parts::cursor::Cursor;
-use bac_field_parts::edges::{Closing, Opening};
+use bac_field_parts::edges::{Closing, Edge, Opening};
 use bac_field_parts::forms::One;
 use bac_field_parts::groups::OpenValueFields;
 use bac_field_parts::leaves::Word;
@@ -87,8 +87,9 @@ impl HasFields for ErrorCause {
             class: self.class,
             code: self.code,
         };
-        let end = Closing(Name::PropertyErrorEnd, 5, 0);
-        (Opening(Name::PropertyError, 5, 0), (cause, end)).tell(cursor, room)
+        let start: Opening = Edge(Name::PropertyError, 5, 0);
+        let end: Closing = Edge(Name::PropertyErrorEnd, 5, 0);
+        (start, (cause, end)).tell(cursor, room)
     }
 }
 
@@ -244,9 +245,9 @@ impl Message for CauseFields {
     fn parts(&self) -> Self::Parts {
         let class = number_typed::<Enumerated>(Name::ErrorClass);
         let code = number_typed::<Enumerated>(Name::ErrorCode);
-        let end = One(Closing(Name::PropertyErrorEnd, 5, 0));
+        let end = One::<Closing>(Edge(Name::PropertyErrorEnd, 5, 0));
         (
-            One(Opening(Name::PropertyError, 5, 0)),
+            One::<Opening>(Edge(Name::PropertyError, 5, 0)),
             (class, (code, end)),
         )
     }

@@ -5,7 +5,7 @@ use crate::parts::{HasFields, Listed};
 use crate::services::properties::{ReferenceFields, ResultFields};
 use crate::values::Under;
 use bac_field_parts::cursor::Cursor;
-use bac_field_parts::edges::{Closing, Opening};
+use bac_field_parts::edges::{Closing, Edge, Opening};
 use bac_field_parts::forms::One;
 use bac_field_parts::leaves::{Octet, Word};
 use bac_field_parts::making::{Each, End, Fault, FromFields, Maybe};
@@ -122,8 +122,8 @@ impl Message for SpecificationFields {
 
     fn parts(&self) -> Self::Parts {
         let object = number_under::<ObjectId, 0>(Name::Object);
-        let start = One(Opening(Name::Properties, 1, 0));
-        let end = One(Closing(Name::ListEnd, 1, 0));
+        let start = One::<Opening>(Edge(Name::Properties, 1, 0));
+        let end = One::<Closing>(Edge(Name::ListEnd, 1, 0));
         let properties = (start, Each(ReferenceFields, end));
         let rest = (properties, One(Word(Name::ItemEnd)));
         (One(Word(Name::Item)), (object, rest))
@@ -193,8 +193,8 @@ impl Message for AccessFields {
 
     fn parts(&self) -> Self::Parts {
         let object = number_under::<ObjectId, 0>(Name::Object);
-        let start = One(Opening(Name::Results, 1, 0));
-        let end = One(Closing(Name::ListEnd, 1, 0));
+        let start = One::<Opening>(Edge(Name::Results, 1, 0));
+        let end = One::<Closing>(Edge(Name::ListEnd, 1, 0));
         let results = (start, Each(ResultFields, end));
         let rest = Maybe(results, One(Word(Name::ItemEnd)));
         (One(Word(Name::Item)), (object, rest))

@@ -5,7 +5,7 @@ use crate::parts::{HasFields, Listed, Pass};
 use crate::services::properties::{Cause, Property, ValueFields};
 use crate::values::Under;
 use bac_field_parts::cursor::Cursor;
-use bac_field_parts::edges::{Closing, Opening};
+use bac_field_parts::edges::{Closing, Edge, Opening};
 use bac_field_parts::forms::One;
 use bac_field_parts::leaves::{Octet, Word};
 use bac_field_parts::making::{Each, End, Fault, FromFields, Maybe};
@@ -92,8 +92,8 @@ impl Message for WriteSpecificationFields {
 
     fn parts(&self) -> Self::Parts {
         let object = number_under::<ObjectId, 0>(Name::Object);
-        let start = One(Opening(Name::Values, 1, 0));
-        let end = One(Closing(Name::ListEnd, 1, 0));
+        let start = One::<Opening>(Edge(Name::Values, 1, 0));
+        let end = One::<Closing>(Edge(Name::ListEnd, 1, 0));
         let values = (start, Each(ValueFields, end));
         let rest = (values, One(Word(Name::ItemEnd)));
         (One(Word(Name::Item)), (object, rest))
