@@ -1,30 +1,20 @@
 //! The program `bactool`: shows, checks and normalises files of BACnet frames (ANSI/ASHRAE 135), and makes them of text.
 //!
 //! A file is a list of records, each two octets of length and then a frame: one NPDU (clause 6), with an APDU (clause
-//! 20.1) or a network message (clause 6.4) in it. The runs over these files are those of bac_stream. The run that makes
-//! a file from lines of hexadecimal digits is that of bac_pack, and the run that makes one from the lines of `show` that
-//! of bac_lines. This crate has the words of the command line, the exit status and what is written to standard error.
+//! 20.1) or a network message (clause 6.4) in it. What the words ask for, the exit status and the lines on standard error
+//! are those of bac_command. This crate passes it the words and the standard streams of the process.
 #![tactic(auto)]
 
-mod command_line;
-mod error_lines;
-mod job_faults;
-mod tool;
 #[cfg(test)]
 mod tool_tests;
-mod words;
 
 use arrayvec::ArrayString;
-pub use bac_lines::run_read;
-pub use bac_pack::{PackFault, run_pack};
+use bac_command::layers::tell_text;
+use bac_command::run_tool;
 use bac_stream::{Counted, Output};
-pub use command_line::Job;
-pub use job_faults::JobFault;
 use std::fmt::Write;
 use std::io;
 use std::process::ExitCode;
-pub use tool::run_tool;
-pub use words::job;
 
 /// The status if the words or the standard streams are not available.
 const FAILED: u8 = 2;
@@ -46,7 +36,7 @@ const LINE: usize = 128;
 fn tell_error<E: Output>(error: &io::Error, errors: &mut E) {
     let mut line = ArrayString::<LINE>::new();
     if writeln!(line, "bactool: {error}").is_ok() {
-        error_lines::tell_text(line.as_bytes(), errors);
+        tell_text(line.as_bytes(), errors);
     }
 }
 

@@ -1,7 +1,7 @@
 //! The program over readers and writers in memory: worked examples of docs/EXAMPLES.md.
 
-use crate::error_lines::tell_fault;
-use crate::{Job, JobFault, PackFault, job, run_tool};
+use bac_command::layers::tell_fault;
+use bac_command::{Job, JobFault, PackFault, job, run_tool};
 use bac_stream::{Counted, Input, Mode, Output, RunFault, StreamFault};
 use bac_tag::{Refusal, Why};
 use clap::error;

@@ -1,0 +1,18 @@
+use Rattle.std.proofs.Common.{ap, ap₂, codes, ◌≡◌, ◌∙◌}
+use Rattle.std.proofs.lemmas.Result.{IfOk-weaker}
+use Rattle.clap.specs.Words.{App, app_of, new_app, with_subcommand}
+use Rattle.bac_command.specs.CommandLine.{bare, moded}
+use Rattle.bac_command.proofs.words.command.Goals as goal
+
+pub returns : goal.returns
+returns c =
+    let one_is : app_of c.in_ok-one.one ≡ with_subcommand bare (moded (codes "show")).top =
+    c.in_ok-one.ensures.shape c.in_ok-show.ensures.local ∙ ap₂ with_subcommand c.bare_command.ensures (ap (λ (a : App). a.top) c.in_ok-show.ensures.shape) in
+    let two_is : app_of c.in_ok-two.two ≡ with_subcommand (with_subcommand bare (moded (codes "show")).top) (moded (codes "check")).top =
+    c.in_ok-two.ensures.shape c.in_ok-check.ensures.local ∙ ap₂ with_subcommand one_is (ap (λ (a : App). a.top) c.in_ok-check.ensures.shape) in
+    let three_is : app_of c.in_ok-three.three ≡ with_subcommand (with_subcommand (with_subcommand bare (moded (codes "show")).top) (moded (codes "check")).top) (moded (codes "normalise")).top =
+    c.in_ok-three.ensures.shape c.in_ok-normalise.ensures.local ∙ ap₂ with_subcommand two_is (ap (λ (a : App). a.top) c.in_ok-normalise.ensures.shape) in
+    let four_is : app_of c.in_ok-four.four ≡ with_subcommand (with_subcommand (with_subcommand (with_subcommand bare (moded (codes "show")).top) (moded (codes "check")).top) (moded (codes "normalise")).top) (new_app (codes "pack")).top =
+    c.in_ok-four.ensures.shape c.plain_command-pack.ensures.local ∙ ap₂ with_subcommand three_is (ap (λ (a : App). a.top) c.plain_command-pack.ensures.shape) in
+    IfOk-weaker c.subcommand-5.result _ _
+    (λ r added. added.shape c.plain_command-read.ensures.local ∙ ap₂ with_subcommand four_is (ap (λ (a : App). a.top) c.plain_command-read.ensures.shape)) c.subcommand-5.ensures

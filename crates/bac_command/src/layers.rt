@@ -1,0 +1,3 @@
+//! What only the program calls.
+
+pub use crate::error_lines::{tell_fault, tell_text};
