@@ -15,7 +15,7 @@ use Rattle.bac_data.specs.Spells.{SpellsOpen}
 use Rattle.bac_data.specs.Same.{same_values}
 use Rattle.bac_data.specs.Laws.Same.{same_values_tell}
 use Rattle.bac_productions.specs.Productions.{Optional, Items, Grouped, IsRecordOf}
-use Rattle.bac_productions.specs.Contents.{EnumeratedField, UnsignedField}
+use Rattle.bac_productions.specs.Contents.{EnumeratedField, UnsignedField, PriorityField}
 use Rattle.bac_service.specs.declared.kind.Kind.{Kind}
 use Rattle.bac_service.specs.declared.service.property_result.ReadResult.TheVariants.{Value, Error}
 use Rattle.bac_service.specs.declared.service.read_property_multiple.ReadAccessSpecification.{ReadAccessSpecification}
@@ -24,7 +24,7 @@ use Rattle.bac_service.specs.declared.service.write_property_multiple.WriteAcces
 use Rattle.bac_service.specs.declared.service.cov_notification.CovNotification.{CovNotification}
 use Rattle.bac_service.specs.ErrorValues.{ErrorValue}
 use Rattle.bac_service.specs.declared.service.Service.{Service}
-use Rattle.bac_service.specs.PropertyValue.{SpellsPropertyValue, property_value_parts}
+use Rattle.bac_service.specs.PropertyValue.{SpellsPropertyValue}
 use Rattle.bac_service.specs.PropertyResult.{SpellsReadResult, SpellsPropertyResult}
 use Rattle.bac_service.specs.ReadPropertyAck.{SpellsReadPropertyAck, read_property_ack_parts}
 use Rattle.bac_service.specs.WriteProperty.{SpellsWriteProperty, write_property_parts}
@@ -321,6 +321,31 @@ said_is k l c d p v w e =
 typed_tells : (k : Kind) (c : ℕ) (p : ServiceProduction) (v w : SaidBy p) (r : Bool) → Decides r (v ≡ w) → Decides r (typed k c p v ≡ typed k c p w)
 typed_tells k c p v w r d = by_parts r d (λ h. ap (typed k c p) h) (said_is k k c c p v w)
 
+never : {P : Type 0} → false ≡ true → P
+never h = absurd (cc h)
+
+abbrev production_number : Option ServiceProduction → ℕ
+production_number None = 0
+production_number (Some read_property) = 1
+production_number (Some read_property_ack) = 2
+production_number (Some read_property_multiple) = 3
+production_number (Some read_property_multiple_ack) = 4
+production_number (Some write_property) = 5
+production_number (Some write_property_multiple) = 6
+production_number (Some write_property_multiple_error) = 7
+production_number (Some who_is) = 8
+production_number (Some i_am) = 9
+production_number (Some subscribe_cov) = 10
+production_number (Some cov_notification) = 11
+production_number (Some service_error) = 12
+
+-- two services whose productions have different numbers are not the same: the numbers are compared, since a search for
+-- each pair of productions takes long
+other_productions : {P : Type 0} (v w : ServiceValue) → nat_eq (production_number v.production) (production_number w.production) ≡ false → v ≡ w → P
+other_productions v w differ e =
+    let same : production_number v.production ≡ production_number w.production = ap (λ (z : ServiceValue). production_number z.production) e in
+    never (sym differ ∙ (unsigned_Decides _ _).1 same)
+
 confirmed_tells : (x y : Bool) → notification_choice x ≡ notification_choice y → x ≡ y
 confirmed_tells true true e = refl
 confirmed_tells false false e = refl
@@ -358,9 +383,17 @@ module _ (open_only : (number : ℕ) (v : Elements) (b : List ℕ) → SpellsOpe
   tells_open : (number : ℕ) → Tells (SpellsOpen 32 number) same_values
   tells_open number v w b c s t = same_values_tell v w (open_only number v b s) (open_only number w c t)
 
+  abbrev property_value_fields : IsRecordOf (Joined (EnumeratedField 0) (Joined (Optional (UnsignedField 1)) (Joined (SpellsOpen 32 2) (Optional (PriorityField 3))))) (SpellsPropertyValue 32)
+  property_value_fields = record {
+    fields = λ v. (v.property, (v.index, (v.value, v.priority)));
+    of_fields = λ p. record { property = p.0; index = p.1.0; value = p.1.1.0; priority = p.1.1.1 };
+    same = λ v. refl;
+    split = λ v b s. s;
+    joined = λ p b s. s;
+  }
+
   tells_property_value : Tells (SpellsPropertyValue 32) same_property_value
-  unfolding property_value_parts
-  tells_property_value = tells_record (property_value_parts 32) (tells_joined (tells_plain _ enumerated) (tells_joined (tells_optional (tells_plain _ unsigned_Decides)) (tells_joined (tells_open 2) (tells_optional (tells_plain _ unsigned_Decides)))))
+  tells_property_value = tells_record property_value_fields (tells_joined (tells_plain _ unsigned_Decides) (tells_joined (tells_optional (tells_plain _ unsigned_Decides)) (tells_joined (tells_open 2) (tells_optional (tells_plain _ unsigned_Decides)))))
 
   tells_read_result : Tells (SpellsReadResult 32) same_read_result
   tells_read_result (Value v) (Value w) b c s t = by_parts (same_values v w) (tells_open 4 v w b c s t) (λ e. ap Value e) (λ e. cc)
@@ -448,4 +481,4 @@ module _ (open_only : (number : ℕ) (v : Elements) (b : List ℕ) → SpellsOpe
   services_tell (held.ServiceError v) (held.ServiceError w) k l c d s t x y = tells_error v w
   services_tell (held.WritePropertyMultipleError v) (held.WritePropertyMultipleError w) k l c d s t x y = typed_tells _ _ write_property_multiple_error v w _ (write_errors v w)
   services_tell (held.Opaque v) (held.Opaque w) k l c d s t x y = opaque_tells v w
-  services_tell a b k l c d s t x y = (λ h. absurd (cc h), λ e. let productions = ap (λ (z : ServiceValue). z.production) e in absurd (cc productions))
+  services_tell a b k l c d s t x y = (λ h. never h, λ e. other_productions (value_of a) (value_of b) refl e)

@@ -3,12 +3,16 @@ use Rattle.std.specs.Prelude.{ℕ, List, refl}
 use Rattle.bac_tag.specs.Spelling.{Joins, Joined}
 use Rattle.bac_productions.specs.Contents.{ApplicationEnumerated, ApplicationEnumeratedPart, of_number}
 use Rattle.bac_productions.specs.Productions.{IsRecordOf}
+use Rattle.bac_value.specs.declared.types.enumeration.Enumerated.{Enumerated}
 use Rattle.bac_service.specs.declared.service.error_cause.ErrorCause.{ErrorCause}
 
 abbrev pub SpellsErrorCause : ErrorCause → List ℕ → Type 0
 SpellsErrorCause cause = Joins (ApplicationEnumerated cause.class) (ApplicationEnumerated cause.code)
 
-pub error_cause_parts : IsRecordOf (Joined ApplicationEnumeratedPart ApplicationEnumeratedPart) SpellsErrorCause
+abbrev pub CauseParts : Enumerated × Enumerated → List ℕ → Type 0
+CauseParts = Joined ApplicationEnumeratedPart ApplicationEnumeratedPart
+
+pub error_cause_parts : IsRecordOf CauseParts SpellsErrorCause
 error_cause_parts = record {
   fields = λ cause. (of_number cause.class, of_number cause.code);
   of_fields = λ p. record { class = p.0.0; code = p.1.0 };

@@ -4,6 +4,7 @@ use Rattle.std.proofs.Common.{inl, inr}
 use Rattle.bac_tag.specs.Spelling.{Joins}
 use Rattle.bac_data.specs.OpenValue.{Elements}
 use Rattle.bac_data.specs.Spells.{SpellsOpen}
+use Rattle.bac_value.specs.declared.types.enumeration.Enumerated.{Enumerated}
 use Rattle.bac_productions.specs.Contents.{EnumeratedField, UnsignedField}
 use Rattle.bac_productions.specs.Productions.{Optional, Grouped}
 use Rattle.bac_service.specs.declared.service.error_cause.ErrorCause.{ErrorCause}
@@ -22,3 +23,8 @@ SpellsPropertyResult groups r = Joins (EnumeratedField 2 r.property) (Joins (Opt
 abbrev pub read_result_of : Elements ⊎ ErrorCause → ReadResult
 read_result_of (inl value) = Value value
 read_result_of (inr cause) = Error cause
+
+-- of a value, or the fields of an error
+abbrev pub result_of_parts : Elements ⊎ (Enumerated × Enumerated) → ReadResult
+result_of_parts (inl value) = Value value
+result_of_parts (inr cause) = Error (record { class = cause.0.0; code = cause.1.0 })

@@ -13,8 +13,8 @@
 //! # How it works
 //!
 //! [`decode_service_marked`] finds the production by kind and choice. A service that one kind and one choice name says
-//! in its own file, with `impl Named` or `impl NamedList`, which part it is spelled as, its kind and choice, and how it
-//! is made from what was read. `decode_named` or `decode_list` (`named.rt`) decodes it. Notifications and errors of a
+//! in its own file, with `impl Named`, its kind and choice, and how it becomes a service; or with `impl NamedList`, if it
+//! is one list, also its items. `decode_named` or `decode_list` (`named.rt`) decodes it. Notifications and errors of a
 //! class and a code have several choices each, and a function of their own.
 //!
 //! A production is a type made of parts, as bac_productions has them: fields under a tag, open values, groups, lists,

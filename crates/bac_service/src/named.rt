@@ -25,41 +25,38 @@ use std::alloc::Global;
 /// A service and its mark: the place of the first octet that differs from the canonical ones, or None.
 pub(crate) type Marked = (Service, Option<usize>);
 
-/// A service that is named by one kind and one choice.
-pub(crate) trait Named: Drop {
-    /// The part that it is spelled as.
-    type Part: Production;
-
+/// A service that is named by one kind and one choice, and that is its fields.
+pub(crate) trait Named: Record {
     ghost kind: { Kind };
 
     ghost choice: { ℕ };
 
     /// Returns the service that was read.
-    fn into_service(part: Self::Part) -> Service
-        ensures { (b : List ℕ) → Self.Part.spells (Self.Part.view part) b ↔ SpellsService true 32 kind choice (value_of result) b };
+    fn into_service(self) -> Service
+        ensures { (b : List ℕ) → Self.spells (Self.view self) b ↔ SpellsService true 32 kind choice (value_of result) b };
 
-    ghost named: { IsServiceOf Self.Part.spells kind choice };
+    ghost named: { IsServiceOf Self.spells kind choice };
 
-    ghost memory: { IsTrue Self.Part.wants_memory → is_small kind choice ≡ false };
+    ghost memory: { IsTrue Self.Parts.wants_memory → is_small kind choice ≡ false };
 }
 
 /// Decodes a service of type `S`.
 #[inline(always)]
 pub(crate) fn decode_named<S: Named>(alloc: Global, octets: &[u8]) -> Result<Marked, Refusal>
-    requires { S.Part.collisions ≡ [] }
+    requires { S.Parts.collisions ≡ [] }
     ensures { IsDecoded S.kind S.choice octets.now result }
 {
-    let (part, mark) = decode::<S::Part>(alloc, octets)?;
-    Ok((S::into_service(part), mark))
+    let (fields, mark) = decode::<Fields<S>>(alloc, octets)?;
+    Ok((fields.0.into_service(), mark))
 }
 
 /// Returns true if the octets are found at once to be the canonical ones of a service of type `S`. False says nothing
 /// about the octets.
 pub(crate) fn is_canonical_named<S: Named>(alloc: Global, octets: &[u8]) -> bool
-    requires { S.Part.collisions ≡ [] }
+    requires { S.Parts.collisions ≡ [] }
     ensures { IsTrue result → IsCanonical (SpellsService true 32 S.kind S.choice) octets.now }
 {
-    are_canonical::<S::Part>(alloc, octets)
+    are_canonical::<Fields<S>>(alloc, octets)
 }
 
 /// A service that is named by one kind and one choice, and that is one list.

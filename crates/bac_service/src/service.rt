@@ -1,13 +1,12 @@
 //! Services (clause 21), and everything that goes through all of them: a new service has its line in each match here,
 //! and in none elsewhere.
 
-ghost use Rattle.std.specs.Prelude.{◌≡◌, ◌↔◌, ℕ, List, true, Some, IsTrue, OnOk};
+ghost use Rattle.std.specs.Prelude.{◌≡◌, ◌↔◌, true, Some, IsTrue, OnOk};
 ghost use Rattle.std.specs.Map.{keys_of};
 ghost use Rattle.std.specs.Option.{is_some};
 ghost use Rattle.bac_tag.specs.Octets.{Extends};
 ghost use Rattle.bac_tag.specs.Spelling.{AppendsLeast, IsCanonical};
 ghost use Rattle.bac_productions.specs.Productions.{IsWellSpelled};
-ghost use Rattle.bac_service.specs.declared.service.Service.{Service};
 ghost use Rattle.bac_service.specs.declared.kind.Kind.TheVariants.{Confirmed, Unconfirmed, ComplexAck, Error};
 ghost use Rattle.bac_service.specs.Decoded.{IsDecoded};
 ghost use Rattle.bac_service.specs.ServiceTable.{ServiceProduction, service_error, rows, production_of};
@@ -252,28 +251,6 @@ pub(crate) fn is_canonical_complex_ack(alloc: Global, choice: u8, octets: &[u8])
     }
 }
 
-/// A record that a variant of a service holds.
-pub(crate) trait Said: Record {
-    /// The service that holds it.
-    ghost service: { Self → Service };
-
-    ghost said: { (said : Self) (b : List ℕ) → Self.spells (Self.view said) b ↔ SpellsSaid 32 (value_of (service said)).production (value_of (service said)).said b };
-
-    ghost placed: { (said : Self) → IsPlaced (value_of (service said)) };
-}
-
-/// Appends the least spelling of what this service holds. If memory is refused, `out` may hold some of the octets.
-#[inline(always)]
-fn append_said<S: Said>(_service: &Service, said: &S, out: &mut Vec<u8>) -> Result<(), OutOfMemory>
-    requires sound { IsTrue S.Parts.is_sound }
-    requires held { _service.now ≡ S.service said.now }
-    ensures placed { IsPlaced (value_of _service.now) }
-    ensures ok { OnOk result (AppendsLeast (SpellsSaid 32 (value_of _service.now).production (value_of _service.now).said) out.old.items out.new.items) }
-    ensures kept { Extends out.old.items out.new.items }
-{
-    said.write_fields(out)
-}
-
 /// Appends the least spelling of a service. If memory is refused, `out` may hold some of the octets.
 pub(crate) fn append_production(service: &Service, out: &mut Vec<u8>) -> Result<(), OutOfMemory>
     ensures placed { IsPlaced (value_of service.now) }
@@ -281,18 +258,18 @@ pub(crate) fn append_production(service: &Service, out: &mut Vec<u8>) -> Result<
     ensures kept { Extends out.old.items out.new.items }
 {
     match service {
-        Service::ReadProperty(request) => append_said(service, request, out),
-        Service::ReadPropertyAck(ack) => append_said(service, ack, out),
-        Service::WriteProperty(request) => append_said(service, request, out),
+        Service::ReadProperty(request) => request.write_fields(out),
+        Service::ReadPropertyAck(ack) => ack.write_fields(out),
+        Service::WriteProperty(request) => request.write_fields(out),
         Service::ReadPropertyMultiple(request) => request.specs.write(out),
         Service::ReadPropertyMultipleAck(ack) => ack.results.write(out),
         Service::WritePropertyMultiple(request) => request.specs.write(out),
-        Service::WhoIs(request) => append_said(service, request, out),
-        Service::IAm(request) => append_said(service, request, out),
-        Service::SubscribeCov(request) => append_said(service, request, out),
-        Service::CovNotification(notification) => append_said(service, notification, out),
+        Service::WhoIs(request) => request.write_fields(out),
+        Service::IAm(request) => request.write_fields(out),
+        Service::SubscribeCov(request) => request.write_fields(out),
+        Service::CovNotification(notification) => notification.write_fields(out),
         Service::ServiceError(error) => error.write_cause(out),
-        Service::WritePropertyMultipleError(error) => append_said(service, error, out),
+        Service::WritePropertyMultipleError(error) => error.write_fields(out),
         Service::Opaque(service) => service.write_octets(out),
     }
 }

@@ -2,7 +2,6 @@
 
 ghost use Rattle.bac_service.specs.CovNotification.{SpellsNotification, notification_parts};
 
-use crate::service::Said;
 use crate::service::property_value::PropertyValue;
 use bac_productions::Production;
 use bac_productions::field::Field;
@@ -80,16 +79,4 @@ impl Record for CovNotification {
     }
 
     ghost of_parts = { notification_parts 32 };
-}
-
-impl Said for CovNotification {
-    ghost use Rattle.std.proofs.Common.{sym};
-    ghost use Rattle.bac_service.specs.Laws.Service.{notification_fits, notification_production};
-    ghost use Rattle.bac_service.specs.declared.service.Service.TheVariants as held;
-
-    ghost service = { held.CovNotification };
-
-    ghost said = { λ said b. (λ s. s, λ s. s) };
-
-    ghost placed = { λ said. record { choice_fits = notification_fits said.confirmed; production_is = sym (notification_production said.confirmed) } };
 }

@@ -23,12 +23,12 @@ pub struct ErrorCause {
 }
 
 /// Its fields.
-type Parts = (ApplicationField<Enumerated>, ApplicationField<Enumerated>);
+pub(crate) type CauseParts = (ApplicationField<Enumerated>, ApplicationField<Enumerated>);
 
 impl Record for ErrorCause {
     ghost use Rattle.bac_service.specs.declared.service.error_cause.ErrorCause.{ErrorCause};
 
-    type Parts = Parts;
+    type Parts = CauseParts;
 
     ghost Value = { ErrorCause };
 
@@ -36,7 +36,7 @@ impl Record for ErrorCause {
 
     ghost spells = { SpellsErrorCause };
 
-    fn from_parts(parts: Parts) -> ErrorCause {
+    fn from_parts(parts: CauseParts) -> ErrorCause {
         let (class, code) = parts;
         ErrorCause {
             class: class.0.0,
@@ -45,7 +45,7 @@ impl Record for ErrorCause {
     }
 
     fn write_fields(&self, out: &mut Vec<u8>) -> Result<(), OutOfMemory> {
-        let parts: Parts = (
+        let parts: CauseParts = (
             ApplicationField(Enumerated(self.class)),
             ApplicationField(Enumerated(self.code)),
         );

@@ -3,10 +3,10 @@
 ghost use Rattle.bac_service.specs.IAm.{SpellsIAm, i_am_parts};
 
 use crate::named::Named;
-use crate::service::{Said, Service};
+use crate::service::Service;
 use bac_productions::Production;
 use bac_productions::field::ApplicationField;
-use bac_productions::record::{Fields, Record};
+use bac_productions::record::Record;
 use bac_tag::OutOfMemory;
 use bac_value::layers::{Unsigned16, Unsigned32};
 use bac_value::{Enumerated, ObjectId};
@@ -82,29 +82,15 @@ impl Named for IAm {
     ghost use Rattle.bac_service.specs.ServiceTable.{i_am};
     ghost use Rattle.bac_service.specs.Laws.Service.{serves, never};
 
-    type Part = Fields<IAm>;
-
     ghost kind = { Unconfirmed };
 
     ghost choice = { 0 };
 
-    fn into_service(part: Fields<IAm>) -> Service {
-        Service::IAm(part.0)
+    fn into_service(self) -> Service {
+        Service::IAm(self)
     }
 
     ghost named = { serves Unconfirmed 0 i_am (lit< tt) refl };
 
     ghost memory = { never };
-}
-
-impl Said for IAm {
-    ghost use Rattle.std.specs.Prelude.{refl};
-    ghost use Rattle.std.proofs.Common.{lit<};
-    ghost use Rattle.bac_service.specs.declared.service.Service.TheVariants as held;
-
-    ghost service = { held.IAm };
-
-    ghost said = { λ said b. (λ s. s, λ s. s) };
-
-    ghost placed = { λ said. record { choice_fits = lit< tt; production_is = refl } };
 }

@@ -2,10 +2,10 @@
 
 ghost use Rattle.std.specs.Prelude.{◌≡◌};
 ghost use Rattle.bac_productions.specs.Productions.{either_of};
-ghost use Rattle.bac_service.specs.PropertyResult.{SpellsPropertyResult, read_result_of};
+ghost use Rattle.bac_service.specs.PropertyResult.{SpellsPropertyResult, result_of_parts};
 ghost use Rattle.bac_service.specs.Laws.PropertyResult.{property_result_parts};
 
-use crate::service::error_cause::ErrorCause;
+use crate::service::error_cause::{CauseParts, ErrorCause};
 use bac_data::Any;
 use bac_productions::Production;
 use bac_productions::choice::Choice;
@@ -44,22 +44,23 @@ pub struct PropertyResult {
 }
 
 /// Returns the value or the error, whichever was read.
-fn result_of(choice: Choice<OpenValue<4>, Group<Fields<ErrorCause>, 5>>) -> ReadResult
-    ensures { result ≡ read_result_of (either_of (λ value. value.0) (λ group. group.0.0) choice) }
+fn result_of(choice: Choice<OpenValue<4>, Group<CauseParts, 5>>) -> ReadResult
+    ensures { result ≡ result_of_parts (either_of (λ value. value.0) (λ group. (group.0.0.0, group.0.1.0)) choice) }
 {
     match choice {
         Choice::First(value) => ReadResult::Value(value.0),
-        Choice::Second(group) => ReadResult::Error(group.0.0),
+        Choice::Second(Group((class, code))) => ReadResult::Error(ErrorCause {
+            class: class.0.0,
+            code: code.0.0,
+        }),
     }
 }
 
-/// Its fields.
+/// Its fields. What nests least is at the end, and the class and the code of an error are not put together: the proof of
+/// whatever holds these parts repeats each of them, twice for each part around it.
 type Parts = (
-    Field<Enumerated, 2>,
-    (
-        Option<Field<Unsigned32, 3>>,
-        Choice<OpenValue<4>, Group<Fields<ErrorCause>, 5>>,
-    ),
+    (Field<Enumerated, 2>, Option<Field<Unsigned32, 3>>),
+    Choice<OpenValue<4>, Group<CauseParts, 5>>,
 );
 
 impl Record for PropertyResult {
@@ -74,7 +75,7 @@ impl Record for PropertyResult {
     ghost spells = { SpellsPropertyResult 32 };
 
     fn from_parts(parts: Parts) -> PropertyResult {
-        let (property, (index, result)) = parts;
+        let ((property, index), result) = parts;
         PropertyResult {
             property: property.0.0,
             index: bare_number(index),

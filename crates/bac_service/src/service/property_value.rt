@@ -1,6 +1,7 @@
 //! Values of properties (BACnetPropertyValue, clause 21).
 
-ghost use Rattle.bac_service.specs.PropertyValue.{SpellsPropertyValue, property_value_parts};
+ghost use Rattle.bac_service.specs.PropertyValue.{SpellsPropertyValue};
+ghost use Rattle.bac_service.specs.Laws.PropertyValue.{property_value_parts};
 
 use bac_data::Any;
 use bac_productions::Production;
@@ -28,13 +29,10 @@ pub struct PropertyValue {
     pub priority: Option<Priority>,
 }
 
-/// Its fields.
+/// Its fields, by twos: the proof of whatever holds these parts repeats each of them, twice for each part around it.
 type Parts = (
-    Field<Enumerated, 0>,
-    (
-        Option<Field<Unsigned32, 1>>,
-        (OpenValue<2>, Option<Field<Priority, 3>>),
-    ),
+    (Field<Enumerated, 0>, Option<Field<Unsigned32, 1>>),
+    (OpenValue<2>, Option<Field<Priority, 3>>),
 );
 
 impl Record for PropertyValue {
@@ -49,7 +47,7 @@ impl Record for PropertyValue {
     ghost spells = { SpellsPropertyValue 32 };
 
     fn from_parts(parts: Parts) -> PropertyValue {
-        let (property, (index, (value, priority))) = parts;
+        let ((property, index), (value, priority)) = parts;
         PropertyValue {
             property: property.0.0,
             index: bare_number(index),

@@ -3,10 +3,10 @@
 ghost use Rattle.bac_service.specs.ReadProperty.{SpellsReadProperty, read_property_parts};
 
 use crate::named::Named;
+use crate::service::Service;
 use crate::service::object_property::{ObjectProperty, write_object_property};
-use crate::service::{Said, Service};
 use bac_productions::option::bare_number;
-use bac_productions::record::{Fields, Record};
+use bac_productions::record::Record;
 use bac_tag::OutOfMemory;
 use bac_value::ObjectId;
 
@@ -57,29 +57,15 @@ impl Named for ReadProperty {
     ghost use Rattle.bac_service.specs.ServiceTable.{read_property};
     ghost use Rattle.bac_service.specs.Laws.Service.{serves, never};
 
-    type Part = Fields<ReadProperty>;
-
     ghost kind = { Confirmed };
 
     ghost choice = { 12 };
 
-    fn into_service(part: Fields<ReadProperty>) -> Service {
-        Service::ReadProperty(part.0)
+    fn into_service(self) -> Service {
+        Service::ReadProperty(self)
     }
 
     ghost named = { serves Confirmed 12 read_property (lit< tt) refl };
 
     ghost memory = { never };
-}
-
-impl Said for ReadProperty {
-    ghost use Rattle.std.specs.Prelude.{refl};
-    ghost use Rattle.std.proofs.Common.{lit<};
-    ghost use Rattle.bac_service.specs.declared.service.Service.TheVariants as held;
-
-    ghost service = { held.ReadProperty };
-
-    ghost said = { λ said b. (λ s. s, λ s. s) };
-
-    ghost placed = { λ said. record { choice_fits = lit< tt; production_is = refl } };
 }

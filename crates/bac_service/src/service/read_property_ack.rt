@@ -3,12 +3,12 @@
 ghost use Rattle.bac_service.specs.ReadPropertyAck.{SpellsReadPropertyAck, read_property_ack_parts};
 
 use crate::named::Named;
+use crate::service::Service;
 use crate::service::object_property::{ObjectProperty, write_object_property};
-use crate::service::{Said, Service};
 use bac_data::Any;
 use bac_productions::open_value::{OpenValue, write_open};
 use bac_productions::option::bare_number;
-use bac_productions::record::{Fields, Record};
+use bac_productions::record::Record;
 use bac_tag::OutOfMemory;
 use bac_value::ObjectId;
 
@@ -67,29 +67,15 @@ impl Named for ReadPropertyAck {
     ghost use Rattle.bac_service.specs.ServiceTable.{read_property_ack};
     ghost use Rattle.bac_service.specs.Laws.Service.{serves};
 
-    type Part = Fields<ReadPropertyAck>;
-
     ghost kind = { ComplexAck };
 
     ghost choice = { 12 };
 
-    fn into_service(part: Fields<ReadPropertyAck>) -> Service {
-        Service::ReadPropertyAck(part.0)
+    fn into_service(self) -> Service {
+        Service::ReadPropertyAck(self)
     }
 
     ghost named = { serves ComplexAck 12 read_property_ack (lit< tt) refl };
 
     ghost memory = { λ wants. refl };
-}
-
-impl Said for ReadPropertyAck {
-    ghost use Rattle.std.specs.Prelude.{refl};
-    ghost use Rattle.std.proofs.Common.{lit<};
-    ghost use Rattle.bac_service.specs.declared.service.Service.TheVariants as held;
-
-    ghost service = { held.ReadPropertyAck };
-
-    ghost said = { λ said b. (λ s. s, λ s. s) };
-
-    ghost placed = { λ said. record { choice_fits = lit< tt; production_is = refl } };
 }

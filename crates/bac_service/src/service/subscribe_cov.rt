@@ -4,11 +4,11 @@ ghost use Rattle.bac_service.specs.SubscribeCov.{SpellsSubscribeCov};
 ghost use Rattle.bac_service.specs.Laws.SubscribeCov.{subscribe_cov_parts};
 
 use crate::named::Named;
-use crate::service::{Said, Service};
+use crate::service::Service;
 use bac_productions::Production;
 use bac_productions::field::Field;
 use bac_productions::option::{bare, bare_number, bit_of, boolean_of, number_under, under};
-use bac_productions::record::{Fields, Record};
+use bac_productions::record::Record;
 use bac_tag::OutOfMemory;
 use bac_value::layers::Unsigned32;
 use bac_value::{Boolean, ObjectId};
@@ -80,29 +80,15 @@ impl Named for SubscribeCov {
     ghost use Rattle.bac_service.specs.ServiceTable.{subscribe_cov};
     ghost use Rattle.bac_service.specs.Laws.Service.{serves, never};
 
-    type Part = Fields<SubscribeCov>;
-
     ghost kind = { Confirmed };
 
     ghost choice = { 5 };
 
-    fn into_service(part: Fields<SubscribeCov>) -> Service {
-        Service::SubscribeCov(part.0)
+    fn into_service(self) -> Service {
+        Service::SubscribeCov(self)
     }
 
     ghost named = { serves Confirmed 5 subscribe_cov (lit< tt) refl };
 
     ghost memory = { never };
-}
-
-impl Said for SubscribeCov {
-    ghost use Rattle.std.specs.Prelude.{refl};
-    ghost use Rattle.std.proofs.Common.{lit<};
-    ghost use Rattle.bac_service.specs.declared.service.Service.TheVariants as held;
-
-    ghost service = { held.SubscribeCov };
-
-    ghost said = { λ said b. (λ s. s, λ s. s) };
-
-    ghost placed = { λ said. record { choice_fits = lit< tt; production_is = refl } };
 }

@@ -3,10 +3,10 @@
 ghost use Rattle.bac_service.specs.WhoIs.{SpellsWhoIs, who_is_parts};
 
 use crate::named::Named;
-use crate::service::{Said, Service};
+use crate::service::Service;
 use bac_productions::Production;
 use bac_productions::field::Field;
-use bac_productions::record::{Fields, Record};
+use bac_productions::record::Record;
 use bac_tag::OutOfMemory;
 use bac_value::Instance;
 
@@ -60,29 +60,15 @@ impl Named for WhoIs {
     ghost use Rattle.bac_service.specs.ServiceTable.{who_is};
     ghost use Rattle.bac_service.specs.Laws.Service.{serves, never};
 
-    type Part = Fields<WhoIs>;
-
     ghost kind = { Unconfirmed };
 
     ghost choice = { 8 };
 
-    fn into_service(part: Fields<WhoIs>) -> Service {
-        Service::WhoIs(part.0)
+    fn into_service(self) -> Service {
+        Service::WhoIs(self)
     }
 
     ghost named = { serves Unconfirmed 8 who_is (lit< tt) refl };
 
     ghost memory = { never };
-}
-
-impl Said for WhoIs {
-    ghost use Rattle.std.specs.Prelude.{refl};
-    ghost use Rattle.std.proofs.Common.{lit<};
-    ghost use Rattle.bac_service.specs.declared.service.Service.TheVariants as held;
-
-    ghost service = { held.WhoIs };
-
-    ghost said = { λ said b. (λ s. s, λ s. s) };
-
-    ghost placed = { λ said. record { choice_fits = lit< tt; production_is = refl } };
 }

@@ -3,14 +3,14 @@
 ghost use Rattle.bac_service.specs.WriteProperty.{SpellsWriteProperty, write_property_parts};
 
 use crate::named::Named;
+use crate::service::Service;
 use crate::service::object_property::{ObjectProperty, write_object_property};
-use crate::service::{Said, Service};
 use bac_data::Any;
 use bac_productions::Production;
 use bac_productions::field::Field;
 use bac_productions::open_value::{OpenValue, write_open};
 use bac_productions::option::{bare, bare_number, under};
-use bac_productions::record::{Fields, Record};
+use bac_productions::record::Record;
 use bac_tag::OutOfMemory;
 use bac_value::{ObjectId, Priority};
 
@@ -73,29 +73,15 @@ impl Named for WriteProperty {
     ghost use Rattle.bac_service.specs.ServiceTable.{write_property};
     ghost use Rattle.bac_service.specs.Laws.Service.{serves};
 
-    type Part = Fields<WriteProperty>;
-
     ghost kind = { Confirmed };
 
     ghost choice = { 15 };
 
-    fn into_service(part: Fields<WriteProperty>) -> Service {
-        Service::WriteProperty(part.0)
+    fn into_service(self) -> Service {
+        Service::WriteProperty(self)
     }
 
     ghost named = { serves Confirmed 15 write_property (lit< tt) refl };
 
     ghost memory = { λ wants. refl };
-}
-
-impl Said for WriteProperty {
-    ghost use Rattle.std.specs.Prelude.{refl};
-    ghost use Rattle.std.proofs.Common.{lit<};
-    ghost use Rattle.bac_service.specs.declared.service.Service.TheVariants as held;
-
-    ghost service = { held.WriteProperty };
-
-    ghost said = { λ said b. (λ s. s, λ s. s) };
-
-    ghost placed = { λ said. record { choice_fits = lit< tt; production_is = refl } };
 }

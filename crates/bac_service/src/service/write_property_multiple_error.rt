@@ -3,9 +3,9 @@
 ghost use Rattle.bac_service.specs.WritePropertyMultipleError.{SpellsWriteError, write_error_parts};
 
 use crate::named::Named;
+use crate::service::Service;
 use crate::service::error_cause::ErrorCause;
 use crate::service::object_property::ObjectProperty;
-use crate::service::{Said, Service};
 use bac_productions::Production;
 use bac_productions::field::Field;
 use bac_productions::group::Group;
@@ -80,29 +80,15 @@ impl Named for WritePropertyMultipleError {
     ghost use Rattle.bac_service.specs.ServiceTable.{write_property_multiple_error};
     ghost use Rattle.bac_service.specs.Laws.Service.{serves, never};
 
-    type Part = Fields<WritePropertyMultipleError>;
-
     ghost kind = { Error };
 
     ghost choice = { 16 };
 
-    fn into_service(part: Fields<WritePropertyMultipleError>) -> Service {
-        Service::WritePropertyMultipleError(part.0)
+    fn into_service(self) -> Service {
+        Service::WritePropertyMultipleError(self)
     }
 
     ghost named = { serves Error 16 write_property_multiple_error (lit< tt) refl };
 
     ghost memory = { never };
-}
-
-impl Said for WritePropertyMultipleError {
-    ghost use Rattle.std.specs.Prelude.{refl};
-    ghost use Rattle.std.proofs.Common.{lit<};
-    ghost use Rattle.bac_service.specs.declared.service.Service.TheVariants as held;
-
-    ghost service = { held.WritePropertyMultipleError };
-
-    ghost said = { λ said b. (λ s. s, λ s. s) };
-
-    ghost placed = { λ said. record { choice_fits = lit< tt; production_is = refl } };
 }
