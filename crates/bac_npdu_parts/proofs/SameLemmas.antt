@@ -6,6 +6,7 @@ use Rattle.std.specs.Cmp.{unsigned_Decides, booleans_Decides}
 use Rattle.std.specs.Cmp.Lexicographic.{pointwise, bytes_decides}
 use Rattle.bac_data.specs.OpenValue.{Elements, AreElements}
 use Rattle.bac_data.specs.Spells.{SpellsOpen}
+use Rattle.bac_service.specs.Laws.Service.{never}
 use Rattle.bac_service.proofs.SameLemmas.{Decided, by_parts, both, options, pairs}
 use Rattle.bac_apdu.proofs.SameLemmas.{same_apdu, apdu_is, apdus_tell}
 use Rattle.bac_npdu_parts.specs.declared.destination.Dest.{Dest}
@@ -78,9 +79,6 @@ sources v w =
 
 two : (n m p q : ℕ) → Decides (nat_eq n m && nat_eq p q) ((n ≡ m) × (p ≡ q))
 two n m p q = both (nat_eq n m) (nat_eq p q) (unsigned_Decides n m) (unsigned_Decides p q)
-
-never : {P : Type 0} → false ≡ true → P
-never h = absurd (cc h)
 
 message_tells : (a b : NetMessage) → Decides (of_message.eq-value.it a b) (message_value a ≡ message_value b)
 message_tells (held.WhoIsRouter n) (held.WhoIsRouter m) = by_parts (option_eq nat_eq n m) (options unsigned_Decides n m) (λ e. ap who_is_router e) (λ e. cc)

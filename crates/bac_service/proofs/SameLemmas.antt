@@ -35,6 +35,7 @@ use Rattle.bac_service.specs.CovNotification.{notification_of, SpellsNotificatio
 use Rattle.bac_service.specs.Opaques.{OpaqueValue, kind_number, opaque_key, same_opaque}
 use Rattle.bac_service.specs.ServiceTable.{ServiceProduction, read_property, read_property_ack, read_property_multiple, read_property_multiple_ack, write_property, write_property_multiple, write_property_multiple_error, who_is, i_am, subscribe_cov, cov_notification, service_error}
 use Rattle.bac_service.specs.Services.{SaidBy, Said, ServiceValue, typed, opaque, notification_kind, notification_choice, value_of, SpellsService}
+use Rattle.bac_service.specs.Laws.Service.{never}
 use Rattle.bac_service.specs.declared.service.error_cause.ErrorCause.{ErrorCause}
 use Rattle.bac_service.specs.declared.service.property_reference.PropertyReference.{PropertyReference}
 use Rattle.bac_service.specs.declared.service.property_value.PropertyValue.{PropertyValue}
@@ -320,9 +321,6 @@ said_is k l c d p v w e =
 
 typed_tells : (k : Kind) (c : ℕ) (p : ServiceProduction) (v w : SaidBy p) (r : Bool) → Decides r (v ≡ w) → Decides r (typed k c p v ≡ typed k c p w)
 typed_tells k c p v w r d = by_parts r d (λ h. ap (typed k c p) h) (said_is k k c c p v w)
-
-never : {P : Type 0} → false ≡ true → P
-never h = absurd (cc h)
 
 abbrev production_number : Option ServiceProduction → ℕ
 production_number None = 0

@@ -7,7 +7,6 @@ use Rattle.bac_data.specs.Spells.{SpellsOpen}
 use Rattle.bac_value.specs.declared.types.enumeration.Enumerated.{Enumerated}
 use Rattle.bac_productions.specs.Contents.{EnumeratedField, UnsignedField}
 use Rattle.bac_productions.specs.Productions.{Optional, Grouped}
-use Rattle.bac_service.specs.declared.service.error_cause.ErrorCause.{ErrorCause}
 use Rattle.bac_service.specs.declared.service.property_result.ReadResult.{ReadResult}
 use Rattle.bac_service.specs.declared.service.property_result.ReadResult.TheVariants.{Value, Error}
 use Rattle.bac_service.specs.declared.service.property_result.PropertyResult.{PropertyResult}
@@ -19,10 +18,6 @@ SpellsReadResult groups (Error cause) = Grouped 5 SpellsErrorCause cause
 
 abbrev pub SpellsPropertyResult : ℕ → PropertyResult → List ℕ → Type 0
 SpellsPropertyResult groups r = Joins (EnumeratedField 2 r.property) (Joins (Optional (UnsignedField 3) r.index) (SpellsReadResult groups r.result))
-
-abbrev pub read_result_of : Elements ⊎ ErrorCause → ReadResult
-read_result_of (inl value) = Value value
-read_result_of (inr cause) = Error cause
 
 -- of a value, or the fields of an error
 abbrev pub result_of_parts : Elements ⊎ (Enumerated × Enumerated) → ReadResult

@@ -13,9 +13,9 @@
 //! # How it works
 //!
 //! [`decode_service_marked`] finds the production by kind and choice. A service that one kind and one choice name says
-//! in its own file, with `impl Named`, its kind and choice, and how it becomes a service; or with `impl NamedList`, if it
-//! is one list, also its items. `decode_named` or `decode_list` (`named.rt`) decodes it. Notifications and errors of a
-//! class and a code have several choices each, and a function of their own.
+//! in its own file, with `impl Named` for its `Fields`, its kind and choice, and how they become a service; or with
+//! `impl NamedList`, if it is one list, also its items. `decode_named` or `decode_list` (`named.rt`) decodes it.
+//! Notifications and errors of a class and a code have several choices each, and a function of their own.
 //!
 //! A production is a type made of parts, as bac_productions has them: fields under a tag, open values, groups, lists,
 //! parts that may be absent, and one part or another. A struct of a service is a `Record`. It says its parts (`Parts`),

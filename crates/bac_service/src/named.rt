@@ -25,8 +25,8 @@ use std::alloc::Global;
 /// A service and its mark: the place of the first octet that differs from the canonical ones, or None.
 pub(crate) type Marked = (Service, Option<usize>);
 
-/// A service that is named by one kind and one choice, and that is its fields.
-pub(crate) trait Named: Record {
+/// The fields of a service that is named by one kind and one choice.
+pub(crate) trait Named: Production {
     ghost kind: { Kind };
 
     ghost choice: { ℕ };
@@ -37,26 +37,26 @@ pub(crate) trait Named: Record {
 
     ghost named: { IsServiceOf Self.spells kind choice };
 
-    ghost memory: { IsTrue Self.Parts.wants_memory → is_small kind choice ≡ false };
+    ghost memory: { IsTrue Self.wants_memory → is_small kind choice ≡ false };
 }
 
-/// Decodes a service of type `S`.
+/// Decodes the service that has the fields `S`.
 #[inline(always)]
 pub(crate) fn decode_named<S: Named>(alloc: Global, octets: &[u8]) -> Result<Marked, Refusal>
-    requires { S.Parts.collisions ≡ [] }
+    requires { S.collisions ≡ [] }
     ensures { IsDecoded S.kind S.choice octets.now result }
 {
-    let (fields, mark) = decode::<Fields<S>>(alloc, octets)?;
-    Ok((fields.0.into_service(), mark))
+    let (part, mark) = decode::<S>(alloc, octets)?;
+    Ok((part.into_service(), mark))
 }
 
-/// Returns true if the octets are found at once to be the canonical ones of a service of type `S`. False says nothing
-/// about the octets.
+/// Returns true if the octets are found at once to be the canonical ones of the service that has the fields `S`. False
+/// says nothing about the octets.
 pub(crate) fn is_canonical_named<S: Named>(alloc: Global, octets: &[u8]) -> bool
-    requires { S.Parts.collisions ≡ [] }
+    requires { S.collisions ≡ [] }
     ensures { IsTrue result → IsCanonical (SpellsService true 32 S.kind S.choice) octets.now }
 {
-    are_canonical::<Fields<S>>(alloc, octets)
+    are_canonical::<S>(alloc, octets)
 }
 
 /// A service that is named by one kind and one choice, and that is one list.

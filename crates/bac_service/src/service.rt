@@ -160,10 +160,10 @@ pub(crate) fn decode_confirmed(alloc: Global, choice: u8, octets: &[u8]) -> Resu
 {
     match choice {
         1 => decode_notification(alloc, true, octets),
-        5 => decode_named::<SubscribeCov>(alloc, octets),
-        12 => decode_named::<ReadProperty>(alloc, octets),
+        5 => decode_named::<Fields<SubscribeCov>>(alloc, octets),
+        12 => decode_named::<Fields<ReadProperty>>(alloc, octets),
         14 => decode_list::<ReadPropertyMultiple>(alloc, octets),
-        15 => decode_named::<WriteProperty>(alloc, octets),
+        15 => decode_named::<Fields<WriteProperty>>(alloc, octets),
         16 => decode_list::<WritePropertyMultiple>(alloc, octets),
         _ => decode_opaque(alloc, Kind::Confirmed, choice, octets),
     }
@@ -179,9 +179,9 @@ pub(crate) fn decode_unconfirmed(
     ensures { IsDecoded Unconfirmed choice octets.now result }
 {
     match choice {
-        0 => decode_named::<IAm>(alloc, octets),
+        0 => decode_named::<Fields<IAm>>(alloc, octets),
         2 => decode_notification(alloc, false, octets),
-        8 => decode_named::<WhoIs>(alloc, octets),
+        8 => decode_named::<Fields<WhoIs>>(alloc, octets),
         _ => decode_opaque(alloc, Kind::Unconfirmed, choice, octets),
     }
 }
@@ -196,7 +196,7 @@ pub(crate) fn decode_complex_ack(
     ensures { IsDecoded ComplexAck choice octets.now result }
 {
     match choice {
-        12 => decode_named::<ReadPropertyAck>(alloc, octets),
+        12 => decode_named::<Fields<ReadPropertyAck>>(alloc, octets),
         14 => decode_list::<ReadPropertyMultipleAck>(alloc, octets),
         _ => decode_opaque(alloc, Kind::ComplexAck, choice, octets),
     }
@@ -209,7 +209,7 @@ pub(crate) fn decode_failure(alloc: Global, choice: u8, octets: &[u8]) -> Result
 {
     match choice {
         1 | 5 | 12 | 14 | 15 => decode_error(alloc, choice, octets),
-        16 => decode_named::<WritePropertyMultipleError>(alloc, octets),
+        16 => decode_named::<Fields<WritePropertyMultipleError>>(alloc, octets),
         _ => decode_opaque(alloc, Kind::Error, choice, octets),
     }
 }
@@ -222,7 +222,7 @@ pub(crate) fn is_canonical_confirmed(alloc: Global, choice: u8, octets: &[u8]) -
     match choice {
         1 => is_canonical_notification(alloc, true, octets),
         14 => is_canonical_list::<ReadPropertyMultiple>(alloc, octets),
-        15 => is_canonical_named::<WriteProperty>(alloc, octets),
+        15 => is_canonical_named::<Fields<WriteProperty>>(alloc, octets),
         16 => is_canonical_list::<WritePropertyMultiple>(alloc, octets),
         _ => false,
     }
@@ -245,7 +245,7 @@ pub(crate) fn is_canonical_complex_ack(alloc: Global, choice: u8, octets: &[u8])
     ensures { IsTrue result → IsCanonical (SpellsService true 32 ComplexAck choice) octets.now }
 {
     match choice {
-        12 => is_canonical_named::<ReadPropertyAck>(alloc, octets),
+        12 => is_canonical_named::<Fields<ReadPropertyAck>>(alloc, octets),
         14 => is_canonical_list::<ReadPropertyMultipleAck>(alloc, octets),
         _ => false,
     }

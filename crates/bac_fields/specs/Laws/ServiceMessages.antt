@@ -28,7 +28,7 @@ use Rattle.bac_service.specs.ErrorCause.{SpellsErrorCause}
 use Rattle.bac_service.specs.declared.service.property_result.ReadResult.{ReadResult}
 use Rattle.bac_service.specs.declared.service.property_result.ReadResult.TheVariants.{Value, Error}
 use Rattle.bac_service.specs.declared.service.property_result.PropertyResult.{PropertyResult}
-use Rattle.bac_service.specs.PropertyResult.{SpellsReadResult, SpellsPropertyResult, read_result_of}
+use Rattle.bac_service.specs.PropertyResult.{SpellsReadResult, SpellsPropertyResult}
 use Rattle.bac_service.specs.ReadAccessResult.{AccessResult, SpellsAccessResult}
 use Rattle.bac_field_parts.specs.Laws.Parts.{either_said}
 use Rattle.bac_fields.specs.PropertyFields.{reference_steps, property_value_steps, property_result_steps, error_steps}
@@ -457,7 +457,8 @@ cause_message = record {
 }
 
 abbrev pub result_of : Elements ⊎ ErrorCause → ReadResult
-result_of = read_result_of
+result_of (inl value) = Value value
+result_of (inr cause) = Error cause
 
 abbrev pub ResultParts : Type 0
 ResultParts = Unit {0} × (Enumerated × (Option ℕ × ((Elements ⊎ ErrorCause) × Unit {0})))
@@ -478,13 +479,13 @@ result_parts_said w =
 abbrev pub SpellsResultParts : ResultParts → List ℕ → Type 0
 SpellsResultParts = Joined no_octets (Joined (EnumeratedPart 2) (Joined (Optional (UnsignedField 3)) (Joined (OneOf (SpellsOpen 32 4) (Grouped 5 SpellsErrorCause)) no_octets)))
 
-result_alike : (r : Elements ⊎ ErrorCause) → Alike (OneOf (SpellsOpen 32 4) (Grouped 5 SpellsErrorCause) r) (SpellsReadResult 32 (read_result_of r))
+result_alike : (r : Elements ⊎ ErrorCause) → Alike (OneOf (SpellsOpen 32 4) (Grouped 5 SpellsErrorCause) r) (SpellsReadResult 32 (result_of r))
 result_alike (inl value) b = (λ p. p, λ p. p)
 result_alike (inr cause) b = (λ p. p, λ p. p)
 
 pub result_message : IsMessage result_said result_parts_said (SpellsPropertyResult 32) SpellsResultParts
 result_message = record {
-  of_parts = λ w. record { property = w.1.0.0; index = w.1.1.0; result = read_result_of w.1.1.1.0 };
+  of_parts = λ w. record { property = w.1.0.0; index = w.1.1.0; result = result_of w.1.1.1.0 };
   parts_of = λ r b spelled. ((tt, (of_number r.property, (r.index, (either_of_result r.result, tt)))), ap (λ (x : ReadResult). result_with r.property r.index x) (result_back r.result));
   said = λ w. said w.1.0 w.1.1.0 w.1.1.1.0;
   spelled = λ w. then_alike first_part (second_alike (second_alike (then_alike last_part (result_alike w.1.1.1.0))));
@@ -497,11 +498,11 @@ result_message = record {
     result_with : ℕ → Option ℕ → ReadResult → PropertyResult
     result_with property index result = record { property = property; index = index; result = result }
 
-    result_back : (r : ReadResult) → read_result_of (either_of_result r) ≡ r
+    result_back : (r : ReadResult) → result_of (either_of_result r) ≡ r
     result_back (Value value) = refl
     result_back (Error cause) = refl
 
-    said : (property : Enumerated) (index : Option ℕ) (r : Elements ⊎ ErrorCause) → result_said (record { property = property.0; index = index; result = read_result_of r }) ≡ result_parts_said (tt, (property, (index, (r, tt))))
+    said : (property : Enumerated) (index : Option ℕ) (r : Elements ⊎ ErrorCause) → result_said (record { property = property.0; index = index; result = result_of r }) ≡ result_parts_said (tt, (property, (index, (r, tt))))
     said property None (inl value) = ap (λ (l : List Symbol). number_said 115 no_number tt ++ (number_said 81 (λ (e : Enumerated). e.0) property ++ l)) (steps_append (open_steps 4 value) (next (word name.ItemEnd) ∷ []))
     said property (Some index) (inl value) =
         ap (λ (l : List Symbol). number_said 115 no_number tt ++ (number_said 81 (λ (e : Enumerated). e.0) property ++ (number_said 82 (λ n. n) index ++ l))) (steps_append (open_steps 4 value) (next (word name.ItemEnd) ∷ []))

@@ -6,7 +6,7 @@ use crate::named::Named;
 use crate::service::Service;
 use bac_productions::Production;
 use bac_productions::field::ApplicationField;
-use bac_productions::record::Record;
+use bac_productions::record::{Fields, Record};
 use bac_tag::OutOfMemory;
 use bac_value::layers::{Unsigned16, Unsigned32};
 use bac_value::{Enumerated, ObjectId};
@@ -75,7 +75,7 @@ impl Record for IAm {
     ghost of_parts = { i_am_parts };
 }
 
-impl Named for IAm {
+impl Named for Fields<IAm> {
     ghost use Rattle.std.specs.Prelude.{refl};
     ghost use Rattle.std.proofs.Common.{lit<};
     ghost use Rattle.bac_service.specs.declared.kind.Kind.TheVariants.{Unconfirmed};
@@ -86,8 +86,9 @@ impl Named for IAm {
 
     ghost choice = { 0 };
 
+    #[inline(always)]
     fn into_service(self) -> Service {
-        Service::IAm(self)
+        Service::IAm(self.0)
     }
 
     ghost named = { serves Unconfirmed 0 i_am (lit< tt) refl };

@@ -56,7 +56,7 @@ fn result_of(choice: Choice<OpenValue<4>, Group<CauseParts, 5>>) -> ReadResult
     }
 }
 
-/// Its fields. What nests least is at the end, and the class and the code of an error are not put together: the proof of
+/// Its fields. The deepest part is outermost, and the class and the code of an error are not put together: the proof of
 /// whatever holds these parts repeats each of them, twice for each part around it.
 type Parts = (
     (Field<Enumerated, 2>, Option<Field<Unsigned32, 3>>),

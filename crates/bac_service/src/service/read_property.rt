@@ -6,7 +6,7 @@ use crate::named::Named;
 use crate::service::Service;
 use crate::service::object_property::{ObjectProperty, write_object_property};
 use bac_productions::option::bare_number;
-use bac_productions::record::Record;
+use bac_productions::record::{Fields, Record};
 use bac_tag::OutOfMemory;
 use bac_value::ObjectId;
 
@@ -50,7 +50,7 @@ impl Record for ReadProperty {
     ghost of_parts = { read_property_parts };
 }
 
-impl Named for ReadProperty {
+impl Named for Fields<ReadProperty> {
     ghost use Rattle.std.specs.Prelude.{refl};
     ghost use Rattle.std.proofs.Common.{lit<};
     ghost use Rattle.bac_service.specs.declared.kind.Kind.TheVariants.{Confirmed};
@@ -61,8 +61,9 @@ impl Named for ReadProperty {
 
     ghost choice = { 12 };
 
+    #[inline(always)]
     fn into_service(self) -> Service {
-        Service::ReadProperty(self)
+        Service::ReadProperty(self.0)
     }
 
     ghost named = { serves Confirmed 12 read_property (lit< tt) refl };

@@ -8,7 +8,7 @@ use crate::service::object_property::{ObjectProperty, write_object_property};
 use bac_data::Any;
 use bac_productions::open_value::{OpenValue, write_open};
 use bac_productions::option::bare_number;
-use bac_productions::record::Record;
+use bac_productions::record::{Fields, Record};
 use bac_tag::OutOfMemory;
 use bac_value::ObjectId;
 
@@ -60,7 +60,7 @@ impl Record for ReadPropertyAck {
     ghost of_parts = { read_property_ack_parts 32 };
 }
 
-impl Named for ReadPropertyAck {
+impl Named for Fields<ReadPropertyAck> {
     ghost use Rattle.std.specs.Prelude.{refl};
     ghost use Rattle.std.proofs.Common.{lit<};
     ghost use Rattle.bac_service.specs.declared.kind.Kind.TheVariants.{ComplexAck};
@@ -71,8 +71,9 @@ impl Named for ReadPropertyAck {
 
     ghost choice = { 12 };
 
+    #[inline(always)]
     fn into_service(self) -> Service {
-        Service::ReadPropertyAck(self)
+        Service::ReadPropertyAck(self.0)
     }
 
     ghost named = { serves ComplexAck 12 read_property_ack (lit< tt) refl };

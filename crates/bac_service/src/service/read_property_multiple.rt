@@ -78,6 +78,7 @@ impl NamedList for ReadPropertyMultiple {
 
     ghost choice = { 14 };
 
+    #[inline(always)]
     fn into_service(items: Vec<ReadAccessSpecification>) -> Service
         ensures { (b : List ℕ) → Items SpellsSpecification (map specification_of items.items) b ↔ SpellsService true 32 Confirmed 14 (value_of result) b }
     {

@@ -87,6 +87,7 @@ impl NamedList for ReadPropertyMultipleAck {
 
     ghost choice = { 14 };
 
+    #[inline(always)]
     fn into_service(items: Vec<ReadAccessResult>) -> Service
         ensures { (b : List ℕ) → Items (SpellsAccessResult 32) (map access_result_of items.items) b ↔ SpellsService true 32 ComplexAck 14 (value_of result) b }
     {

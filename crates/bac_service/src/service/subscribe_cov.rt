@@ -8,7 +8,7 @@ use crate::service::Service;
 use bac_productions::Production;
 use bac_productions::field::Field;
 use bac_productions::option::{bare, bare_number, bit_of, boolean_of, number_under, under};
-use bac_productions::record::Record;
+use bac_productions::record::{Fields, Record};
 use bac_tag::OutOfMemory;
 use bac_value::layers::Unsigned32;
 use bac_value::{Boolean, ObjectId};
@@ -73,7 +73,7 @@ impl Record for SubscribeCov {
     ghost of_parts = { subscribe_cov_parts };
 }
 
-impl Named for SubscribeCov {
+impl Named for Fields<SubscribeCov> {
     ghost use Rattle.std.specs.Prelude.{refl};
     ghost use Rattle.std.proofs.Common.{lit<};
     ghost use Rattle.bac_service.specs.declared.kind.Kind.TheVariants.{Confirmed};
@@ -84,8 +84,9 @@ impl Named for SubscribeCov {
 
     ghost choice = { 5 };
 
+    #[inline(always)]
     fn into_service(self) -> Service {
-        Service::SubscribeCov(self)
+        Service::SubscribeCov(self.0)
     }
 
     ghost named = { serves Confirmed 5 subscribe_cov (lit< tt) refl };

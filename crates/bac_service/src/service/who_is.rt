@@ -6,7 +6,7 @@ use crate::named::Named;
 use crate::service::Service;
 use bac_productions::Production;
 use bac_productions::field::Field;
-use bac_productions::record::Record;
+use bac_productions::record::{Fields, Record};
 use bac_tag::OutOfMemory;
 use bac_value::Instance;
 
@@ -53,7 +53,7 @@ impl Record for WhoIs {
     ghost of_parts = { who_is_parts };
 }
 
-impl Named for WhoIs {
+impl Named for Fields<WhoIs> {
     ghost use Rattle.std.specs.Prelude.{refl};
     ghost use Rattle.std.proofs.Common.{lit<};
     ghost use Rattle.bac_service.specs.declared.kind.Kind.TheVariants.{Unconfirmed};
@@ -64,8 +64,9 @@ impl Named for WhoIs {
 
     ghost choice = { 8 };
 
+    #[inline(always)]
     fn into_service(self) -> Service {
-        Service::WhoIs(self)
+        Service::WhoIs(self.0)
     }
 
     ghost named = { serves Unconfirmed 8 who_is (lit< tt) refl };

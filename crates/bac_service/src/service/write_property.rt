@@ -10,7 +10,7 @@ use bac_productions::Production;
 use bac_productions::field::Field;
 use bac_productions::open_value::{OpenValue, write_open};
 use bac_productions::option::{bare, bare_number, under};
-use bac_productions::record::Record;
+use bac_productions::record::{Fields, Record};
 use bac_tag::OutOfMemory;
 use bac_value::{ObjectId, Priority};
 
@@ -66,7 +66,7 @@ impl Record for WriteProperty {
     ghost of_parts = { write_property_parts 32 };
 }
 
-impl Named for WriteProperty {
+impl Named for Fields<WriteProperty> {
     ghost use Rattle.std.specs.Prelude.{refl};
     ghost use Rattle.std.proofs.Common.{lit<};
     ghost use Rattle.bac_service.specs.declared.kind.Kind.TheVariants.{Confirmed};
@@ -77,8 +77,9 @@ impl Named for WriteProperty {
 
     ghost choice = { 15 };
 
+    #[inline(always)]
     fn into_service(self) -> Service {
-        Service::WriteProperty(self)
+        Service::WriteProperty(self.0)
     }
 
     ghost named = { serves Confirmed 15 write_property (lit< tt) refl };

@@ -78,6 +78,7 @@ impl NamedList for WritePropertyMultiple {
 
     ghost choice = { 16 };
 
+    #[inline(always)]
     fn into_service(items: Vec<WriteAccessSpecification>) -> Service
         ensures { (b : List ℕ) → Items (SpellsWriteSpecification 32) (map write_specification_of items.items) b ↔ SpellsService true 32 Confirmed 16 (value_of result) b }
     {

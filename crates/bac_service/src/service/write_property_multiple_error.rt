@@ -73,7 +73,7 @@ impl Record for WritePropertyMultipleError {
     ghost of_parts = { write_error_parts };
 }
 
-impl Named for WritePropertyMultipleError {
+impl Named for Fields<WritePropertyMultipleError> {
     ghost use Rattle.std.specs.Prelude.{refl};
     ghost use Rattle.std.proofs.Common.{lit<};
     ghost use Rattle.bac_service.specs.declared.kind.Kind.TheVariants.{Error};
@@ -84,8 +84,9 @@ impl Named for WritePropertyMultipleError {
 
     ghost choice = { 16 };
 
+    #[inline(always)]
     fn into_service(self) -> Service {
-        Service::WritePropertyMultipleError(self)
+        Service::WritePropertyMultipleError(self.0)
     }
 
     ghost named = { serves Error 16 write_property_multiple_error (lit< tt) refl };
