@@ -117,7 +117,7 @@ impl Measured {
 
 impl Layout {
     /// Prints the head of the table, if the mode prints one.
-    pub fn begin(self, rt: &impl Print, mode: Mode) -> io::Result<()> {
+    pub fn begin(&self, rt: &HostRuntime, mode: Mode) -> io::Result<()> {
         let Mode::Time = mode else {
             return Ok(());
         };
@@ -131,8 +131,8 @@ impl Layout {
 
     /// Prints a row, or what of it is the same in every run.
     pub fn row(
-        self,
-        rt: &impl Print,
+        &self,
+        rt: &HostRuntime,
         mode: Mode,
         name: &str,
         measured: &Measured,
@@ -149,8 +149,8 @@ impl Layout {
 
     /// Prints the table of some works on so many octets, each beside one time.
     pub fn all(
-        self,
-        rt: &impl Print,
+        &self,
+        rt: &HostRuntime,
         mode: Mode,
         size: usize,
         beside: Duration,

@@ -20,7 +20,6 @@ mod tables;
 use faults::BenchFault;
 use modes::Mode;
 use std::process::ExitCode;
-use std::rt::{Clock, Env};
 
 fn main(rt: HostRuntime) -> ExitCode {
     match run(&rt) {
@@ -33,7 +32,7 @@ fn main(rt: HostRuntime) -> ExitCode {
 }
 
 /// Does all the work, in the mode that the words of the command line name.
-fn run(rt: &(impl Print + AllocGlobal + Env + Clock)) -> Result<(), BenchFault> {
+fn run(rt: &HostRuntime) -> Result<(), BenchFault> {
     let words: Vec<String> = std::env::args(rt)?.collect(rt.alloc())?;
     let mode = Mode::named(&words).ok_or(BenchFault::Usage)?;
     tables::run(rt, mode)?;

@@ -114,11 +114,8 @@ const RESULTS: [Run; 3] = [
     Run::Again(1, &[0x1F]),
 ];
 
-/// The tables, in the order in which they are printed.
-pub const TABLES: [Table; 5] = [VALUES, SERVICES, APDUS, FRAMES, LARGE];
-
 /// Values, beside a plain copy.
-const VALUES: Table = Table {
+pub static VALUES: Table = Table {
     layout: Layout {
         title: "values of the library; the best of 5 rounds of 200 repetitions each",
         of: "value",
@@ -184,7 +181,7 @@ const VALUES: Table = Table {
 
 /// ReadProperty and ReadProperty-ACK, WriteProperty with a group in its value, three services that hold numbers and
 /// identifiers only, and two with lists: the second is a COV notification of one object with four values, a Real each.
-const SERVICES: Table = Table {
+pub static SERVICES: Table = Table {
     layout: Layout {
         title: "services; the best of 200 repetitions of 1000 messages each",
         of: "service",
@@ -283,7 +280,7 @@ const LAYERS: [Column; 8] = [
 
 /// APDUs, beside their services alone: a request to read a property, an answer with twenty results, and a segment of a
 /// request.
-const APDUS: Table = Table {
+pub static APDUS: Table = Table {
     layout: Layout {
         title: "APDUs; the best of 200 repetitions of 1000 messages each; x: times as long as the service alone",
         of: "APDU",
@@ -319,7 +316,7 @@ const APDUS: Table = Table {
 
 /// Frames, beside their APDUs alone: a request to read a property, and an answer with twenty results that another
 /// network sends.
-const FRAMES: Table = Table {
+pub static FRAMES: Table = Table {
     layout: Layout {
         title: "frames; the best of 200 repetitions of 1000 messages each; x: times as long as the APDU alone",
         of: "frame",
@@ -347,7 +344,7 @@ const FRAMES: Table = Table {
 };
 
 /// A WriteProperty whose value is one string, beside a plain copy: the service, the APDU and the frame.
-const LARGE: Table = Table {
+pub static LARGE: Table = Table {
     layout: Layout {
         title: "one string in a frame of 1048597 octets; the best of 200 repetitions each; x: times as long as a copy",
         of: "layer",

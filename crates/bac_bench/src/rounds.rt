@@ -3,7 +3,6 @@
 use crate::batches::{Batch, Job};
 use crate::faults::BenchFault;
 use crate::modes::Mode;
-use std::rt::Clock;
 use std::time::{Duration, Instant};
 
 /// The shortest time of each work on a batch.
@@ -39,7 +38,7 @@ impl Times {
 
 /// Returns the times of a job on a batch.
 pub fn work<J: Job>(
-    rt: &(impl AllocGlobal + Clock),
+    rt: &HostRuntime,
     mode: Mode,
     job: &J,
     batch: Batch<'_>,
@@ -54,11 +53,7 @@ pub fn work<J: Job>(
 }
 
 /// Returns the time of a plain copy.
-pub fn copying(
-    rt: &(impl AllocGlobal + Clock),
-    mode: Mode,
-    octets: &[u8],
-) -> Result<Duration, BenchFault> {
+pub fn copying(rt: &HostRuntime, mode: Mode, octets: &[u8]) -> Result<Duration, BenchFault> {
     let alloc = rt.alloc();
     let (copied, took) = timed(
         rt,
@@ -90,15 +85,15 @@ fn expect_canonical(mark: Option<usize>) -> Result<(), BenchFault> {
 /// Does the work as often as asked, and at least once. Returns what it made the last time, and the shortest time that
 /// it took. A mean would count the pages that the system provides at first, which do not belong to the work.
 pub fn timed<T: Drop, W: Fn() -> Result<T, BenchFault>>(
-    clock: &impl Clock,
+    rt: &HostRuntime,
     repetitions: u32,
     work: W,
 ) -> Result<(T, Duration), BenchFault>
     requires { W.IsAlwaysCallable work }
 {
-    let (mut made, mut shortest) = timed_once(clock, &work)?;
+    let (mut made, mut shortest) = timed_once(rt, &work)?;
     for _ in 1..repetitions {
-        let (next, took) = timed_once(clock, &work)?;
+        let (next, took) = timed_once(rt, &work)?;
         made = next;
         shortest = shortest.min(took);
     }
@@ -107,12 +102,12 @@ pub fn timed<T: Drop, W: Fn() -> Result<T, BenchFault>>(
 
 /// Does the work. Returns what it made, and how long it took.
 fn timed_once<T: Drop, W: Fn() -> Result<T, BenchFault>>(
-    clock: &impl Clock,
+    rt: &HostRuntime,
     work: &W,
 ) -> Result<(T, Duration), BenchFault>
     requires { W.IsAlwaysCallable work.now }
 {
-    let start = Instant::now(clock)?;
+    let start = Instant::now(rt)?;
     let made = work()?;
-    Ok((made, start.elapsed(clock)?))
+    Ok((made, start.elapsed(rt)?))
 }

@@ -8,11 +8,10 @@ use crate::rounds::{copying, timed};
 use bac_apdu::{SegHead, Segment};
 use bac_segment::{CutPlan, Key, Reassembly, cut};
 use std::alloc::Global;
-use std::rt::Clock;
 use std::time::Duration;
 
 /// The longest message that is cut.
-const LONGEST: Run = Run::Contents(65_535);
+static LONGEST: Run = Run::Contents(65_535);
 
 /// This plan makes 256 segments of it.
 const PLAN: CutPlan = CutPlan {
@@ -23,7 +22,7 @@ const PLAN: CutPlan = CutPlan {
 };
 
 /// The key of those segments.
-const KEY: Key = Key {
+static KEY: Key = Key {
     peer: 0,
     request: false,
     invoke: 1,
@@ -41,7 +40,7 @@ fn joined(alloc: Global, segments: &[Segment]) -> Result<Reassembly, BenchFault>
 
 /// Returns the time to join these segments to a message of these octets.
 fn joining(
-    rt: &(impl AllocGlobal + Clock),
+    rt: &HostRuntime,
     mode: Mode,
     segments: &[Segment],
     octets: &[u8],
@@ -55,7 +54,7 @@ fn joining(
 }
 
 /// The table.
-const LAYOUT: Layout = Layout {
+static LAYOUT: Layout = Layout {
     title: "a message of 65535 octets in 256 segments; the best of 200 repetitions each",
     of: "work",
     width: 18,
@@ -67,7 +66,7 @@ const LAYOUT: Layout = Layout {
 };
 
 /// Cuts a message, and joins it from the first segment to the last and from the last to the first. Prints the table.
-pub fn run(rt: &(impl Print + AllocGlobal + Clock), mode: Mode) -> Result<(), BenchFault> {
+pub fn run(rt: &HostRuntime, mode: Mode) -> Result<(), BenchFault> {
     let alloc = rt.alloc();
     let mut octets = Vec::new(alloc);
     LONGEST.append(&mut octets)?;

@@ -7,14 +7,13 @@ use crate::pieces::Run;
 use crate::rounds::timed;
 use bac_stream::{Intake, Mode as Accepting};
 use std::alloc::Global;
-use std::rt::Clock;
 use std::time::Duration;
 
 /// How many records the stream has.
 const RECORDS: u32 = 4_096;
 
 /// The stream: so many records of the request of example 1 of docs/EXAMPLES.md.
-const STREAM: Run = Run::Again(
+static STREAM: Run = Run::Again(
     RECORDS as usize,
     &[
         0, 13, 0x01, 0x04, 0x00, 0x05, 0x01, 0x0C, 0x0C, 0, 0, 0, 0x05, 0x19, 0x55,
@@ -34,7 +33,7 @@ fn feed(alloc: Global, octets: &[u8], size: usize) -> Result<u32, BenchFault> {
 
 /// Returns the time for pieces of `size` octets.
 fn feeding(
-    rt: &(impl AllocGlobal + Clock),
+    rt: &HostRuntime,
     mode: Mode,
     octets: &[u8],
     size: usize,
@@ -48,7 +47,7 @@ fn feeding(
 }
 
 /// The table.
-const LAYOUT: Layout = Layout {
+static LAYOUT: Layout = Layout {
     title: "a stream of 4096 records; the best of 200 repetitions each",
     of: "pieces",
     width: 18,
@@ -59,7 +58,7 @@ const LAYOUT: Layout = Layout {
 };
 
 /// Feeds the stream whole, in pieces of 1,460 octets and octet by octet. Prints the table.
-pub fn run(rt: &(impl Print + AllocGlobal + Clock), mode: Mode) -> Result<(), BenchFault> {
+pub fn run(rt: &HostRuntime, mode: Mode) -> Result<(), BenchFault> {
     let mut octets = Vec::new(rt.alloc());
     STREAM.append(&mut octets)?;
     let whole = feeding(rt, mode, &octets, octets.len())?;

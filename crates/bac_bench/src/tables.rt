@@ -5,28 +5,26 @@ use crate::faults::BenchFault;
 use crate::layers::{Apdus, Contents, Frames, OpenValues, Services};
 use crate::lines::{Column, Figure, Layout, Measured, Work};
 use crate::modes::Mode;
-use crate::pieces::{Calls, LARGE_FRAME, Piece, TABLES, Table};
+use crate::pieces::{APDUS, Calls, FRAMES, LARGE, LARGE_FRAME, Piece, SERVICES, Table, VALUES};
 use crate::rounds::{Times, copying, expect_same, timed, work};
 use crate::services::Encoded;
 use bac_npdu::normalise_frame;
 use bac_value::{Bits, Octets, Text};
+use std::alloc::Global;
 use std::marker::PhantomData;
-use std::rt::Clock;
 
 /// Prints the tables.
-pub fn run(rt: &(impl Print + AllocGlobal + Clock), mode: Mode) -> Result<(), BenchFault> {
-    for table in &TABLES {
-        run_table(rt, mode, table)?;
-    }
+pub fn run(rt: &HostRuntime, mode: Mode) -> Result<(), BenchFault> {
+    run_table(rt, mode, &VALUES)?;
+    run_table(rt, mode, &SERVICES)?;
+    run_table(rt, mode, &APDUS)?;
+    run_table(rt, mode, &FRAMES)?;
+    run_table(rt, mode, &LARGE)?;
     run_normal(rt, mode)
 }
 
 /// Does the work of each piece of a table, and prints the table.
-fn run_table(
-    rt: &(impl Print + AllocGlobal + Clock),
-    mode: Mode,
-    table: &Table,
-) -> Result<(), BenchFault> {
+fn run_table(rt: &HostRuntime, mode: Mode, table: &Table) -> Result<(), BenchFault> {
     table.layout.begin(rt, mode)?;
     for piece in table.pieces {
         let octets = piece.octets(rt.alloc())?;
@@ -38,7 +36,7 @@ fn run_table(
 
 /// Returns the best of a table's rounds.
 fn best(
-    rt: &(impl AllocGlobal + Clock),
+    rt: &HostRuntime,
     mode: Mode,
     table: &Table,
     piece: &Piece,
@@ -53,7 +51,7 @@ fn best(
 
 /// Does a round of a piece, and of what it is compared with.
 fn round(
-    rt: &(impl AllocGlobal + Clock),
+    rt: &HostRuntime,
     mode: Mode,
     count: usize,
     piece: &Piece,
@@ -75,18 +73,24 @@ fn round(
     })
 }
 
+/// Returns the octets so many times.
+fn repeated(alloc: Global, octets: &[u8], times: usize) -> Result<Vec<u8>, BenchFault> {
+    let mut repeated = Vec::new(alloc);
+    for _ in 0..times {
+        repeated.extend_from_slice(octets)?;
+    }
+    Ok(repeated)
+}
+
 /// Returns the times of a batch of so many messages with these octets.
 fn times_of(
-    rt: &(impl AllocGlobal + Clock),
+    rt: &HostRuntime,
     mode: Mode,
     count: usize,
     calls: Calls,
     octets: &[u8],
 ) -> Result<Times, BenchFault> {
-    let mut others = Vec::new(rt.alloc());
-    for _ in 1..count {
-        others.extend_from_slice(octets)?;
-    }
+    let others = repeated(rt.alloc(), octets, count.saturating_sub(1))?;
     let batch = Batch {
         first: octets,
         others: &others,
@@ -111,7 +115,7 @@ fn times_of(
 }
 
 /// The last row of the table of a large value.
-const NORMAL: Layout = Layout {
+static NORMAL: Layout = Layout {
     title: "",
     of: "layer",
     width: 16,
@@ -119,7 +123,7 @@ const NORMAL: Layout = Layout {
 };
 
 /// Measures `normalise_frame` on the frame of a large value, and prints its row.
-fn run_normal(rt: &(impl Print + AllocGlobal + Clock), mode: Mode) -> Result<(), BenchFault> {
+fn run_normal(rt: &HostRuntime, mode: Mode) -> Result<(), BenchFault> {
     let alloc = rt.alloc();
     let octets = LARGE_FRAME.octets(alloc)?;
     let copy = copying(rt, mode, &octets)?;

@@ -158,7 +158,7 @@ fn records_come_back(rt: HostRuntime) {
 }
 
 /// Numbers of octets at which a record could be read as a longer or a shorter one.
-const SIZES: [u16; 12] = [
+static SIZES: [u16; 12] = [
     0, 1, 255, 256, 1_000, 1_001, 1_497, 1_498, 32_768, 65_279, 65_534, 65_535,
 ];
 
@@ -203,8 +203,8 @@ fn is_kept_whole(rt: &impl Abort, alloc: Global, size: u16) {
 // Example 78 for records: the longest has 65,535 octets. Others are spread out below it, 1,285 octets apart.
 #[test]
 fn records_of_each_size_come_back(rt: HostRuntime) {
-    for size in SIZES {
-        is_kept_whole(&rt, rt.alloc(), size);
+    for size in &SIZES {
+        is_kept_whole(&rt, rt.alloc(), *size);
     }
     for number in 0..52u16 {
         is_kept_whole(&rt, rt.alloc(), 1_285 * number);
@@ -241,8 +241,8 @@ fn is_cut_after_one(rt: &impl Abort, alloc: Global, file: &[u8]) {
 
 #[test]
 fn a_run_takes_records_of_each_size(rt: HostRuntime) {
-    for size in SIZES {
-        is_taken(&rt, rt.alloc(), size);
+    for size in &SIZES {
+        is_taken(&rt, rt.alloc(), *size);
     }
 }
 

@@ -529,7 +529,7 @@ const WHO_IS: &str = "prio=0 reply=0 unconf Who-Is\n";
 
 /// Lines that are at fault, with what is told of them. Columns are counted from 1, the number of the record and CR are
 /// part of the line, and a line that ends too early is at fault at the column after its end.
-const LINES_AT_FAULT: [(&str, &str); 10] = [
+static LINES_AT_FAULT: [(&str, &str); 10] = [
     ("1 refused Short at 0", "refused"),
     ("refused NotCanonical at 11", "refused"),
     ("prio=0 bogus", "unreadable at column 8"),
@@ -548,7 +548,7 @@ fn read_stops_at_the_first_line_at_fault(rt: HostRuntime) {
     let alloc = rt.alloc();
     let one = file_of(&rt, alloc, &["01001008"]);
     runs(&rt, alloc, "bactool|read", WHO_IS.as_bytes(), (0, &one, ""));
-    for (line, text) in LINES_AT_FAULT {
+    for (line, text) in &LINES_AT_FAULT {
         let first = format!(in alloc; "{line}\n{WHO_IS}").expect(&rt, "memory");
         let said = format!(in alloc; "bactool: line 1: {text}\n").expect(&rt, "memory");
         runs(

@@ -24,7 +24,7 @@ enum Change {
 }
 
 /// Every change.
-const CHANGES: [Change; 6] = [
+static CHANGES: [Change; 6] = [
     Change::Front,
     Change::Without,
     Change::Twice,
@@ -179,7 +179,7 @@ fn mistake_at(
     index: usize,
     field: &Field,
 ) -> Result<Option<String>, OutOfMemory> {
-    for change in CHANGES {
+    for change in &CHANGES {
         let changed = change.of(alloc, fields, index, octets)?;
         let found = make(alloc, &changed, octets)?;
         if !change.may_give(&found, index, field, octets) {

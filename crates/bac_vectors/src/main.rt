@@ -37,7 +37,6 @@ mod vectors;
 use faults::VectorFault;
 use std::fs;
 use std::process::ExitCode;
-use std::rt::{Env, Files};
 use vectors::Count;
 
 fn main(rt: HostRuntime) -> ExitCode {
@@ -52,7 +51,7 @@ fn main(rt: HostRuntime) -> ExitCode {
 }
 
 /// Runs the files that the words name, and prints how many rows they have. Returns true if each row holds.
-fn run(rt: &(impl Print + Eprint + AllocGlobal + Env + Files)) -> Result<bool, VectorFault> {
+fn run(rt: &HostRuntime) -> Result<bool, VectorFault> {
     let mut count = Count {
         rows: 0,
         differing: 0,
@@ -68,11 +67,7 @@ fn run(rt: &(impl Print + Eprint + AllocGlobal + Env + Files)) -> Result<bool, V
 }
 
 /// Runs the file with this name.
-fn run_file(
-    rt: &(impl Print + AllocGlobal + Files),
-    name: &str,
-    count: &mut Count,
-) -> Result<(), VectorFault> {
+fn run_file(rt: &HostRuntime, name: &str, count: &mut Count) -> Result<(), VectorFault> {
     let text = fs::read_to_string(rt, name)?;
     vectors::run(rt, name, text.as_str(), count)
 }

@@ -45,24 +45,31 @@ impl<'a> Section<'a> {
     /// Returns the section that a line in brackets names.
     pub fn named(line: &'a str) -> Option<Section<'a>> {
         let words = line.strip_prefix("[")?.strip_suffix("]")?;
-        let (call, rest) = words.split_once(" ").unwrap_or((words, ""));
-        match (call, rest) {
-            ("bac_tag", "") => Some(Section::Heads),
-            ("bac_value", name) => Some(Section::Values(name)),
-            ("bac_data", number) => Some(Section::OpenValues(number_of(number)?)),
-            ("bac_service", rest) => {
+        match words {
+            "bac_tag" => Some(Section::Heads),
+            "bac_apdu" => Some(Section::Apdus),
+            "bac_npdu" => Some(Section::Frames),
+            "text" => Some(Section::Texts),
+            "fields" => Some(Section::Fields),
+            "from_fields" => Some(Section::FromFields),
+            "line" => Some(Section::Lines),
+            "same_meaning" => Some(Section::Meanings),
+            "stream tolerant" => Some(Section::Streams(Mode::Tolerant)),
+            "stream strict" => Some(Section::Streams(Mode::Strict)),
+            _ => Section::of_part(words),
+        }
+    }
+
+    /// Returns the section of a part of an APDU that these words name.
+    fn of_part(words: &'a str) -> Option<Section<'a>> {
+        let (call, rest) = words.split_once(" ")?;
+        match call {
+            "bac_value" => Some(Section::Values(rest)),
+            "bac_data" => Some(Section::OpenValues(number_of(rest)?)),
+            "bac_service" => {
                 let (kind, choice) = rest.split_once(" ")?;
                 Some(Section::Services(kind_of(kind)?, number_of(choice)?))
             }
-            ("bac_apdu", "") => Some(Section::Apdus),
-            ("bac_npdu", "") => Some(Section::Frames),
-            ("text", "") => Some(Section::Texts),
-            ("fields", "") => Some(Section::Fields),
-            ("from_fields", "") => Some(Section::FromFields),
-            ("line", "") => Some(Section::Lines),
-            ("same_meaning", "") => Some(Section::Meanings),
-            ("stream", "tolerant") => Some(Section::Streams(Mode::Tolerant)),
-            ("stream", "strict") => Some(Section::Streams(Mode::Strict)),
             _ => None,
         }
     }

@@ -11,6 +11,9 @@ use std::alloc::{AllocError, Global};
 /// How many octets a stream has at most that is cut at each place.
 const MOST_CUTS: usize = 256;
 
+/// In which pieces a stream is fed.
+static SIZES: [usize; 7] = [1, 2, 3, 16, 17, 1_000, 65_537];
+
 /// How many records that come to the same are reported one by one.
 const MOST_TOLD: usize = 16;
 
@@ -67,8 +70,8 @@ fn find_difference_in_pieces(
     stream: &[u8],
     whole: &Given,
 ) -> Result<Option<String>, RowFault> {
-    for size in [1, 2, 3, 16, 17, 1_000, 65_537] {
-        let pieces: Vec<&[u8]> = stream.chunks(size).collect(alloc)?;
+    for size in &SIZES {
+        let pieces: Vec<&[u8]> = stream.chunks(*size).collect(alloc)?;
         if let Some(words) = other_words(alloc, mode, &pieces, whole)? {
             return Ok(Some(format!(in alloc; "in pieces of {size}: {words}")?));
         }

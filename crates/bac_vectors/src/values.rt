@@ -18,26 +18,26 @@ use std::alloc::Global;
 /// `Mistake` if no type has the name, and `OutOfMemory` if memory is refused.
 pub fn told(alloc: Global, name: &str, octets: &[u8]) -> Result<Told, RowFault> {
     let told = match name {
-        "Null" => told_of_prim::<Null>(alloc, octets)?,
-        "Boolean" => told_of_prim::<Boolean>(alloc, octets)?,
-        "Unsigned" => told_of_prim::<Unsigned>(alloc, octets)?,
-        "Signed" => told_of_prim::<Signed>(alloc, octets)?,
-        "Real" => told_of_prim::<RealBits>(alloc, octets)?,
-        "Double" => told_of_prim::<DoubleBits>(alloc, octets)?,
-        "OctetString" => told_of_prim::<Octets>(alloc, octets)?,
-        "CharacterString" => told_of_prim::<Text>(alloc, octets)?,
-        "BitString" => told_of_prim::<Bits>(alloc, octets)?,
-        "Enumerated" => told_of_prim::<Enumerated>(alloc, octets)?,
-        "Date" => told_of_prim::<Date>(alloc, octets)?,
-        "Time" => told_of_prim::<Time>(alloc, octets)?,
-        "ObjectIdentifier" => told_of_prim::<ObjectId>(alloc, octets)?,
-        "Unsigned16" => told_of::<Unsigned16>(alloc, octets)?,
-        "Unsigned32" => told_of::<Unsigned32>(alloc, octets)?,
-        "Priority" => told_of::<Priority>(alloc, octets)?,
-        "Instance" => told_of::<Instance>(alloc, octets)?,
+        "Null" => told_of_prim::<Null>(alloc, octets),
+        "Boolean" => told_of_prim::<Boolean>(alloc, octets),
+        "Unsigned" => told_of_prim::<Unsigned>(alloc, octets),
+        "Signed" => told_of_prim::<Signed>(alloc, octets),
+        "Real" => told_of_prim::<RealBits>(alloc, octets),
+        "Double" => told_of_prim::<DoubleBits>(alloc, octets),
+        "OctetString" => told_of_prim::<Octets>(alloc, octets),
+        "CharacterString" => told_of_prim::<Text>(alloc, octets),
+        "BitString" => told_of_prim::<Bits>(alloc, octets),
+        "Enumerated" => told_of_prim::<Enumerated>(alloc, octets),
+        "Date" => told_of_prim::<Date>(alloc, octets),
+        "Time" => told_of_prim::<Time>(alloc, octets),
+        "ObjectIdentifier" => told_of_prim::<ObjectId>(alloc, octets),
+        "Unsigned16" => told_of::<Unsigned16>(alloc, octets),
+        "Unsigned32" => told_of::<Unsigned32>(alloc, octets),
+        "Priority" => told_of::<Priority>(alloc, octets),
+        "Instance" => told_of::<Instance>(alloc, octets),
         _ => return Err(RowFault::Mistake),
     };
-    Ok(told)
+    Ok(told?)
 }
 
 /// Returns what octets come to as contents of one of the thirteen types, and of a value of any of them by the number of

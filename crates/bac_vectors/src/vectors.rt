@@ -3,6 +3,7 @@
 use crate::faults::{RowFault, VectorFault};
 use crate::sections::Section;
 use bac_tables::{Row, row_of};
+use std::alloc::Global;
 use std::fmt;
 use std::fmt::Display;
 
@@ -36,12 +37,7 @@ enum Line<'a> {
 }
 
 /// Runs the rows of a file. Counts them, and prints each that does not hold.
-pub fn run(
-    rt: &(impl Print + AllocGlobal),
-    name: &str,
-    text: &str,
-    count: &mut Count,
-) -> Result<(), VectorFault> {
+pub fn run(rt: &HostRuntime, name: &str, text: &str, count: &mut Count) -> Result<(), VectorFault> {
     let mut heading = Heading {
         section: None,
         front: "none",
@@ -54,7 +50,7 @@ pub fn run(
             Line::Heading(next) => heading = next,
             Line::Row(row) => {
                 count.rows = count.rows.saturating_add(1);
-                let found = found(rt, heading, row).map_err(|fault| fault.at(number))?;
+                let found = found(rt.alloc(), heading, row).map_err(|fault| fault.at(number))?;
                 if found.as_str() != row.told {
                     count.differing = count.differing.saturating_add(1);
                     println!(rt; "{name}:{number}: {} -> {found}", row.octets)?;
@@ -85,9 +81,9 @@ fn line_of<'a>(heading: Heading<'a>, line: &'a str) -> Result<Line<'a>, RowFault
 }
 
 /// Returns what the octets of a row come to, in the words of a row.
-fn found(rt: &impl AllocGlobal, heading: Heading<'_>, row: Row<'_>) -> Result<String, RowFault> {
+fn found(alloc: Global, heading: Heading<'_>, row: Row<'_>) -> Result<String, RowFault> {
     match heading.section {
-        Some(section) => section.found(rt.alloc(), heading.front, row),
+        Some(section) => section.found(alloc, heading.front, row),
         None => Err(RowFault::Mistake),
     }
 }
