@@ -38,8 +38,8 @@ impl FrameVisitor for PushItem {
         mark: Option<usize>,
         out: &mut Vec<Result<Frame, Refusal>>,
     ) -> Result<(), OutOfMemory> {
-        if let (Mode::Strict, Some(place)) = (self.mode, mark) {
-            out.push(Err(Why::NotCanonical.at(place)))?;
+        if let Some(refusal) = self.mode.flaw(mark) {
+            out.push(Err(refusal))?;
             return Ok(());
         }
         let frame = head.frame(self.alloc, body)?;

@@ -61,15 +61,11 @@ impl<A: Appending> FrameVisitor for Judging<A> {
         out: &mut Vec<u8>,
     ) -> Result<Option<usize>, DealFault> {
         let Judging { mode, appending } = self;
-        match mark {
-            Some(place) if mode == Mode::Strict => {
-                Err(DealFault::Stop(Why::NotCanonical.at(place)))
-            }
-            mark => {
-                appending.append(head, body, mark, out)?;
-                Ok(mark)
-            }
+        if let Some(refusal) = mode.flaw(mark) {
+            return Err(DealFault::Stop(refusal));
         }
+        appending.append(head, body, mark, out)?;
+        Ok(mark)
     }
 }
 

@@ -3,7 +3,7 @@
 use bac_tables::place_of;
 
 /// A line for each name: its number and its word. Other lines say what the names after them are of.
-const NAMES: &str = "
+static NAMES: &str = "
     Frame.
     1 network_priority
     2 reply_expected
