@@ -46,7 +46,7 @@ pub notification_large : (confirmed : Bool) → is_small (notification_kind conf
 notification_large true = refl
 notification_large false = refl
 
--- what wants no memory is not refused for want of it
+-- false is not true
 pub never : {P : Type 0} → IsTrue false → P
 never w = absurd (let e : true ≡ false = sym w in cc)
 
