@@ -1,0 +1,13 @@
+use Rattle.std.specs.Prelude.{ℕ, Ok}
+use Rattle.std.proofs.Common.{arith, take, ◌∙◌}
+use Rattle.bac_text.proofs.TextLemmas.{behind_word, first_put, in_room, written_last}
+use Rattle.bac_text.proofs.services.properties.PropertyResultHasText.write_text.Goals as goal
+
+pub returns-clause-text : goal.returns-clause-text
+returns-clause-text c =
+    written_last c.write_word.result (take c.args.at c.args.out.now.items) _ _ _ _
+    (behind_word {E = ℕ} (Ok c.in_ok-end.end) (take c.args.at c.args.out.now.items) _ _ _ _ _ _
+    (first_put c.args.at c.args.out.now.items _ _ _ _ c.make_room.ensures.front c.as_mut_slice-room.ensures.value c.put_property-end.ensures.text)
+    (in_room c.put_word-end.result _ c.put_word-end.new.room _ (omega arith) ∙ c.put_word-end.ensures.text)
+    c.in_ok-end.ensures.text)
+    c.write_word.ensures.text
