@@ -61,16 +61,6 @@ pub struct Measured {
 }
 
 impl Measured {
-    /// Returns what one time is of a message, and what it is compared with.
-    pub fn once(size: usize, took: Duration, beside: Duration) -> Measured {
-        Measured {
-            size,
-            count: 1,
-            times: Times::all(took),
-            beside: Times::all(beside),
-        }
-    }
-
     /// Returns the shorter times of two rounds.
     pub fn least(self, other: Measured) -> Measured {
         Measured {
@@ -145,21 +135,5 @@ impl Layout {
             print!(rt; " {:>width$.decimals$}", measured.figure(figure))?;
         }
         println!(rt; "")
-    }
-
-    /// Prints the table of some works on so many octets, each beside one time.
-    pub fn all(
-        &self,
-        rt: &HostRuntime,
-        mode: Mode,
-        size: usize,
-        beside: Duration,
-        works: &[(&str, Duration)],
-    ) -> io::Result<()> {
-        self.begin(rt, mode)?;
-        for (name, took) in works {
-            self.row(rt, mode, name, &Measured::once(size, *took, beside))?;
-        }
-        Ok(())
     }
 }

@@ -35,7 +35,5 @@ fn main(rt: HostRuntime) -> ExitCode {
 fn run(rt: &HostRuntime) -> Result<(), BenchFault> {
     let words: Vec<String> = std::env::args(rt)?.collect(rt.alloc())?;
     let mode = Mode::named(&words).ok_or(BenchFault::Usage)?;
-    tables::run(rt, mode)?;
-    segments::run(rt, mode)?;
-    streams::run(rt, mode)
+    tables::run(rt, mode)
 }

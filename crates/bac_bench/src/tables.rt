@@ -3,24 +3,25 @@
 use crate::batches::{Batch, Each};
 use crate::faults::BenchFault;
 use crate::layers::{Apdus, Contents, Frames, OpenValues, Services};
-use crate::lines::{Column, Figure, Layout, Measured, Work};
+use crate::lines::Measured;
 use crate::modes::Mode;
-use crate::pieces::{APDUS, Calls, FRAMES, LARGE, LARGE_FRAME, Piece, SERVICES, Table, VALUES};
+use crate::pieces::{Calls, Message, Piece, TABLES, Table};
 use crate::rounds::{Times, copying, expect_same, timed, work};
+use crate::segments::{cutting, joining};
 use crate::services::Encoded;
+use crate::streams::feeding;
 use bac_npdu::normalise_frame;
 use bac_value::{Bits, Octets, Text};
 use std::alloc::Global;
 use std::marker::PhantomData;
+use std::time::Duration;
 
 /// Prints the tables.
 pub fn run(rt: &HostRuntime, mode: Mode) -> Result<(), BenchFault> {
-    run_table(rt, mode, &VALUES)?;
-    run_table(rt, mode, &SERVICES)?;
-    run_table(rt, mode, &APDUS)?;
-    run_table(rt, mode, &FRAMES)?;
-    run_table(rt, mode, &LARGE)?;
-    run_normal(rt, mode)
+    for table in &TABLES {
+        run_table(rt, mode, table)?;
+    }
+    Ok(())
 }
 
 /// Does the work of each piece of a table, and prints the table.
@@ -73,6 +74,25 @@ fn round(
     })
 }
 
+/// Returns the times of calls on so many messages with these octets.
+fn times_of(
+    rt: &HostRuntime,
+    mode: Mode,
+    count: usize,
+    calls: Calls,
+    octets: &[u8],
+) -> Result<Times, BenchFault> {
+    let took = match calls {
+        Calls::Copy => copying(rt, mode, octets)?,
+        Calls::Normalise => normalising(rt, mode, octets)?,
+        Calls::Cut => cutting(rt, mode, octets)?,
+        Calls::Join(order) => joining(rt, mode, octets, order)?,
+        Calls::Feed(size) => feeding(rt, mode, octets, size)?,
+        Calls::Each(message) => return times_of_each(rt, mode, count, message, octets),
+    };
+    Ok(Times::all(took))
+}
+
 /// Returns the octets so many times.
 fn repeated(alloc: Global, octets: &[u8], times: usize) -> Result<Vec<u8>, BenchFault> {
     let mut repeated = Vec::new(alloc);
@@ -83,11 +103,11 @@ fn repeated(alloc: Global, octets: &[u8], times: usize) -> Result<Vec<u8>, Bench
 }
 
 /// Returns the times of a batch of so many messages with these octets.
-fn times_of(
+fn times_of_each(
     rt: &HostRuntime,
     mode: Mode,
     count: usize,
-    calls: Calls,
+    message: Message,
     octets: &[u8],
 ) -> Result<Times, BenchFault> {
     let others = repeated(rt.alloc(), octets, count.saturating_sub(1))?;
@@ -96,43 +116,31 @@ fn times_of(
         others: &others,
         count,
     };
-    match calls {
-        Calls::Copy => Ok(Times::all(copying(rt, mode, octets)?)),
-        Calls::Octets => work(
+    match message {
+        Message::Octets => work(
             rt,
             mode,
             &Each(Contents::<Octets> { of: PhantomData }),
             batch,
         ),
-        Calls::Text => work(rt, mode, &Each(Contents::<Text> { of: PhantomData }), batch),
-        Calls::Bits => work(rt, mode, &Each(Contents::<Bits> { of: PhantomData }), batch),
-        Calls::Open => work(rt, mode, &Each(OpenValues), batch),
-        Calls::Encoded(kind, choice) => work(rt, mode, &Encoded { kind, choice }, batch),
-        Calls::Service(kind, choice) => work(rt, mode, &Each(Services { kind, choice }), batch),
-        Calls::Apdu => work(rt, mode, &Each(Apdus), batch),
-        Calls::Frame => work(rt, mode, &Each(Frames), batch),
+        Message::Text => work(rt, mode, &Each(Contents::<Text> { of: PhantomData }), batch),
+        Message::Bits => work(rt, mode, &Each(Contents::<Bits> { of: PhantomData }), batch),
+        Message::Open => work(rt, mode, &Each(OpenValues), batch),
+        Message::Encoded(kind, choice) => work(rt, mode, &Encoded { kind, choice }, batch),
+        Message::Service(kind, choice) => work(rt, mode, &Each(Services { kind, choice }), batch),
+        Message::Apdu => work(rt, mode, &Each(Apdus), batch),
+        Message::Frame => work(rt, mode, &Each(Frames), batch),
     }
 }
 
-/// The last row of the table of a large value.
-static NORMAL: Layout = Layout {
-    title: "",
-    of: "layer",
-    width: 16,
-    columns: &[Column("x", 9, 2, Figure::Times(Work::Read))],
-};
-
-/// Measures `normalise_frame` on the frame of a large value, and prints its row.
-fn run_normal(rt: &HostRuntime, mode: Mode) -> Result<(), BenchFault> {
+/// Returns the time of `normalise_frame`.
+fn normalising(rt: &HostRuntime, mode: Mode, octets: &[u8]) -> Result<Duration, BenchFault> {
     let alloc = rt.alloc();
-    let octets = LARGE_FRAME.octets(alloc)?;
-    let copy = copying(rt, mode, &octets)?;
     let (normal, took) = timed(
         rt,
         mode.repetitions(),
-        || Ok(normalise_frame(alloc, &octets)?),
+        || Ok(normalise_frame(alloc, octets)?),
     )?;
-    expect_same(normal, &octets)?;
-    let measured = Measured::once(octets.len(), took, copy);
-    Ok(NORMAL.row(rt, mode, "normalise_frame", &measured)?)
+    expect_same(normal, octets)?;
+    Ok(took)
 }
