@@ -5,9 +5,6 @@
 //! are those of bac_command. This crate passes it the words and the standard streams of the process.
 #![tactic(auto)]
 
-#[cfg(test)]
-mod tool_tests;
-
 use arrayvec::ArrayString;
 use bac_command::layers::tell_text;
 use bac_command::run_tool;
