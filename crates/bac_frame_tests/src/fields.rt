@@ -8,7 +8,7 @@ use std::alloc::Global;
 use std::process::Abort;
 
 /// An answer with the property 85 of the object 0:5, up to the opening tag of its value.
-const ANSWER: [u8; 13] = [1, 0, 0x30, 1, 0x0C, 0x0C, 0, 0, 0, 5, 0x19, 0x55, 0x3E];
+static ANSWER: [u8; 13] = [1, 0, 0x30, 1, 0x0C, 0x0C, 0, 0, 0, 5, 0x19, 0x55, 0x3E];
 
 /// What `octets` and `fields` hold before anything is appended.
 const BEFORE: Field = Field {

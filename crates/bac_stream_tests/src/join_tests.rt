@@ -11,7 +11,7 @@ use std::alloc::{AllocError, Global};
 use std::process::Abort;
 
 /// The frames of example 24's segments, by their numbers.
-const SEGMENTS: [&str; 3] = [
+static SEGMENTS: [&str; 3] = [
     "01 00 3C 01 00 04 0C 0C 00 00 00 05 19",
     "01 00 3C 01 01 04 0C 55 3E 44 42 90 99",
     "01 00 38 01 02 04 0C 9A 3F",

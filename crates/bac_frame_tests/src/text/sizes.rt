@@ -34,7 +34,7 @@ fn long_octets_have_their_text(rt: HostRuntime) {
 }
 
 /// An answer with the property 85 of the object 0:5, up to the length of a character string.
-const ANSWER: [u8; 14] = [
+static ANSWER: [u8; 14] = [
     1, 0, 0x30, 1, 0x0C, 0x0C, 0, 0, 0, 5, 0x19, 0x55, 0x3E, 0x75,
 ];
 

@@ -7,14 +7,14 @@ use std::alloc::Global;
 use std::process::Abort;
 
 /// Numbers of octets of contents, and the length octets of the head of each (clause 20.2.1.3.1).
-const SIZES: [(usize, &[u8]); 3] = [
+static SIZES: [(usize, &[u8]); 3] = [
     (1_497, &[0xFE, 5, 0xD9]),
     (65_535, &[0xFE, 0xFF, 0xFF]),
     (1_048_576, &[0xFF, 0, 0x10, 0, 0]),
 ];
 
 /// The object 0:5 and its property 85, up to the length of an octet string.
-const PROPERTY: [u8; 9] = [0x0C, 0, 0, 0, 5, 0x19, 0x55, 0x3E, 0x65];
+static PROPERTY: [u8; 9] = [0x0C, 0, 0, 0, 5, 0x19, 0x55, 0x3E, 0x65];
 
 /// Stops the test unless the service of canonical octets is appended as they are, and what is before them stays.
 fn is_appended(rt: &impl Abort, alloc: Global, service: (Kind, u8), octets: &[u8]) {
@@ -37,8 +37,8 @@ fn are_appended(rt: &impl Abort, alloc: Global, length: &[u8], contents: &[u8]) 
 #[test]
 fn services_of_every_size_are_appended(rt: HostRuntime) {
     let alloc = rt.alloc();
-    for (size, length) in SIZES {
-        let contents = mixed(alloc, size).expect(&rt, "memory");
+    for (size, length) in &SIZES {
+        let contents = mixed(alloc, *size).expect(&rt, "memory");
         are_appended(&rt, alloc, length, &contents);
     }
 }

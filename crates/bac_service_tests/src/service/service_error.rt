@@ -7,7 +7,7 @@ use std::alloc::Global;
 use std::process::Abort;
 
 /// The choices whose errors have a class and a code.
-const CHOICES: [u8; 5] = [1, 5, 12, 14, 15];
+static CHOICES: [u8; 5] = [1, 5, 12, 14, 15];
 
 /// The error of this choice, with the class 2 and the code 32, is made and written as these octets.
 fn has_class_and_code(rt: &impl Abort, alloc: Global, choice: u8, octets: &str) {
@@ -21,8 +21,8 @@ fn has_class_and_code(rt: &impl Abort, alloc: Global, choice: u8, octets: &str) 
 // Of examples 21 and 48 of docs/EXAMPLES.md.
 #[test]
 fn an_error_has_a_class_and_a_code(rt: HostRuntime) {
-    for choice in CHOICES {
-        has_class_and_code(&rt, rt.alloc(), choice, "91 02 91 20");
+    for choice in &CHOICES {
+        has_class_and_code(&rt, rt.alloc(), *choice, "91 02 91 20");
     }
 }
 

@@ -8,7 +8,7 @@ use std::alloc::Global;
 use std::process::Abort;
 
 /// Numbers of octets of contents, and the length octets of the head of each (clause 20.2.1.3.1).
-const SIZES: [(usize, &[u8]); 3] = [
+static SIZES: [(usize, &[u8]); 3] = [
     (1_497, &[0xFE, 5, 0xD9]),
     (65_535, &[0xFE, 0xFF, 0xFF]),
     (1_048_576, &[0xFF, 0, 0x10, 0, 0]),
@@ -35,8 +35,8 @@ fn are_built(rt: &impl Abort, alloc: Global, length: &[u8], contents: &[u8]) {
 #[test]
 fn contents_of_every_size_are_built(rt: HostRuntime) {
     let alloc = rt.alloc();
-    for (size, length) in SIZES {
-        let contents = mixed(alloc, size).expect(&rt, "memory");
+    for (size, length) in &SIZES {
+        let contents = mixed(alloc, *size).expect(&rt, "memory");
         are_built(&rt, alloc, length, &contents);
     }
 }

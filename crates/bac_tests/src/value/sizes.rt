@@ -10,7 +10,7 @@ use std::alloc::Global;
 use std::process::Abort;
 
 /// The octets of the longest record, of one whose length fills two octets, and of the longest contents.
-const SIZES: [usize; 3] = [1_497, 65_535, 1_048_576];
+static SIZES: [usize; 3] = [1_497, 65_535, 1_048_576];
 
 /// The octets in a vector of their own.
 fn copied(rt: &impl Abort, alloc: Global, octets: &[u8]) -> Vec<u8> {
@@ -62,8 +62,8 @@ fn octets_are_made(rt: &impl Abort, alloc: Global, size: usize) {
 
 #[test]
 fn octets_and_texts_of_every_size_are_made(rt: HostRuntime) {
-    for size in SIZES {
-        octets_are_made(&rt, rt.alloc(), size);
+    for size in &SIZES {
+        octets_are_made(&rt, rt.alloc(), *size);
     }
 }
 
@@ -99,8 +99,8 @@ fn bits_are_made(rt: &impl Abort, alloc: Global, size: usize) {
 
 #[test]
 fn bits_of_every_size_are_made(rt: HostRuntime) {
-    for size in SIZES {
-        bits_are_made(&rt, rt.alloc(), size - 1);
+    for size in &SIZES {
+        bits_are_made(&rt, rt.alloc(), size.saturating_sub(1));
     }
 }
 
