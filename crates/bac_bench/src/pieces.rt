@@ -160,8 +160,13 @@ const RECORD: [u8; 15] = [0, 13, 1, 4, 0, 5, 1, 12, 0x0C, 0, 0, 0, 5, 0x19, 0x55
 /// How many octets the stream has.
 const STREAM: usize = RECORDS * RECORD.len();
 
-/// The tables.
-pub static TABLES: [Table; 8] = [
+/// Returns the tables.
+pub fn tables() -> &'static [Table] {
+    &TABLES
+}
+
+/// The tables. A function that names them carries all of them through its proof, so [`tables`] alone does.
+static TABLES: [Table; 8] = [
     // Values, beside a plain copy.
     Table {
         layout: Layout {

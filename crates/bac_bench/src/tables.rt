@@ -5,7 +5,7 @@ use crate::faults::BenchFault;
 use crate::layers::{Apdus, Contents, Frames, OpenValues, Services};
 use crate::lines::Measured;
 use crate::modes::Mode;
-use crate::pieces::{Calls, Message, Piece, TABLES, Table};
+use crate::pieces::{Calls, Message, Piece, Table, tables};
 use crate::rounds::{Times, copying, expect_same, timed, work};
 use crate::segments::{cutting, joining};
 use crate::services::Encoded;
@@ -18,7 +18,7 @@ use std::time::Duration;
 
 /// Prints the tables.
 pub fn run(rt: &HostRuntime, mode: Mode) -> Result<(), BenchFault> {
-    for table in &TABLES {
+    for table in tables() {
         run_table(rt, mode, table)?;
     }
     Ok(())
