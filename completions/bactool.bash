@@ -1,3 +1,4 @@
+# SPDX-License-Identifier: Apache-2.0 OR MIT
 # Completion of bactool for bash. The program reads standard input alone, so no file names are offered.
 _bactool() {
     local words='show check normalise pack read help --help --version'

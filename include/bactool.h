@@ -1,9 +1,12 @@
+/* SPDX-License-Identifier: Apache-2.0 OR MIT */
 /*
- * bactool.h: the messages of BACnet (ANSI/ASHRAE 135) for C, by the library libbactool.
+ * bactool.h: the messages of BACnet (ANSI/ASHRAE 135) for C and C++, by the library libbactool.
  *
- * A frame is one NPDU (clause 6 of the standard), with an APDU or a network message in it. Of all the octets that spell
- * one frame, the least are its canonical ones, and the library writes only those. Octets that spell a frame otherwise
- * are tolerated; octets that spell none are refused, with the reason and the place.
+ * A frame is one NPDU (clause 6 of the standard), with an APDU or a network message in it. It begins with the version
+ * octet 01: what a data link puts before it, such as the 4 or 10 octets of BVLL in a UDP packet, is not part of it. The
+ * standard lets some frames be encoded in several ways. One of them is canonical, no other is shorter, and the library
+ * writes only that one. The others are tolerated. Octets that encode no frame are refused, with the reason and the
+ * place.
  *
  *     const uint8_t octets[] = {0x01, 0x04, 0x00, 0x05, 0x01, 0x0C, 0x0C, 0x00, 0x00, 0x00, 0x05, 0x19, 0x55};
  *     char line[256];
@@ -13,24 +16,31 @@
  *
  * prints `prio=0 reply=1 conf id=1 sa=0 segs=0 resp=5 ReadProperty object=0:5 property=85`.
  *
- * What holds of every call:
+ * Two more headers are beside this one, for who wants them. bactool_helpers.h makes the fields of a frame, and finds
+ * results and values among them. bactool_names.h has the standard's numbers by name, such as BACTOOL_PROPERTY_UNITS.
+ *
+ * What holds for every call:
  *
  *   - It returns on every input. It keeps no pointer, has no state, and frees the memory that it takes, so any calls
  *     may run in any threads at the same time. It takes memory by malloc, so it must not be called from a signal
  *     handler, or in the forked child of a process with threads. It needs less than 16 KB of stack, as measured on
  *     x86-64.
  *   - A pointer and a length are that many octets. The call reads them, and nobody may change them meanwhile. A pointer
- *     and a room are that many octets, which the call may write. NULL with length or room 0 is taken as no octets. No
- *     other pointer may be NULL.
+ *     and a `room` are a buffer with a capacity of that many octets, which the call may write. NULL with length or room
+ *     0 means no octets. No other pointer may be NULL. Macros of this header replace NULL by an address. A call through
+ *     a function pointer, or from another language, does not use them, and must pass some address in place of NULL.
+ *   - Frames, fields and texts may have any length: memory is the only limit. The 65,535 octets of a record limit the
+ *     files of the program `bactool`, and no call. What is inside a frame has limits: at most 32 groups nest, and the
+ *     contents of one element of a value have at most 1,048,576 octets.
  *   - What a call writes, `out`, `fields` and `outcome`, must not overlap anything else that is passed to it. What it
  *     reads may overlap, and is never written.
  *   - Each call except bactool_reason, bactool_name and bactool_version returns one of the codes below and fills in the
  *     whole of `outcome`. If the code is not BACTOOL_OK, `out` and `fields` are as they were. If it is, what is after
  *     the octets and the fields that are written is as it was. No text ends in a NUL.
  *
- * Link with -lbactool; `pkg-config --cflags --libs bactool` prints the flags. The shared library is libbactool.so.1.
- * The 1 changes with each release in which a struct, a number or a call of this header is no longer what it was. A call
- * or a name that is new does not change it.
+ * Link with -lbactool; `pkg-config --cflags --libs bactool` prints the flags, and CMake has find_package(bactool) and
+ * the target bactool::bactool. The shared library is libbactool.so.1. The 1 changes with each release in which a
+ * struct, a number or a call of this header is no longer what it was. A new call or name does not change it.
  */
 #ifndef BACTOOL_H
 #define BACTOOL_H
@@ -44,25 +54,45 @@ extern "C" {
 #endif
 
 /* The version of this header: 10,000 times the major number, plus 100 times the minor number, plus the patch number.
-   Here it is 0.2.0. */
-#define BACTOOL_VERSION 200
+   Here it is 0.3.0. */
+#define BACTOOL_VERSION 300
 
-/* What comes of a call. */
+/*
+ * A call that came after version 0.2.0 has a macro, so that a program can be compiled with older headers too:
+ *
+ *     #ifdef BACTOOL_HAS_ENCODE
+ *
+ * The macros are about this header. bactool_version returns the version of the library that is linked.
+ */
+#define BACTOOL_HAS_ENCODE 1
+#define BACTOOL_HAS_READ 1
+#define BACTOOL_HAS_HEAD 1
+
+/* A conversion that compilers for C and for C++ take without a warning. */
+#ifdef __cplusplus
+#define BACTOOL_CAST(type, value) static_cast<type>(value)
+#else
+#define BACTOOL_CAST(type, value) ((type)(value))
+#endif
+
+/* What a call returns. */
 enum bactool_code {
     BACTOOL_OK = 0,            /* what was asked holds, or is done */
-    BACTOOL_TOLERATED = 1,     /* the octets spell a frame, and are not its canonical ones */
-    BACTOOL_DIFFERENT = 2,     /* the two inputs spell different frames */
-    BACTOOL_REFUSED = 3,       /* the octets or the fields are not accepted: `why` and `place` */
-    BACTOOL_LEFT_REFUSED = 4,  /* the left one of two inputs spells no frame: `why` and `place` */
-    BACTOOL_RIGHT_REFUSED = 5, /* the right one spells none, and the left one does: `why` and `place` */
-    BACTOOL_NO_ROOM = 6,       /* the room is too small: `count` octets are needed */
+    BACTOOL_TOLERATED = 1,     /* the octets encode a frame, and are not its canonical ones */
+    BACTOOL_DIFFERENT = 2,     /* the two inputs encode different frames */
+    BACTOOL_REFUSED = 3,       /* the octets, the fields or the text are refused: `why` and `place` */
+    BACTOOL_LEFT_REFUSED = 4,  /* the left one of two inputs encodes no frame: `why` and `place` */
+    BACTOOL_RIGHT_REFUSED = 5, /* the right one encodes none, and the left one does: `why` and `place` */
+    BACTOOL_NO_ROOM = 6,       /* a capacity is too small: `count` octets are needed, and `fields` fields */
     BACTOOL_NO_MEMORY = 7      /* memory was refused: `why` is BACTOOL_OUT_OF_MEMORY */
 };
 
-/* Why octets, fields or a text are refused. bactool_reason gives the name. */
+/* Why octets, fields or a text are refused. bactool_reason writes the name. */
 enum bactool_why {
     BACTOOL_SHORT = 1,          /* the octets end where more must come */
-    BACTOOL_TRAILING = 2,       /* octets follow a whole frame */
+    BACTOOL_TRAILING = 2,       /* the octets before the place are a whole message, and the octet there does not
+                                   continue it. Often it is padding, or begins an optional field with a wrong tag or
+                                   length */
     BACTOOL_BAD_VERSION = 3,    /* the version octet is not 1 */
     BACTOOL_ADDRESS = 4,        /* a source address of length 0 */
     BACTOOL_PDU_TYPE = 5,       /* a PDU type that is not used */
@@ -70,32 +100,38 @@ enum bactool_why {
     BACTOOL_TAG = 7,            /* a tag that cannot be here */
     BACTOOL_LENGTH = 8,         /* a length that cannot be here */
     BACTOOL_CONTENT = 9,        /* contents that no value has */
-    BACTOOL_DEPTH = 10,         /* a group inside too many others: at most 32 nest */
-    BACTOOL_NOT_CANONICAL = 11, /* a tolerated spelling, and canonical octets were asked for */
+    BACTOOL_DEPTH = 10,         /* a group inside 32 others. Only octets are refused so: among fields such a group is
+                                   BACTOOL_BAD_NAME, and in a text BACTOOL_BAD_TEXT */
+    BACTOOL_NOT_CANONICAL = 11, /* a tolerated encoding, and canonical octets were asked for: only by bactool_check */
     BACTOOL_OUT_OF_MEMORY = 12, /* memory was refused */
-    /* Only of fields, for which BACTOOL_SHORT and BACTOOL_TRAILING speak of fields in place of octets. */
-    BACTOOL_BAD_NAME = 13,    /* a field with a name that cannot be here */
-    BACTOOL_BAD_NUMBER = 14,  /* a field with a number that it cannot have here */
+    /* Only from bactool_encode. There BACTOOL_SHORT and BACTOOL_TRAILING are about fields in place of octets. */
+    BACTOOL_BAD_NAME = 13,     /* a field with a name that cannot be here */
+    BACTOOL_BAD_NUMBER = 14,   /* a field with a number that it cannot have here */
     BACTOOL_BAD_CONTENTS = 15, /* a field with contents that it cannot have here, or that are not in the octets */
-    /* Only of text, for which BACTOOL_SHORT says that it ends where more must come. */
+    /* Only from bactool_read. There BACTOOL_SHORT means that the text ends where more must come. */
     BACTOOL_BAD_TEXT = 16 /* an octet that no text of a frame has there */
 };
 
-/* What a call reports beside its code. A field of which the code says nothing is 0. */
+/* What a call reports beside its code. A member that does not apply to the code is 0. */
 struct bactool_outcome {
     uint32_t why;  /* an enum bactool_why: the reason of a refusal */
-    size_t place;  /* the offset, counted from 0, of the first octet that no frame can have there, or of the first one
-                      that differs from the canonical octets; the length if the octets are only too short. Of
-                      bactool_encode the index of a field, counted from 0; of bactool_read the offset in the text */
-    size_t count;  /* the number of octets that are written, or that would be written if the room were not too small */
-    size_t fields; /* the number of fields that are written by bactool_decode, or that would be */
+    size_t place;  /* where: an offset in the octets or in the text, or the index of a field, counted from 0. Each call
+                      says which */
+    size_t count;  /* the number of octets that are written, or that would be with enough capacity */
+    size_t fields; /* the number of fields that bactool_decode writes, or would write with enough capacity */
 };
 
 /*
- * The names of fields. The fields of a frame are the parts of its text, in their order; docs/FORMATS.md has their
- * table. In the comments a word in quotes is how the text begins the field. The numbers never change.
+ * The names of fields. The fields of a frame are the parts of its text, in their order; section 8.4 of docs/FORMATS.md
+ * has their table. In the comments a word in quotes is how the text begins the field. The numbers never change.
+ *
+ * Eleven names have contents, such as an address or a string: DESTINATION, SOURCE, OCTETS, PORT_INFO, DATA,
+ * OCTET_STRING, CHARACTER_STRING, BIT_STRING, DATE, TIME_OF_DAY and CONTEXT_PRIMITIVE. All others have only a number.
+ *
+ * The number of READ_PROPERTY is its service choice, 12, and so for each service that has a name. The number of OPAQUE
+ * is 0: the choice of such a service is in the field CHOICE after it.
  */
-enum bactool_name {
+enum bactool_field_name {
     BACTOOL_FIELD_NETWORK_PRIORITY = 1, /* the network priority of the frame, 0 to 3 (clause 6.2.2) ("prio=") */
     BACTOOL_FIELD_REPLY_EXPECTED = 2, /* whether a reply is expected: 0 or 1 (clause 6.2.2) ("reply=") */
     /* the destination: its network, with the address on it as contents. An address without octets is that of every
@@ -140,15 +176,18 @@ enum bactool_name {
     BACTOOL_FIELD_FLAG = 49, /* whether the number of a network was configured or learned ("flag=") */
     BACTOOL_FIELD_VENDOR = 50, /* a vendor identifier ("vendor=") */
     BACTOOL_FIELD_DATA = 51, /* the octets of a network message without a layout, as contents ("data=") */
-    BACTOOL_FIELD_READ_PROPERTY = 60, /* a ReadProperty or its answer ("ReadProperty") */
-    BACTOOL_FIELD_READ_PROPERTY_MULTIPLE = 61, /* a ReadPropertyMultiple or its answer ("ReadPropertyMultiple") */
-    BACTOOL_FIELD_WRITE_PROPERTY = 62, /* a WriteProperty ("WriteProperty") */
-    BACTOOL_FIELD_WRITE_PROPERTY_MULTIPLE = 63, /* a WritePropertyMultiple ("WritePropertyMultiple") */
-    BACTOOL_FIELD_WHO_IS = 64, /* a Who-Is ("Who-Is") */
-    BACTOOL_FIELD_I_AM = 65, /* an I-Am ("I-Am") */
-    BACTOOL_FIELD_SUBSCRIBE_COV = 66, /* a SubscribeCOV ("SubscribeCOV") */
-    BACTOOL_FIELD_CONFIRMED_COV_NOTIFICATION = 67, /* a ConfirmedCOVNotification ("ConfirmedCOVNotification") */
-    BACTOOL_FIELD_UNCONFIRMED_COV_NOTIFICATION = 68, /* an UnconfirmedCOVNotification ("UnconfirmedCOVNotification") */
+    BACTOOL_FIELD_READ_PROPERTY = 60, /* a ReadProperty or its answer; number 12 ("ReadProperty") */
+    /* a ReadPropertyMultiple or its answer; number 14 ("ReadPropertyMultiple") */
+    BACTOOL_FIELD_READ_PROPERTY_MULTIPLE = 61,
+    BACTOOL_FIELD_WRITE_PROPERTY = 62, /* a WriteProperty; number 15 ("WriteProperty") */
+    BACTOOL_FIELD_WRITE_PROPERTY_MULTIPLE = 63, /* a WritePropertyMultiple; number 16 ("WritePropertyMultiple") */
+    BACTOOL_FIELD_WHO_IS = 64, /* a Who-Is; number 8 ("Who-Is") */
+    BACTOOL_FIELD_I_AM = 65, /* an I-Am; number 0 ("I-Am") */
+    BACTOOL_FIELD_SUBSCRIBE_COV = 66, /* a SubscribeCOV; number 5 ("SubscribeCOV") */
+    /* a ConfirmedCOVNotification; number 1 ("ConfirmedCOVNotification") */
+    BACTOOL_FIELD_CONFIRMED_COV_NOTIFICATION = 67,
+    /* an UnconfirmedCOVNotification; number 2 ("UnconfirmedCOVNotification") */
+    BACTOOL_FIELD_UNCONFIRMED_COV_NOTIFICATION = 68,
     /* a service whose octets are kept as they are. Its choice is a field of its own ("opaque") */
     BACTOOL_FIELD_OPAQUE = 69,
     /* an object identifier, as its 32 bits: 10 for the type and 22 for the instance ("object=") */
@@ -204,21 +243,30 @@ enum bactool_name {
 
 /* A part of the text of a frame, and where its octets are in the canonical octets of the frame. */
 struct bactool_field {
-    uint32_t name;   /* an enum bactool_name */
-    uint64_t number; /* the number that it says, or 0 if it says none */
+    uint32_t name;   /* an enum bactool_field_name */
+    uint64_t number; /* the number that it has, or 0 if it has none */
     size_t place;    /* the offset of its first octet, counted from 0 */
     size_t head;     /* how many octets its head has, such as a tag */
     size_t length;   /* how many octets its contents have, after the head */
 };
 
 /*
+ * An object identifier as its 32 bits, as OBJECT, DEVICE and OBJECT_IDENTIFIER have it, and its two halves. The type is
+ * 0 to 1023, the instance 0 to 4194303.
+ */
+#define BACTOOL_OBJECT(type, instance) (BACTOOL_CAST(uint32_t, type) << 22 | BACTOOL_CAST(uint32_t, instance))
+#define BACTOOL_OBJECT_TYPE(number) (BACTOOL_CAST(uint32_t, (number) >> 22) & 0x3FFu)
+#define BACTOOL_OBJECT_INSTANCE(number) BACTOOL_CAST(uint32_t, (number) & 0x3FFFFFu)
+
+/*
  * Checks whether octets are the canonical ones of a frame.
  *
  *   BACTOOL_OK          they are the canonical ones
- *   BACTOOL_TOLERATED   they spell a frame otherwise: `place` is the first place where they differ from the canonical
- *                       ones. It is never returned if `strict` is true
- *   BACTOOL_REFUSED     they are refused: `why` and `place`. If `strict` is true, octets that spell a frame otherwise
- *                       are refused too: `why` is BACTOOL_NOT_CANONICAL, and `place` is that first place
+ *   BACTOOL_TOLERATED   they encode a frame otherwise: `place` is the offset of the first octet that differs from the
+ *                       canonical ones. It is never returned if `strict` is true
+ *   BACTOOL_REFUSED     no frame: `why`, and `place` is the offset of the first octet that no frame has there, or
+ *                       `length` with BACTOOL_SHORT. If `strict` is true, octets that encode a frame otherwise are
+ *                       refused too: `why` is BACTOOL_NOT_CANONICAL, and `place` is the offset of that first octet
  *   BACTOOL_NO_MEMORY   memory was refused
  *
  *     struct bactool_outcome outcome;
@@ -227,13 +275,85 @@ struct bactool_field {
  */
 uint32_t bactool_check(const uint8_t *octets, size_t length, bool strict, struct bactool_outcome *outcome);
 
+/* How far the head of a frame is known. */
+enum bactool_known {
+    BACTOOL_KNOWN_NOTHING = 0,   /* version and control octet are not both there, or the version is not 1 */
+    BACTOOL_KNOWN_CONTROL = 1,   /* `reply` and `priority` */
+    BACTOOL_KNOWN_ADDRESSES = 2, /* also `destination`, `source` and `hops` */
+    BACTOOL_KNOWN_ALL = 3        /* all that is before the octets of a service, or of a network message */
+};
+
+/* What a frame carries: the types of APDUs (clause 20.1), or a network message. */
+enum bactool_pdu {
+    BACTOOL_PDU_CONFIRMED = 0,
+    BACTOOL_PDU_UNCONFIRMED = 1,
+    BACTOOL_PDU_SIMPLE_ACK = 2,
+    BACTOOL_PDU_COMPLEX_ACK = 3,
+    BACTOOL_PDU_SEGMENT_ACK = 4,
+    BACTOOL_PDU_ERROR = 5,
+    BACTOOL_PDU_REJECT = 6,
+    BACTOOL_PDU_ABORT = 7,
+    BACTOOL_PDU_MESSAGE = 8 /* a network message */
+};
+
+/* Where a frame goes, or comes from. */
+struct bactool_address {
+    uint32_t there;   /* 1 if there is one. Otherwise this and the other members are 0 */
+    uint32_t network; /* the network */
+    size_t place;     /* the offset of the first octet of the address */
+    size_t length;    /* how many octets the address has. A destination with none is every device on the network */
+};
+
+/* What is known of a frame. A member that is not known, or that the PDU does not have, is 0. */
+struct bactool_frame_head {
+    uint32_t known;                     /* an enum bactool_known: how far it is known */
+    uint32_t reply;                     /* 1 if a reply is expected */
+    uint32_t priority;                  /* the network priority, 0 to 3 */
+    uint32_t hops;                      /* the hop count of the destination */
+    struct bactool_address destination; /* where the frame goes, if that is on another network */
+    struct bactool_address source;      /* where the frame comes from, if that is on another network */
+    uint32_t pdu;                       /* an enum bactool_pdu. It has a meaning only with BACTOOL_KNOWN_ALL */
+    uint32_t message;                   /* the type of a network message */
+    uint32_t vendor;                    /* the vendor of a network message, if its type is 128 or above */
+    uint32_t invoke;                    /* the invoke id, of all APDUs but an Unconfirmed-Request */
+    uint32_t segmented;                 /* 1 if the APDU is a segment of a request or of an answer */
+    uint32_t more;                      /* 1 if more segments follow */
+    uint32_t sequence;                  /* the sequence number of a segment, or in a SegmentACK */
+    uint32_t window;                    /* the window of a segment, or in a SegmentACK */
+    uint32_t negative;                  /* 1 if a SegmentACK is negative */
+    uint32_t server;                    /* 1 if a server sent a SegmentACK or an Abort */
+    uint32_t choice;                    /* the service choice */
+    uint32_t reason;                    /* the reason of a Reject or an Abort */
+    size_t contents;                    /* the offset of what is after the head: the octets of a service begin here */
+};
+
 /*
- * Writes, at the front of `out`, the canonical octets of the frame that the octets spell. There are at most as many of
+ * Reports what is known of a frame, also if it is refused. A server needs it to answer a request that it does not
+ * understand: the Reject or the Abort repeats the invoke id, and goes back to the source. What is known is so of every
+ * frame that begins with the octets before `place`. All of `head` is written, whatever the code. The frame is checked as
+ * by bactool_check, which may take memory.
+ *
+ *   BACTOOL_OK          the octets encode a frame: `known` is BACTOOL_KNOWN_ALL
+ *   BACTOOL_REFUSED     no frame: `why`, and `place` is the offset of the first octet that no frame has there, or
+ *                       `length` with BACTOOL_SHORT. `head` is what the octets before `place` say
+ *   BACTOOL_NO_MEMORY   memory was refused. `head` is what all the octets say
+ *
+ *     struct bactool_frame_head head;
+ *     if (bactool_head(octets, length, &head, &outcome) == BACTOOL_REFUSED
+ *         && head.known == BACTOOL_KNOWN_ALL && head.pdu == BACTOOL_PDU_CONFIRMED)
+ *         reject(head.invoke, octets + head.source.place, head.source.length);
+ */
+uint32_t bactool_head(const uint8_t *octets, size_t length, struct bactool_frame_head *head,
+                      struct bactool_outcome *outcome);
+
+/*
+ * Writes, at the front of `out`, the canonical octets of the frame that the octets encode. There are at most as many of
  * them as octets passed, so a room of `length` is always enough.
  *
  *   BACTOOL_OK          they are written: `count` is their number
  *   BACTOOL_NO_ROOM     `room` is too small for them: nothing is written, and `count` is their number
- *   BACTOOL_REFUSED     the octets passed are refused: `why` and `place`
+ *   BACTOOL_REFUSED     no frame: `why`, and `place` is the offset of the first octet that no frame has there, or
+ *                       `length` with BACTOOL_SHORT
  *   BACTOOL_NO_MEMORY   memory was refused
  *
  *     uint8_t canonical[1497];
@@ -244,22 +364,33 @@ uint32_t bactool_normalise(const uint8_t *octets, size_t length, uint8_t *out, s
                            struct bactool_outcome *outcome);
 
 /*
- * Writes, at the front of `out`, the canonical octets of the frame that the octets spell, as bactool_normalise does,
- * and at the front of `fields` its fields, in the order of its text. A number is in its field, and contents such as a
- * string are in `out`, after the head of their field. A room of `length`, and a `most` of 2 * `length` + 2, are always
- * enough, and with them it is fastest. To learn how much room is needed, call with room 0 and `most` 0.
+ * How many fields a frame of `length` octets has at most. Most fields have an octet of their own or more; up to three
+ * share an octet of a head, and where an item begins or ends there is none. It is proved that a frame has at most two
+ * fields for each of its canonical octets, and two more. Canonical octets are never more than other octets that encode
+ * the frame, so the number holds for these too.
+ */
+#define BACTOOL_MOST_FIELDS(length) (2 * (length) + 2)
+
+/*
+ * Writes, at the front of `out`, the canonical octets of the frame that the octets encode, as bactool_normalise does,
+ * and at the front of `fields` its fields, in the order of its text. Each field has its number, and contents such as a
+ * string are in `out`, after the head of their field. A room of `length`, and a `most` of BACTOOL_MOST_FIELDS(length),
+ * are always enough, and with them it is fastest. To learn how many are needed, call with room 0 and `most` 0.
  *
  *   BACTOOL_OK          both are written: `count` octets and `fields` fields
  *   BACTOOL_NO_ROOM     `room` or `most` is too small: nothing is written, and `count` and `fields` are what is needed
- *   BACTOOL_REFUSED     the octets passed are refused: `why` and `place`
+ *   BACTOOL_REFUSED     no frame: `why`, and `place` is the offset of the first octet that no frame has there, or
+ *                       `length` with BACTOOL_SHORT
  *   BACTOOL_NO_MEMORY   memory was refused
  *
  *     uint8_t canonical[1497];
- *     struct bactool_field fields[256];
- *     if (bactool_decode(octets, length, canonical, sizeof canonical, fields, 256, &outcome) == BACTOOL_OK) {
+ *     static struct bactool_field fields[BACTOOL_MOST_FIELDS(1497)];
+ *     if (bactool_decode(octets, length, canonical, sizeof canonical, fields, BACTOOL_MOST_FIELDS(1497), &outcome)
+ *         == BACTOOL_OK) {
  *         const struct bactool_field *object = bactool_find(fields, outcome.fields, BACTOOL_FIELD_OBJECT);
  *         if (object != NULL)
- *             printf("object %u:%u\n", (unsigned)(object->number >> 22), (unsigned)(object->number & 0x3FFFFF));
+ *             printf("object %" PRIu32 ":%" PRIu32 "\n", BACTOOL_OBJECT_TYPE(object->number),
+ *                    BACTOOL_OBJECT_INSTANCE(object->number));
  *     }
  */
 uint32_t bactool_decode(const uint8_t *octets, size_t length, uint8_t *out, size_t room, struct bactool_field *fields,
@@ -267,27 +398,28 @@ uint32_t bactool_decode(const uint8_t *octets, size_t length, uint8_t *out, size
 
 /* Returns the first of `count` fields with this name, or NULL. */
 static inline const struct bactool_field *bactool_find(const struct bactool_field *fields, size_t count,
-                                                       enum bactool_name name)
+                                                       enum bactool_field_name name)
 {
     for (size_t i = 0; i < count; i++)
-        if (fields[i].name == (uint32_t)name)
+        if (fields[i].name == BACTOOL_CAST(uint32_t, name))
             return &fields[i];
     return NULL;
 }
 
 /*
  * Writes, at the front of `out`, the canonical octets of the frame that `count` fields say: the way back from
- * bactool_decode. The fields come in the order of the text, and each has its name and its number. Those with contents
- * by their name, such as a string or an address, have `length` octets of them in `octets`, from `place` + `head` on;
- * docs/FORMATS.md has the table. In any other field `place`, `head` and `length` count for nothing. So the fields and
- * the octets that bactool_decode writes give the same octets again, and fields of one's own may have 0 there.
+ * bactool_decode. The fields come in the order of the text, and each has its name and its number. If its name has
+ * contents, these are `length` octets of `octets`, from `place` + `head` on. In any other field `place`, `head` and
+ * `length` do not matter. So the fields and the octets that bactool_decode writes yield the same octets again, and a
+ * field that a program makes may have 0 there.
  *
  *   BACTOOL_OK          they are written: `count` is their number
  *   BACTOOL_NO_ROOM     `room` is too small for them: nothing is written, and `count` is their number
  *   BACTOOL_REFUSED     the fields are those of no frame: `place` is the index of the first field with which no frame's
- *                       fields continue, and `why` says what of it is at fault. It is BACTOOL_SHORT, and `place` is the
- *                       number of the fields, if the fields only end too early; and BACTOOL_TRAILING if the fields
- *                       before that one are already all of a frame
+ *                       fields continue, and `why` is what is wrong with it: BACTOOL_BAD_NAME, BACTOOL_BAD_NUMBER or
+ *                       BACTOOL_BAD_CONTENTS, or BACTOOL_TRAILING if the fields before it are already all of a frame
+ *                       and no frame continues with a field of this name.
+ *                       If the fields end too early, `place` is `count`, and `why` is BACTOOL_SHORT
  *   BACTOOL_NO_MEMORY   memory was refused
  *
  *     #define SAY(name, number) {BACTOOL_FIELD_##name, number, 0, 0, 0}
@@ -295,44 +427,67 @@ static inline const struct bactool_field *bactool_find(const struct bactool_fiel
  *     const struct bactool_field request[] = {
  *         SAY(NETWORK_PRIORITY, 0), SAY(REPLY_EXPECTED, 1), SAY(CONFIRMED_REQUEST, 0), SAY(INVOKE_ID, 1),
  *         SAY(SEGMENTED_ACCEPTED, 0), SAY(MAX_SEGMENTS, 0), SAY(MAX_RESPONSE, 5), SAY(READ_PROPERTY, 12),
- *         SAY(OBJECT, 5), SAY(PROPERTY, 85),
+ *         SAY(OBJECT, BACTOOL_OBJECT(0, 5)), SAY(PROPERTY, 85),
  *     };
  *     uint8_t out[1497];
  *     if (bactool_encode(request, 10, NULL, 0, out, sizeof out, &outcome) == BACTOOL_OK)
  *         send(socket, out, outcome.count, 0);
  *
- * sends 01 04 00 05 01 0C 0C 00 00 00 05 19 55, which asks for the present value of analog input 5. With these fields it
- * is answered, by the Real 72.3:
+ * sends 01 04 00 05 01 0C 0C 00 00 00 05 19 55, which asks for the present value (85) of analog input 5. These fields
+ * answer it with the Real 72.3:
  *
  *     const struct bactool_field answer[] = {
  *         SAY(NETWORK_PRIORITY, 0), SAY(REPLY_EXPECTED, 0), SAY(COMPLEX_ACK, 0), SAY(INVOKE_ID, 1),
- *         SAY(READ_PROPERTY, 12), SAY(OBJECT, 5), SAY(PROPERTY, 85), SAY(VALUE, 0), SAY(REAL, 0x4290999A),
- *         SAY(VALUE_END, 0),
+ *         SAY(READ_PROPERTY, 12), SAY(OBJECT, BACTOOL_OBJECT(0, 5)), SAY(PROPERTY, 85), SAY(VALUE, 0),
+ *         SAY(REAL, 0x4290999A), SAY(VALUE_END, 0),
  *     };
  *
- * And a WriteProperty that was read is written with another priority:
+ * An answer to ReadPropertyMultiple has a list of objects, each with a list of results. Each list and each item begins
+ * and ends with a field. Here property 85 of analog input 33 has a value, and property 103 has an error, class 2 and
+ * code 32:
+ *
+ *     const struct bactool_field results[] = {
+ *         SAY(NETWORK_PRIORITY, 0), SAY(REPLY_EXPECTED, 0), SAY(COMPLEX_ACK, 0), SAY(INVOKE_ID, 241),
+ *         SAY(READ_PROPERTY_MULTIPLE, 14),
+ *         SAY(RESULTS, 0),
+ *             SAY(ITEM, 0), SAY(OBJECT, BACTOOL_OBJECT(0, 33)),
+ *                 SAY(RESULTS, 0),
+ *                     SAY(ITEM, 0), SAY(PROPERTY, 85),
+ *                         SAY(VALUE, 0), SAY(REAL, 0x4290999A), SAY(VALUE_END, 0),
+ *                     SAY(ITEM_END, 0),
+ *                     SAY(ITEM, 0), SAY(PROPERTY, 103),
+ *                         SAY(PROPERTY_ERROR, 0), SAY(ERROR_CLASS, 2), SAY(ERROR_CODE, 32), SAY(PROPERTY_ERROR_END, 0),
+ *                     SAY(ITEM_END, 0),
+ *                 SAY(LIST_END, 0),
+ *             SAY(ITEM_END, 0),
+ *         SAY(LIST_END, 0),
+ *     };
+ *
+ * A WriteProperty that was read is written with another priority:
  *
  *     uint8_t canonical[1497];
- *     struct bactool_field fields[256];
- *     if (bactool_decode(octets, length, canonical, sizeof canonical, fields, 256, &outcome) == BACTOOL_OK) {
+ *     static struct bactool_field fields[BACTOOL_MOST_FIELDS(1497)];
+ *     if (bactool_decode(octets, length, canonical, sizeof canonical, fields, BACTOOL_MOST_FIELDS(1497), &outcome)
+ *         == BACTOOL_OK) {
  *         for (size_t i = 0; i < outcome.fields; i++)
  *             if (fields[i].name == BACTOOL_FIELD_PRIORITY)
  *                 fields[i].number = 9;
  *         bactool_encode(fields, outcome.fields, canonical, outcome.count, out, sizeof out, &outcome);
  *     }
  *
- * `examples/c/fields.c` is a whole program.
+ * bactool_helpers.h makes such fields with less writing. `examples/c/fields.c` is a whole program.
  */
 uint32_t bactool_encode(const struct bactool_field *fields, size_t count, const uint8_t *octets, size_t length,
                         uint8_t *out, size_t room, struct bactool_outcome *outcome);
 
 /*
- * Writes, at the front of `out`, the text of the frame that the octets spell, as `bactool show` prints it: one line,
+ * Writes, at the front of `out`, the text of the frame that the octets encode, as `bactool show` prints it: one line,
  * without a line feed and without a NUL. To learn its length first, call with room 0.
  *
  *   BACTOOL_OK          the text is written: `count` is the number of its octets
  *   BACTOOL_NO_ROOM     `room` is too small for the text: nothing is written, and `count` is the number of its octets
- *   BACTOOL_REFUSED     the octets are refused: `why` and `place`
+ *   BACTOOL_REFUSED     no frame: `why`, and `place` is the offset of the first octet that no frame has there, or
+ *                       `length` with BACTOOL_SHORT
  *   BACTOOL_NO_MEMORY   memory was refused
  *
  *     if (bactool_show(octets, length, NULL, 0, &outcome) == BACTOOL_NO_ROOM) {
@@ -345,14 +500,14 @@ uint32_t bactool_encode(const struct bactool_field *fields, size_t count, const 
 uint32_t bactool_show(const uint8_t *octets, size_t length, char *out, size_t room, struct bactool_outcome *outcome);
 
 /*
- * Writes, at the front of `out`, the canonical octets of the frame whose text is passed: the way back from bactool_show.
- * The text is accepted exactly as bactool_show writes it, with the same blanks, digits and letters, without a line feed
- * and without a NUL. To learn how much room is needed, call with room 0.
+ * Writes, at the front of `out`, the canonical octets of the frame that has this text: the way back from bactool_show.
+ * A text is accepted exactly as bactool_show writes it, with the same blanks, digits and letters, without a line feed
+ * and without a NUL. To learn how many octets there are, call with room 0.
  *
  *   BACTOOL_OK          they are written: `count` is their number
  *   BACTOOL_NO_ROOM     `room` is too small for them: nothing is written, and `count` is their number
- *   BACTOOL_REFUSED     no frame has this text: `place` is the offset of the first octet that no text has there, and `why`
- *                       is BACTOOL_BAD_TEXT; or `place` is `length` and `why` BACTOOL_SHORT if the text ends too early
+ *   BACTOOL_REFUSED     no frame has this text: `why` is BACTOOL_BAD_TEXT, and `place` is the offset in the text of the
+ *                       first octet that no frame's text has there; or `why` is BACTOOL_SHORT, and `place` is `length`
  *   BACTOOL_NO_MEMORY   memory was refused
  *
  *     const char text[] = "prio=0 reply=0 unconf Who-Is";
@@ -363,12 +518,15 @@ uint32_t bactool_show(const uint8_t *octets, size_t length, char *out, size_t ro
 uint32_t bactool_read(const char *text, size_t length, uint8_t *out, size_t room, struct bactool_outcome *outcome);
 
 /*
- * Compares the frames that two inputs spell, each in any spelling. The inputs may be the same memory.
+ * Compares the frames that two inputs encode, each in any encoding. The inputs may be the same memory.
  *
- *   BACTOOL_OK             both inputs spell the same frame
- *   BACTOOL_DIFFERENT      they spell different frames
- *   BACTOOL_LEFT_REFUSED   the left input spells none: `why` and `place`
- *   BACTOOL_RIGHT_REFUSED  the left input spells a frame and the right one spells none: `why` and `place`
+ *   BACTOOL_OK             both inputs encode the same frame
+ *   BACTOOL_DIFFERENT      they encode different frames
+ *   BACTOOL_LEFT_REFUSED   the left input encodes no frame: `why`, and `place` is the offset in the left input of the
+ *                          first octet that no frame has there, or `left_length` with BACTOOL_SHORT
+ *   BACTOOL_RIGHT_REFUSED  the left input encodes a frame and the right one does not: `why`, and `place` is the offset
+ *                          in the right input of the first octet that no frame has there, or `right_length` with
+ *                          BACTOOL_SHORT
  *   BACTOOL_NO_MEMORY      memory was refused
  *
  *     bool same = bactool_same_meaning(sent, sent_length, seen, seen_length, &outcome) == BACTOOL_OK;
@@ -387,9 +545,9 @@ uint32_t bactool_same_meaning(const uint8_t *left, size_t left_length, const uin
 size_t bactool_reason(uint32_t why, char *out, size_t room);
 
 /*
- * Writes the word of the name with the number `name`, such as "object", at the front of `out`, if `room` is at least
- * its length. It is what the text of a frame has before the `=`, `(`, `{` or `:` of the field; a field that has no word
- * there has one that says what it is, such as "end". A room of 32 is enough for each word. Returns the length of the
+ * Writes the word of the field name with the number `name`, such as "object", at the front of `out`, if `room` is at
+ * least its length. The text of a frame has this word before the `=`, `(`, `{` or `:` of the field. A field without a
+ * word there has one that describes it, such as "end". A room of 32 is enough for each word. Returns the length of the
  * word, even if nothing is written, or 0 if no name has the number.
  *
  *     char word[32];
@@ -401,9 +559,9 @@ size_t bactool_name(uint32_t name, char *out, size_t room);
 uint32_t bactool_version(void);
 
 /*
- * The library itself needs an address even if there are no octets. These functions give it one for NULL. The calls
- * above go through them, by macros that take any expression as an argument, a compound literal too. A caller in another
- * language passes any address in place of NULL.
+ * The library itself needs an address even if there are no octets. These functions replace NULL by one. Macros with the
+ * names of the calls use them, and take any expression as an argument, a compound literal too. A call through a
+ * function pointer, or from another language, does not use them, and must pass some address in place of NULL.
  */
 static inline const uint8_t *bactool_octets(const uint8_t *octets)
 {
@@ -441,6 +599,12 @@ static inline uint32_t bactool_check_any(const uint8_t *octets, size_t length, b
     return bactool_check(bactool_octets(octets), length, strict, outcome);
 }
 
+static inline uint32_t bactool_head_any(const uint8_t *octets, size_t length, struct bactool_frame_head *head,
+                                        struct bactool_outcome *outcome)
+{
+    return bactool_head(bactool_octets(octets), length, head, outcome);
+}
+
 static inline uint32_t bactool_normalise_any(const uint8_t *octets, size_t length, uint8_t *out, size_t room,
                                              struct bactool_outcome *outcome)
 {
@@ -457,7 +621,8 @@ static inline uint32_t bactool_decode_any(const uint8_t *octets, size_t length, 
 static inline uint32_t bactool_encode_any(const struct bactool_field *fields, size_t count, const uint8_t *octets,
                                           size_t length, uint8_t *out, size_t room, struct bactool_outcome *outcome)
 {
-    return bactool_encode(bactool_said(fields), count, bactool_octets(octets), length, bactool_room(out), room, outcome);
+    return bactool_encode(bactool_said(fields), count, bactool_octets(octets), length, bactool_room(out), room,
+                          outcome);
 }
 
 static inline uint32_t bactool_show_any(const uint8_t *octets, size_t length, char *out, size_t room,
@@ -489,6 +654,7 @@ static inline size_t bactool_name_any(uint32_t name, char *out, size_t room)
 }
 
 #define bactool_check(...) bactool_check_any(__VA_ARGS__)
+#define bactool_head(...) bactool_head_any(__VA_ARGS__)
 #define bactool_normalise(...) bactool_normalise_any(__VA_ARGS__)
 #define bactool_decode(...) bactool_decode_any(__VA_ARGS__)
 #define bactool_encode(...) bactool_encode_any(__VA_ARGS__)

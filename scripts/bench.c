@@ -1,3 +1,4 @@
+/* SPDX-License-Identifier: Apache-2.0 OR MIT */
 /*
  * The calls of libbactool on each record of a file of frames, for scripts/bench: `bench WORD ROUNDS FRAMES`, where the
  * word is show, check, normalise, decode or encode. It prints the least time that a round over all the records took, in

@@ -1,3 +1,4 @@
+/* SPDX-License-Identifier: Apache-2.0 OR MIT */
 /*
  * The line of `bactool show`, made of the fields of a frame and its canonical octets alone, by section 8 of
  * docs/FORMATS.md. scripts/try-library.c holds it against the line of the library: so the fields say all that the line

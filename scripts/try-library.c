@@ -1,3 +1,4 @@
+/* SPDX-License-Identifier: Apache-2.0 OR MIT */
 /*
  * Hostile use of libbactool, for scripts/try-library: `try-library COUNT [few] < FRAMES` tries each record of a file of
  * frames and then COUNT random inputs, in four threads, and for each that is accepted 8 times its fields with random
@@ -8,7 +9,9 @@
  * It is linked with --wrap for malloc and realloc, so that memory can be refused.
  */
 #define _GNU_SOURCE
+#include "drawn.h"
 #include "line-of-fields.h"
+#include "refused-memory.h"
 #include <bactool.h>
 #include <pthread.h>
 #include <stdio.h>
@@ -31,31 +34,8 @@ static _Atomic unsigned long faults;
             printf("try-library: line %d: %s\n", __LINE__, #holds);                  \
     } while (0)
 
-/* ---- memory that is refused: the allocation before which `left` is 0, alone or with all after it */
-
-static _Thread_local long left = -1;
-static _Thread_local bool alone, was_refused;
+/* How many allocations were refused. */
 static unsigned long refusals;
-
-void *__real_malloc(size_t size);
-void *__real_realloc(void *old, size_t size);
-
-static bool is_refused(void)
-{
-    if (left < 0)
-        return false;
-    if (left > 0) {
-        left--;
-        return false;
-    }
-    was_refused = true;
-    if (alone)
-        left = -1;
-    return true;
-}
-
-void *__wrap_malloc(size_t size) { return is_refused() ? NULL : __real_malloc(size); }
-void *__wrap_realloc(void *old, size_t size) { return is_refused() ? NULL : __real_realloc(old, size); }
 
 /* ---- memory before a page that must not be touched */
 
@@ -380,6 +360,41 @@ static size_t first_difference(const uint8_t *left, size_t left_length, const ui
     return k;
 }
 
+/* A head before a call, which fills in the whole of it. */
+static struct bactool_frame_head unknown_head(void)
+{
+    struct bactool_frame_head head;
+    memset(&head, KEPT, sizeof head);
+    return head;
+}
+
+/* The head of octets that are refused is that of the octets before the place. */
+static void try_refused_head(const uint8_t *octets, size_t length, struct bactool_outcome found)
+{
+    struct bactool_outcome told = UNTOLD;
+    struct bactool_frame_head head = unknown_head(), front = unknown_head();
+    EXPECT(bactool_head(octets, length, &head, &told) == BACTOOL_REFUSED && says(told, found.why, found.place, 0));
+    EXPECT(head.known <= BACTOOL_KNOWN_ALL && head.contents <= found.place);
+    EXPECT((head.known == BACTOOL_KNOWN_NOTHING) == (found.place < 2));
+    uint32_t code = bactool_head(octets, found.place, &front, &told);
+    EXPECT(code == BACTOOL_OK || (code == BACTOOL_REFUSED && says(told, BACTOOL_SHORT, found.place, 0)));
+    EXPECT((code == BACTOOL_OK) == (found.why == BACTOOL_TRAILING));
+    EXPECT(memcmp(&head, &front, sizeof head) == 0);
+}
+
+/* The head of octets that are accepted is that of the canonical octets, and says what their first fields say. */
+static void try_accepted_head(const uint8_t *octets, size_t length, const uint8_t *canonical, size_t canonical_length)
+{
+    struct bactool_outcome told = UNTOLD;
+    struct bactool_frame_head head = unknown_head(), same = unknown_head();
+    EXPECT(bactool_head(octets, length, &head, &told) == BACTOOL_OK && says(told, 0, 0, 0));
+    EXPECT(head.known == BACTOOL_KNOWN_ALL && head.contents <= length);
+    EXPECT(head.priority == (octets[1] & 3u) && head.reply == (octets[1] >> 2 & 1u));
+    EXPECT((head.pdu == BACTOOL_PDU_MESSAGE) == (octets[1] >> 7 == 1));
+    EXPECT(bactool_head(canonical, canonical_length, &same, &told) == BACTOOL_OK && says(told, 0, 0, 0));
+    EXPECT(memcmp(&head, &same, sizeof head) == 0);
+}
+
 /* Octets that are refused: every call says so alike, and writes nothing. */
 static void try_refused(struct bench bench, const uint8_t *octets, size_t length, struct bactool_outcome found)
 {
@@ -387,6 +402,7 @@ static void try_refused(struct bench bench, const uint8_t *octets, size_t length
     EXPECT(BACTOOL_SHORT <= found.why && found.why <= BACTOOL_DEPTH);
     EXPECT(found.place <= length && (found.why == BACTOOL_SHORT) == (found.place == length));
     EXPECT(bactool_check(octets, length, true, &told) == BACTOOL_REFUSED && says(told, found.why, found.place, 0));
+    try_refused_head(octets, length, found);
     uint8_t *out = cleared(bench.out, length);
     EXPECT(normalise(octets, length, out, length, &told) == BACTOOL_REFUSED && says(told, found.why, found.place, 0));
     EXPECT(show(octets, length, out, length, &told) == BACTOOL_REFUSED && says(told, found.why, found.place, 0));
@@ -421,6 +437,7 @@ static void try_accepted(struct bench bench, const uint8_t *octets, size_t lengt
                         : strict == BACTOOL_REFUSED && says(told, BACTOOL_NOT_CANONICAL, place, 0));
     EXPECT(bactool_same_meaning(octets, length, canonical, canonical_length, &told) == BACTOOL_OK && says(told, 0, 0, 0));
     EXPECT(bactool_same_meaning(octets, length, octets, length, &told) == BACTOOL_OK && says(told, 0, 0, 0));
+    try_accepted_head(octets, length, canonical, canonical_length);
     try_rooms(bench, normalise, octets, length, canonical_length);
     EXPECT(show(octets, length, out, 0, &told) == BACTOOL_NO_ROOM && told.count > 0 && told.count < TEXT);
     try_rooms(bench, show, octets, length, told.count);
@@ -507,6 +524,28 @@ static void try_strings(struct bench bench)
     }
 }
 
+/* Texts whose first octet is no character by itself, each with each second octet. The first one begins no character, or
+   the second one continues none, or the line only ends too early. */
+static void try_second_octets(void)
+{
+    static const char head[] = "prio=0 reply=0 ack id=1 ReadProperty object=0:5 property=85 value={s:\"";
+    enum { START = sizeof head - 1 };
+    char line[START + 2];
+    memcpy(line, head, START);
+    for (unsigned octets = 0x8000; octets <= 0xFFFF; octets++) {
+        unsigned first = octets >> 8, second = octets & 0xFF;
+        unsigned least = first == 0xE0 ? 0xA0 : first == 0xF0 ? 0x90 : 0x80;
+        unsigned greatest = first == 0xED ? 0x9F : first == 0xF4 ? 0x8F : 0xBF;
+        bool begins = 0xC2 <= first && first <= 0xF4, continues = least <= second && second <= greatest;
+        size_t place = begins ? START + 1 + continues : START;
+        struct bactool_outcome told = UNTOLD;
+        line[START] = (char)first;
+        line[START + 1] = (char)second;
+        EXPECT(bactool_read(line, sizeof line, NULL, 0, &told) == BACTOOL_REFUSED);
+        EXPECT(says(told, place == sizeof line ? BACTOOL_SHORT : BACTOOL_BAD_TEXT, place, 0));
+    }
+}
+
 /* A long frame with as many fields as there can be: a ReadPropertyMultiple-ACK with an object and as many properties as
    have room, each with an empty value. */
 static void try_most_fields(struct bench bench)
@@ -527,6 +566,38 @@ static void try_most_fields(struct bench bench)
     EXPECT(tells(told, 0, 0, length, fields));
 }
 
+/* A WriteProperty with priority 17, which no frame has at place 21, from device 0A on network 7. */
+static void try_heads(void)
+{
+    static const uint8_t request[] = {0x01, 0x0C, 0x00, 0x07, 0x01, 0x0A, 0x00, 0x05, 0x03, 0x0F, 0x0C, 0x00, 0x40,
+                                      0x00, 0x01, 0x19, 0x55, 0x3E, 0x44, 0x42, 0xC8, 0x00, 0x00, 0x3F, 0x49, 0x11};
+    struct bactool_outcome told = UNTOLD;
+    struct bactool_frame_head head = unknown_head();
+    EXPECT(bactool_head(request, sizeof request, &head, &told) == BACTOOL_REFUSED);
+    EXPECT(says(told, BACTOOL_CONTENT, 25, 0));
+    EXPECT(head.known == BACTOOL_KNOWN_ALL && head.reply == 1 && head.priority == 0);
+    EXPECT(head.destination.there == 0 && head.hops == 0);
+    EXPECT(head.source.there == 1 && head.source.network == 7 && head.source.place == 5 && head.source.length == 1);
+    EXPECT(head.pdu == BACTOOL_PDU_CONFIRMED && head.invoke == 3 && head.choice == 15 && head.contents == 10);
+    EXPECT(head.segmented == 0 && head.more == 0 && head.sequence == 0 && head.window == 0 && head.reason == 0);
+    EXPECT(bactool_head(request, 9, &head, &told) == BACTOOL_REFUSED && says(told, BACTOOL_SHORT, 9, 0));
+    EXPECT(head.known == BACTOOL_KNOWN_ADDRESSES && head.source.network == 7 && head.invoke == 0 && head.contents == 0);
+    EXPECT(bactool_head(request, 5, &head, &told) == BACTOOL_REFUSED && says(told, BACTOOL_SHORT, 5, 0));
+    EXPECT(head.known == BACTOOL_KNOWN_CONTROL && head.reply == 1 && head.source.there == 0);
+    EXPECT(bactool_head(NULL, 0, &head, &told) == BACTOOL_REFUSED && says(told, BACTOOL_SHORT, 0, 0));
+    EXPECT(head.known == BACTOOL_KNOWN_NOTHING && head.reply == 0);
+
+    /* A segment of a ComplexACK, and more follow; and a message of vendor 260. */
+    static const uint8_t segment[] = {0x01, 0x00, 0x3C, 0x05, 0x02, 0x04, 0x0E, 0x01};
+    EXPECT(bactool_head(segment, sizeof segment, &head, &told) == BACTOOL_OK && says(told, 0, 0, 0));
+    EXPECT(head.pdu == BACTOOL_PDU_COMPLEX_ACK && head.segmented == 1 && head.more == 1 && head.invoke == 5);
+    EXPECT(head.sequence == 2 && head.window == 4 && head.choice == 14 && head.contents == 7);
+    static const uint8_t message[] = {0x01, 0x80, 0x80, 0x01, 0x04, 0xFF};
+    EXPECT(bactool_head(message, sizeof message, &head, &told) == BACTOOL_OK && says(told, 0, 0, 0));
+    EXPECT(head.pdu == BACTOOL_PDU_MESSAGE && head.message == 128 && head.vendor == 260 && head.contents == 5);
+    EXPECT(head.invoke == 0 && head.choice == 0);
+}
+
 static void try_edges(struct bench bench)
 {
     static uint8_t zeros[LONGEST], longest[LONGEST] = {0x01, 0x00, 0x10, 0x09};
@@ -536,6 +607,8 @@ static void try_edges(struct bench bench)
     try_most_fields(bench);
     try_values(bench);
     try_strings(bench);
+    try_second_octets();
+    try_heads();
 
     struct bactool_outcome told = UNTOLD;
     EXPECT(bactool_check(NULL, 0, false, &told) == BACTOOL_REFUSED && says(told, BACTOOL_SHORT, 0, 0));
@@ -682,14 +755,6 @@ static uint8_t file[1 << 20];
 static size_t file_length;
 static size_t records[4096], record_count;
 
-static uint64_t drawn(uint64_t *state)
-{
-    *state ^= *state << 13;
-    *state ^= *state >> 7;
-    *state ^= *state << 17;
-    return *state;
-}
-
 /* A record with a few octets changed, cut off or put in; or one time in eight octets by chance. */
 static size_t draw(uint64_t *state, uint8_t *input)
 {
@@ -790,7 +855,7 @@ static void try_fields(struct bench bench, const struct bactool_field *fields, s
     EXPECT(code == BACTOOL_NO_ROOM || (code == BACTOOL_REFUSED && says(front, BACTOOL_SHORT, fewer, 0)));
     if (told.place == most)
         return;
-    EXPECT((told.why == BACTOOL_TRAILING) == whole);
+    EXPECT(whole ? told.why != BACTOOL_BAD_NAME : told.why != BACTOOL_TRAILING);
     code = bactool_encode(fields, told.place + 1, octets, length, NULL, 0, &front);
     EXPECT(code == BACTOOL_REFUSED && says(front, told.why, told.place, 0));
 }

@@ -1,3 +1,4 @@
+/* SPDX-License-Identifier: Apache-2.0 OR MIT */
 /*
  * Reports of each record of a frame file whether it is canonical, as `bactool check` does:
  *
@@ -5,7 +6,7 @@
  *     ./check < examples/every-kind.frames
  *
  * The status is 0 if each record is accepted, 1 if one is refused, and 2 if the input cannot be read or ends within a
- * record, if the output cannot be written, or if memory is refused.
+ * record, if the output cannot be written, if memory is refused, or if there is a word after the command.
  */
 #include <bactool.h>
 #include <stdio.h>
@@ -58,8 +59,12 @@ static int check(unsigned number, const uint8_t *frame, size_t length)
     }
 }
 
-int main(void)
+int main(int count, char **words)
 {
+    if (count > 1) {
+        fprintf(stderr, "check: unexpected word '%s'\nusage: check < FILE\n", words[1]);
+        return FAILED;
+    }
     static uint8_t frame[65535];
     size_t length = 0;
     int status = ACCEPTED;

@@ -1,3 +1,4 @@
+/* SPDX-License-Identifier: Apache-2.0 OR MIT */
 /*
  * Prints the values of a frame file: a line for each property in an answer to ReadProperty or ReadPropertyMultiple, or
  * in a COV notification, with the number of the record. Other records are passed over.
@@ -10,15 +11,14 @@
  * `error`.
  *
  * The status is 0 if each record is accepted, 1 if one is refused, and 2 if the input cannot be read or ends within a
- * record, if the output cannot be written, or if memory is refused.
+ * record, if the output cannot be written, if memory is refused, or if there is a word after the command.
  */
-#include <bactool.h>
+#include <bactool_helpers.h>
 #include <float.h>
 #include <inttypes.h>
 #include <math.h>
 #include <stdio.h>
 #include <stdlib.h>
-#include <string.h>
 
 enum { ACCEPTED = 0, REFUSED = 1, FAILED = 2, LONGEST = 65535 };
 
@@ -36,7 +36,7 @@ static int read_record(uint8_t *frame, size_t *length)
 
 static void print_object(uint64_t identifier)
 {
-    printf("%" PRIu64 ":%" PRIu64, identifier >> 22, identifier & 0x3FFFFF);
+    printf("%" PRIu32 ":%" PRIu32, BACTOOL_OBJECT_TYPE(identifier), BACTOOL_OBJECT_INSTANCE(identifier));
 }
 
 static void print_hex(const uint8_t *octets, size_t length)
@@ -46,11 +46,9 @@ static void print_hex(const uint8_t *octets, size_t length)
 }
 
 /* Prints no more digits than read back as the same number, and no fewer than the type always keeps. */
-static void print_real(uint32_t bits)
+static void print_float(float value)
 {
-    float value;
     char text[32];
-    memcpy(&value, &bits, sizeof value);
     for (int digits = FLT_DIG; digits <= FLT_DECIMAL_DIG; digits++) {
         snprintf(text, sizeof text, "%.*g", digits, value);
         if (strtof(text, NULL) == value)
@@ -59,11 +57,9 @@ static void print_real(uint32_t bits)
     printf("%s", isnan(value) ? "nan" : text);
 }
 
-static void print_double(uint64_t bits)
+static void print_double(double value)
 {
-    double value;
     char text[32];
-    memcpy(&value, &bits, sizeof value);
     for (int digits = DBL_DIG; digits <= DBL_DECIMAL_DIG; digits++) {
         snprintf(text, sizeof text, "%.*g", digits, value);
         if (strtod(text, NULL) == value)
@@ -72,52 +68,67 @@ static void print_double(uint64_t bits)
     printf("%s", isnan(value) ? "nan" : text);
 }
 
-/* Character set 0 is UTF-8, which is not checked here. Of another set the octets are printed. */
-static void print_text(uint64_t set, const uint8_t *octets, size_t length)
+/* Prints a text in quotes. It should be UTF-8, which is not checked here. */
+static void print_text(const char *text, size_t length)
 {
-    if (set != 0) {
-        printf("s%" PRIu64 ":", set);
-        print_hex(octets, length);
-        return;
-    }
     putchar('"');
     for (size_t k = 0; k < length; k++) {
-        bool is_plain = octets[k] >= 0x20 && octets[k] != '"' && octets[k] != '\\' && octets[k] != 0x7F;
-        printf(is_plain ? "%c" : "\\x%02X", octets[k]);
+        unsigned octet = (unsigned char)text[k];
+        bool is_plain = octet >= 0x20 && octet != '"' && octet != '\\' && octet != 0x7F;
+        printf(is_plain ? "%c" : "\\x%02X", octet);
     }
     putchar('"');
 }
 
-static void print_bits(uint64_t count, const uint8_t *octets)
+static void print_bits(const struct bactool_field *field, const uint8_t *octets)
 {
+    bool bit = false;
     printf("b:");
-    for (uint64_t k = 0; k < count; k++)
-        putchar(octets[k / 8] >> (7 - k % 8) & 1 ? '1' : '0');
+    for (uint64_t k = 0; bactool_as_bit(field, octets, k, &bit); k++)
+        putchar(bit ? '1' : '0');
+}
+
+/* Prints an element that has no number of a machine: its contents. */
+static void print_contents(const struct bactool_field *field, const uint8_t *octets)
+{
+    switch (field->name) {
+    case BACTOOL_FIELD_OCTET_STRING: printf("o:"); break;
+    case BACTOOL_FIELD_CHARACTER_STRING: printf("s%" PRIu64 ":", field->number); break;
+    case BACTOOL_FIELD_DATE: printf("D:"); break;
+    case BACTOOL_FIELD_TIME_OF_DAY: printf("T:"); break;
+    case BACTOOL_FIELD_CONTEXT_PRIMITIVE: printf("[%" PRIu64 "]", field->number); break;
+    }
+    print_hex(octets + field->place + field->head, field->length);
 }
 
 /* Prints an element of a value, or where a group in it begins or ends. */
-static void print_element(const struct bactool_field *field, const uint8_t *contents)
+static void print_element(const struct bactool_field *field, const uint8_t *octets)
 {
-    uint64_t number = field->number;
-    size_t length = field->length;
+    float real;
+    double wide;
+    int64_t integer;
+    const char *text;
+    size_t length;
     putchar(' ');
-    switch (field->name) {
-    case BACTOOL_FIELD_NULL: printf("null"); break;
-    case BACTOOL_FIELD_BOOLEAN: printf(number == 1 ? "true" : "false"); break;
-    case BACTOOL_FIELD_UNSIGNED: printf("%" PRIu64, number); break;
-    case BACTOOL_FIELD_SIGNED: printf("%" PRId64, (int64_t)number); break;
-    case BACTOOL_FIELD_REAL: print_real((uint32_t)number); break;
-    case BACTOOL_FIELD_DOUBLE: print_double(number); break;
-    case BACTOOL_FIELD_OCTET_STRING: printf("o:"), print_hex(contents, length); break;
-    case BACTOOL_FIELD_CHARACTER_STRING: print_text(number, contents, length); break;
-    case BACTOOL_FIELD_BIT_STRING: print_bits(number, contents); break;
-    case BACTOOL_FIELD_ENUMERATED: printf("%" PRIu64, number); break;
-    case BACTOOL_FIELD_DATE: printf("D:"), print_hex(contents, length); break;
-    case BACTOOL_FIELD_TIME_OF_DAY: printf("T:"), print_hex(contents, length); break;
-    case BACTOOL_FIELD_OBJECT_IDENTIFIER: print_object(number); break;
-    case BACTOOL_FIELD_CONTEXT_PRIMITIVE: printf("[%" PRIu64 "]", number), print_hex(contents, length); break;
-    case BACTOOL_FIELD_GROUP: printf("[%" PRIu64 "]{", number); break;
-    case BACTOOL_FIELD_GROUP_END: putchar('}'); break;
+    if (bactool_as_float(field, &real)) {
+        print_float(real);
+    } else if (bactool_as_double(field, &wide)) {
+        print_double(wide);
+    } else if (bactool_as_integer(field, &integer)) {
+        printf("%" PRId64, integer);
+    } else if (bactool_as_text(field, octets, &text, &length)) {
+        print_text(text, length);
+    } else {
+        switch (field->name) {
+        case BACTOOL_FIELD_NULL: printf("null"); break;
+        case BACTOOL_FIELD_BOOLEAN: printf(field->number == 1 ? "true" : "false"); break;
+        case BACTOOL_FIELD_UNSIGNED: printf("%" PRIu64, field->number); break; /* 2^63 or above */
+        case BACTOOL_FIELD_BIT_STRING: print_bits(field, octets); break;
+        case BACTOOL_FIELD_OBJECT_IDENTIFIER: print_object(field->number); break;
+        case BACTOOL_FIELD_GROUP: printf("[%" PRIu64 "]{", field->number); break;
+        case BACTOOL_FIELD_GROUP_END: putchar('}'); break;
+        default: print_contents(field, octets);
+        }
     }
 }
 
@@ -141,45 +152,35 @@ static bool has_values(const struct bactool_field *fields, size_t count)
         || bactool_find(fields, count, BACTOOL_FIELD_UNCONFIRMED_COV_NOTIFICATION) != NULL;
 }
 
-/* Prints a line for each value. Before it are its object, its property and, if there is one, its index. */
+/* Prints a line for each property with a value or an error. Its object comes first, and its index if there is one. */
 static void print_values(unsigned number, const uint8_t *octets, const struct bactool_field *fields, size_t count)
 {
-    const struct bactool_field *device = bactool_find(fields, count, BACTOOL_FIELD_DEVICE);
-    const struct bactool_field *object = NULL, *property = NULL, *index = NULL;
-    for (const struct bactool_field *field = fields; field < fields + count; field++) {
-        switch (field->name) {
-        case BACTOOL_FIELD_OBJECT: object = field; break;
-        case BACTOOL_FIELD_PROPERTY: property = field, index = NULL; break;
-        case BACTOOL_FIELD_INDEX: index = field; break;
-        case BACTOOL_FIELD_VALUE:
-        case BACTOOL_FIELD_PROPERTY_ERROR:
-            printf("%u", number);
-            print_part(device);
-            print_part(object);
-            print_part(property);
-            print_part(index);
-            printf(field->name == BACTOOL_FIELD_VALUE ? " value" : " error");
-            break;
-        case BACTOOL_FIELD_ERROR_CLASS:
-        case BACTOOL_FIELD_ERROR_CODE: print_part(field); break;
-        case BACTOOL_FIELD_VALUE_END:
-        case BACTOOL_FIELD_PROPERTY_ERROR_END: putchar('\n'); break;
-        default:
-            if (field->name >= BACTOOL_FIELD_GROUP)
-                print_element(field, octets + field->place + field->head);
-        }
+    const struct bactool_field *device = bactool_find(fields, count, BACTOOL_FIELD_DEVICE), *element;
+    struct bactool_property result = bactool_properties(fields, count);
+    while (bactool_next_property(&result)) {
+        printf("%u", number);
+        print_part(device);
+        print_part(result.object);
+        print_part(result.property);
+        print_part(result.index);
+        printf(result.has_value ? " value" : " error");
+        print_part(result.error_class);
+        print_part(result.error_code);
+        while ((element = bactool_next(&result.value)) != NULL)
+            print_element(element, octets);
+        putchar('\n');
     }
 }
 
 /* Prints the values of one record. Returns the status for it. */
 static int print_record(unsigned number, const uint8_t *frame, size_t length)
 {
-    /* There are never more canonical octets than were read, nor more than two fields for each of them and two more. */
+    /* There are never more canonical octets than were read. */
     static uint8_t octets[LONGEST];
-    static struct bactool_field fields[2 * LONGEST + 2];
+    static struct bactool_field fields[BACTOOL_MOST_FIELDS(LONGEST)];
     struct bactool_outcome outcome;
     char name[16];
-    switch (bactool_decode(frame, length, octets, sizeof octets, fields, 2 * length + 2, &outcome)) {
+    switch (bactool_decode(frame, length, octets, sizeof octets, fields, BACTOOL_MOST_FIELDS(length), &outcome)) {
     case BACTOOL_OK:
         if (has_values(fields, outcome.fields))
             print_values(number, octets, fields, outcome.fields);
@@ -194,8 +195,12 @@ static int print_record(unsigned number, const uint8_t *frame, size_t length)
     }
 }
 
-int main(void)
+int main(int count, char **words)
 {
+    if (count > 1) {
+        fprintf(stderr, "values: unexpected word '%s'\nusage: values < FILE\n", words[1]);
+        return FAILED;
+    }
     static uint8_t frame[LONGEST];
     size_t length = 0;
     int status = ACCEPTED, more = 0;

@@ -1,4 +1,4 @@
--- The lists that spell an APDU (clause 20.1).
+-- APDUs as values, and the lists that spell one (clause 20.1).
 use Rattle.std.specs.Prelude.{◌≡◌, ℕ, Bool, true, List, []}
 use Rattle.bac_tag.specs.Octets.{IsOctets}
 use Rattle.bac_service.specs.declared.kind.Kind.{Kind}
@@ -19,6 +19,7 @@ use Rattle.bac_apdu.specs.Reject.{reject_head}
 use Rattle.bac_apdu.specs.Abort.{abort_head}
 use Rattle.bac_apdu.specs.Segment.{segment_head}
 
+-- An APDU as a value.
 pub data ApduValue : Type 0 where
   confirmed_request : RequestHead → ServiceValue → ApduValue
   unconfirmed_request : ServiceValue → ApduValue
@@ -37,6 +38,7 @@ pub data ApduValue : Type 0 where
   -- of what, sequence number, window, whether more follow, service choice, piece
   segment : SegHead → ℕ → ℕ → Bool → ℕ → List ℕ → ApduValue
 
+-- The value of an APDU that a program holds.
 abbrev pub value_of : Apdu → ApduValue
 value_of (held.Confirmed request) = confirmed_request request.head (service_of request.service)
 value_of (held.Unconfirmed request) = unconfirmed_request (service_of request)
@@ -48,7 +50,7 @@ value_of (held.Reject invoke reason) = reject invoke reason
 value_of (held.Abort invoke srv reason) = abort invoke srv reason
 value_of (held.Segment part) = segment part.head part.seq part.window part.more part.choice part.piece.items
 
--- the octets in front of the service, the piece or the end
+-- The parts of the head of an APDU: the octets before the service, the piece or the end.
 abbrev pub head_of : ApduValue → List Part
 head_of (confirmed_request head service) = confirmed_request_head head service.choice
 head_of (unconfirmed_request service) = unconfirmed_request_head service.choice
@@ -60,11 +62,12 @@ head_of (reject invoke reason) = reject_head invoke reason
 head_of (abort invoke srv reason) = abort_head invoke srv reason
 head_of (segment head seq size more choice piece) = segment_head head seq size more choice
 
--- the lists that spell a service, whatever its choice
+-- The lists that spell a service of a kind, whatever its choice.
 abbrev pub SpellsServiceOf : Kind → ServiceValue → List ℕ → Type 0
 SpellsServiceOf of_kind service = SpellsService true 32 of_kind service.choice service
 
--- what stands behind the head
+-- The lists that spell what is after the head of an APDU. It is a service of the kind that the APDU carries and of the
+-- choice that its head has; or nothing; or the piece.
 abbrev pub SpellsBody : ApduValue → List ℕ → Type 0
 SpellsBody (confirmed_request head service) b = SpellsServiceOf kind.Confirmed service b
 SpellsBody (unconfirmed_request service) b = SpellsServiceOf kind.Unconfirmed service b
@@ -76,10 +79,11 @@ SpellsBody (reject invoke reason) b = b ≡ []
 SpellsBody (abort invoke srv reason) b = b ≡ []
 SpellsBody (segment head seq size more choice piece) b = (b ≡ piece) × IsOctets b
 
--- the lists that spell an APDU
+-- The lists that spell an APDU: its head, and after it its body.
 abbrev pub SpellsApdu : ApduValue → List ℕ → Type 0
 SpellsApdu apdu = Headed (head_of apdu) (SpellsBody apdu)
 
+-- The APDU is a segment.
 abbrev pub IsSegment : ApduValue → Type 0
 IsSegment (segment head seq size more choice piece) = Unit {0}
 IsSegment _ = ⊥

@@ -15,7 +15,7 @@ use Rattle.bac_service.specs.Services.{ServiceValue, value_of as service_of, Spe
 use Rattle.bac_apdu.specs.FirstOctet.{Behind, a_service, a_piece, nothing, HeadRow, row_of, type_at, seg_at, IsTypePlace, IsWindowPlace}
 use Rattle.bac_apdu.specs.Apdus.{ApduValue, confirmed_request, unconfirmed_request, simple_ack, complex_ack, segment_ack, error, reject, abort, segment, SpellsApdu}
 
--- a small APDU: one that ends behind its head, or that carries a small service
+-- Whether an APDU is small: it ends after its head, or it carries a small service.
 abbrev pub is_small : ApduValue → Bool
 is_small (confirmed_request head service) = is_small_service Confirmed service.choice
 is_small (unconfirmed_request service) = is_small_service Unconfirmed service.choice
@@ -27,41 +27,48 @@ is_small (reject invoke reason) = true
 is_small (abort invoke srv reason) = true
 is_small (segment head seq size more choice piece) = false
 
--- the same by what stands behind a head that begins with these octets
+-- Whether an APDU is small, by what is after the head that these octets begin with.
 abbrev pub small_behind : Behind → List ℕ → Bool
 small_behind (a_service kind place) octets = is_small_service kind (slice_index octets place)
 small_behind a_piece octets = false
 small_behind nothing octets = true
 
--- octets that begin no head are refused at once
+-- Whether an APDU is small, by the row of its head. It is true if no row is for it, since octets that begin no head are
+-- refused at once.
 abbrev pub small_by : Option HeadRow → List ℕ → Bool
 small_by None octets = true
 small_by (Some r) octets = small_behind r.behind octets
 
--- the same by the octets of a head, of a type and with this bit 3
+-- Whether an APDU is small, by the row for this type and this bit 3.
 abbrev pub small_of : ℕ → ℕ → List ℕ → Bool
 small_of type bit octets = small_by (row_of type bit) octets
 
+-- Whether octets begin a small APDU, by what the row of the first octet says is after the head. It is true also if no row
+-- is for the first octet.
 abbrev pub begins_small : List ℕ → Bool
 begins_small octets = small_of (type_at (slice_index octets 0)) (seg_at (slice_index octets 0)) octets
 
--- of an APDU: PduType, Window, or those of a service
+-- The reasons for which an APDU is refused: PduType, Window, or a reason of services.
 abbrev pub IsApduReason : Why → Type 0
 IsApduReason why = (why ≡ PduType) ⊎ ((why ≡ Window) ⊎ IsServiceReason why)
 
--- PduType is told exactly of a first octet of no type, and Window of an octet for a window that is none
+-- The reason of a refusal is one of IsApduReason, and PduType and Window are reported for their octets only. It is PduType
+-- exactly for a first octet of no type, and Window exactly for the octet of a window that is none. These are clauses of
+-- visit_apdu in one word, for the functions below it.
 pub record IsReasoned (octets : List ℕ) (refusal : Refusal) : Type 0 where
   pub of_type : (refusal.why ≡ PduType) ↔ IsTypePlace octets refusal.place
   pub of_window : (refusal.why ≡ Window) ↔ IsWindowPlace octets refusal.place
   pub others : IsApduReason refusal.why
 
--- the octets spell no APDU, or memory was refused, which is not told of a small one
+-- The octets spell no APDU, or memory was refused, and the reason is one by IsReasoned. If memory was refused, the place is
+-- 0, and the octets do not begin a small APDU. These are clauses of visit_apdu in one word, for the functions below it.
 pub record IsRefused (octets : List ℕ) (refusal : Refusal) : Type 0 where
   pub refused : refusal.why ≢ OutOfMemory → IsWholeRefusal SpellsApdu octets refusal
   pub memory : refusal.why ≡ OutOfMemory → (refusal.place ≡ 0) × (begins_small octets ≡ false)
   pub reasoned : IsReasoned octets refusal
 
--- made is what a visitor makes of the APDU that the octets spell, and of its mark
+-- The octets spell an APDU and have a mark, and a visitor makes made of both. The place of the visitor changes from old to
+-- new. visit_apdu says so.
 pub record IsMade {P M : Type 0} (makes : ApduValue → Option ℕ → P → P → M → Type 0) (octets : List ℕ) (old new : P) (made : M) : Type 0 where
   pub value : ApduValue
   pub mark : Option ℕ
@@ -69,11 +76,14 @@ pub record IsMade {P M : Type 0} (makes : ApduValue → Option ℕ → P → P �
   pub marked : HasMark (SpellsApdu value) octets mark
   pub made_of : makes value mark old new made
 
+-- The clauses of visit_apdu in one word, for the functions below it: IsMade of what is made; or IsRefused of the refusal,
+-- and the place of the visitor is as it was.
 abbrev pub IsVisited : {P M : Type 0} → (ApduValue → Option ℕ → P → P → M → Type 0) → List ℕ → P → P → Result M Refusal → Type 0
 IsVisited makes octets old new (Ok made) = IsMade makes octets old new made
 IsVisited makes octets old new (Err refusal) = IsRefused octets refusal × (new ≡ old)
 
--- a service behind a head with these least octets, and the mark of both
+-- After a head with these least octets is the service, and the mark is that of the head and the service together. These are
+-- clauses on a service after a head in one word, for the functions below visit_apdu.
 pub record IsServiceBehind (kind : Kind) (choice : ℕ) (octets head : List ℕ) (service : ServiceValue) (mark : Option ℕ) : Type 0 where
   pub spelled : SpellsService true 32 kind choice service (drop (length head) octets)
   pub first : Option ℕ
@@ -82,17 +92,23 @@ pub record IsServiceBehind (kind : Kind) (choice : ℕ) (octets head : List ℕ)
   pub of_service : HasMark (SpellsService true 32 kind choice service) (drop (length head) octets) second
   pub mark_is : mark ≡ joined_mark first (length head) second
 
--- no service behind the head
+-- After a head with these least octets is no service, or memory was refused, and the reason is one of services. If memory
+-- was refused, the place is 0, and the service is not small. These are clauses on a service after a head in one word, for
+-- the functions below visit_apdu.
 pub record IsRefusedBehind (kind : Kind) (choice : ℕ) (octets head : List ℕ) (refusal : Refusal) : Type 0 where
   pub refused : refusal.why ≢ OutOfMemory → (r : Refusal) × IsWholeRefusal (SpellsService true 32 kind choice) (drop (length head) octets) r × (refusal ≡ behind (length head) r)
   pub memory : refusal.why ≡ OutOfMemory → (refusal.place ≡ 0) × (is_small_service kind choice ≡ false)
   pub reason : IsServiceReason refusal.why
 
+-- The clauses on a service after a head in one word, for the functions below visit_apdu: IsServiceBehind of the service
+-- that is found, or IsRefusedBehind of the refusal.
 abbrev pub IsBehind : Kind → ℕ → List ℕ → List ℕ → Result (Service × Option ℕ) Refusal → Type 0
 IsBehind kind choice octets head (Ok found) = IsServiceBehind kind choice octets head (service_of found.0) found.1
 IsBehind kind choice octets head (Err refusal) = IsRefusedBehind kind choice octets head refusal
 
--- the octets end behind a head with these least octets, with the mark of both; or they do not
+-- The clauses on a head that nothing may follow, in one word, for the functions below visit_apdu. The octets end after a
+-- head with these least octets, and the mark is that of the octets against them. Or the octets continue, and they are
+-- refused with Trailing at the first octet after the head.
 abbrev pub IsEnded : List ℕ → List ℕ → Result (Option ℕ) Refusal → Type 0
 IsEnded octets head (Ok mark) = (length octets ≡ length head) × IsMark octets head mark
 IsEnded octets head (Err refusal) = (length head < length octets) × (refusal ≡ record { place = length head; why = Trailing })

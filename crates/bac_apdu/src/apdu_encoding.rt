@@ -13,7 +13,7 @@ use crate::simple_ack::append_simple_ack;
 use bac_tag::OutOfMemory;
 use std::alloc::Global;
 
-/// How many octets there is room for at first: as many as most APDUs need.
+/// The capacity of the vector at first: as many octets as most APDUs need.
 const FIRST_ROOM: usize = 64;
 
 /// Appends the canonical octets of an APDU, its least spelling, after what is in `out`.

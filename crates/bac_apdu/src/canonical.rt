@@ -11,8 +11,8 @@ use crate::unconfirmed_request::is_canonical_unconfirmed_request;
 use std::alloc::Global;
 
 /// Returns true if the octets are found at once to be the canonical ones of an APDU (clause 20.1) that carries a
-/// service. False says nothing about the octets: it is always returned for segments, for errors and for APDUs that end
-/// after their head.
+/// service. False is inconclusive: it is always returned for segments, for errors and for APDUs that end after their
+/// head.
 pub fn is_canonical_apdu(alloc: Global, octets: &[u8]) -> bool
     ensures { IsTrue result → IsCanonical SpellsApdu octets.now }
 {

@@ -98,8 +98,8 @@ impl ComplexAck {
     }
 }
 
-/// Returns true if the octets are found at once to be the canonical ones of an answer in one piece. False says nothing
-/// about the octets.
+/// Returns true if the octets are found at once to be the canonical ones of an answer in one piece. False is
+/// inconclusive.
 pub(crate) fn is_canonical_complex_ack(alloc: Global, octets: &[u8]) -> bool
     requires pdu { HasType 3 octets.now }
     requires whole { HasSeg 0 octets.now }

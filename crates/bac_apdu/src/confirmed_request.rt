@@ -21,7 +21,7 @@ use bac_tag::{OutOfMemory, Refusal, Why};
 use std::alloc::Global;
 use std::marker::Model;
 
-/// What the head of a request, in one piece or in segments, says besides its service choice.
+/// What the head of a request, in one piece or in segments, has besides its service choice.
 #[derive(Clone, Copy, Debug, PartialEq, Eq)]
 pub struct RequestHead {
     /// The invoke id, which the answer repeats.
@@ -145,8 +145,8 @@ fn read_head(first: u8, limits: u8, invoke: u8, choice: u8) -> (RequestHead, [u8
     (head, least)
 }
 
-/// Returns true if the octets are found at once to be the canonical ones of a request in one piece. False says nothing
-/// about the octets.
+/// Returns true if the octets are found at once to be the canonical ones of a request in one piece. False is
+/// inconclusive.
 pub(crate) fn is_canonical_confirmed_request(alloc: Global, octets: &[u8]) -> bool
     requires pdu { HasType 0 octets.now }
     requires whole { HasSeg 0 octets.now }

@@ -17,12 +17,12 @@
 //! it. The visitor is a type parameter, so each use has a decoder of its own, in which an APDU is moved no further than
 //! the use needs. [`decode_apdu_marked`] keeps both; bac_npdu has a visitor of its own. `is_canonical_apdu`
 //! (`canonical.rt`) finds that the octets of an APDU in one piece are canonical, by its head and by what bac_service
-//! says of the service, and decodes neither. [`append_apdu`] writes the same canonical head, and appends the service or
+//! reports of the service, and decodes neither. [`append_apdu`] writes the same canonical head, and appends the service or
 //! the piece to the same vector.
 //!
 //! In `specs` an APDU is a table: `head_of` (`Apdus.antt`) lists its octets, each a number, or flags without their free
 //! bits; `SpellsBody` says what follows them; `SpellsApdu` is both. The words of the table (`Part`, `Headed`) and those
-//! for what follows a head (`Behind`) are in bac_tag with their lemmas, since they say nothing of APDUs. One lemma over
+//! for what follows a head (`Behind`) are in bac_tag with their lemmas, since they are not about APDUs. One lemma over
 //! the table serves all APDUs: for the least octets, for the mark, and that two heads of one list agree.
 #![tactic(auto)]
 

@@ -36,7 +36,7 @@ pub(crate) fn decode_behind(
 }
 
 /// Returns true if the octets are found at once to be those of `head`, the canonical ones of a head, and after them the
-/// canonical ones of a service. False says nothing about the octets.
+/// canonical ones of a service. False is inconclusive.
 #[inline(always)]
 pub(crate) fn is_canonical_behind(
     alloc: Global,

@@ -86,8 +86,8 @@ impl UnconfirmedRequest {
     }
 }
 
-/// Returns true if the octets are found at once to be the canonical ones of a request that wants no answer. False says
-/// nothing about the octets.
+/// Returns true if the octets are found at once to be the canonical ones of a request that wants no answer. False is
+/// inconclusive.
 pub(crate) fn is_canonical_unconfirmed_request(alloc: Global, octets: &[u8]) -> bool
     requires { HasType 1 octets.now }
     ensures { IsTrue result → IsCanonical SpellsApdu octets.now }

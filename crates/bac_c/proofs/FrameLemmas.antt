@@ -42,7 +42,7 @@ module _ (few : (f : FrameValue) (c : List ℕ) → IsLeast (SpellsFrame f) c �
   filled_by canonical room frame was are false least p = p
 
   made_in_place : (octets : List ℕ) (room : ℕ) (was are : List Field) (made : Option Decoded) → IsMadeOfSome octets room was are made → IsInPlaceIfSome octets room was are made
-  made_in_place octets room was are None (frame, mark, spelled, marked, inl same) = same
+  made_in_place octets room was are None (frame, mark, spelled, marked, inl same) = (same, (frame, spelled))
   made_in_place octets room was are None (frame, mark, spelled, marked, inr unfit) = absurd (unfit.3 (fits frame unfit.0 (canonical_by frame octets mark unfit.0 marked unfit.1) (omega (arith, unfit.2))))
   made_in_place octets room was are (Some d) (frame, mark, spelled, marked, made) =
       let canonical = octets_or octets d.canonical in

@@ -15,7 +15,7 @@ use std::alloc::Global;
 
 /// Returns the mark of a frame, and keeps nothing of the frame.
 #[derive(Drop)]
-struct TellMark;
+pub(crate) struct TellMark;
 
 impl FrameVisitor for TellMark {
     type Place = ();

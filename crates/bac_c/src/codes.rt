@@ -18,7 +18,7 @@ pub const BACTOOL_LEFT_REFUSED: u32 = 4;
 /// The right one of two inputs spells no frame, and the left one does.
 pub const BACTOOL_RIGHT_REFUSED: u32 = 5;
 
-/// The room is too small, and nothing is written.
+/// A capacity is too small, and nothing is written.
 pub const BACTOOL_NO_ROOM: u32 = 6;
 
 /// Memory was refused, and nothing is written.

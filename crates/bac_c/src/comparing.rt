@@ -4,7 +4,7 @@ ghost use Rattle.std.specs.Prelude.{◌≡◌, ◌≢◌, ◌⊎◌};
 ghost use Rattle.bac_tag.specs.declared.refusals.Why.TheVariants.{OutOfMemory};
 ghost use Rattle.bac_tag.specs.Spelling.{IsSpelling};
 ghost use Rattle.bac_npdu_parts.specs.Frames.{SpellsFrame};
-ghost use Rattle.bac_npdu.specs.Meanings.{MeanTheSame};
+ghost use Rattle.bac_npdu.specs.Meanings.{IsShortOfMemory, MeanTheSame};
 ghost use Rattle.bac_c.specs.Outcomes.{IsHopeless, Tells, nothing, without_memory};
 
 use crate::{
@@ -38,7 +38,7 @@ fn side_code(side: Side, why: Why) -> u32
 /// - `BACTOOL_LEFT_REFUSED` if the left input spells none: `outcome` has why and where;
 /// - `BACTOOL_RIGHT_REFUSED` if the left input spells a frame and the right one spells none: `outcome` has why and
 ///   where;
-/// - `BACTOOL_NO_MEMORY` if memory is refused.
+/// - `BACTOOL_NO_MEMORY` if memory is refused, for octets that spell a frame or do not begin as a small one.
 #[unsafe(no_mangle)]
 pub extern "C" fn bactool_same_meaning(
     alloc: Global,
@@ -51,7 +51,7 @@ pub extern "C" fn bactool_same_meaning(
     ensures different { result ≡ BACTOOL_DIFFERENT → IsSpelling SpellsFrame left.now × IsSpelling SpellsFrame right.now × (MeanTheSame left.now right.now → ⊥) × (outcome.new ≡ nothing) }
     ensures left { result ≡ BACTOOL_LEFT_REFUSED → Tells (IsHopeless left.now) outcome.new }
     ensures right { result ≡ BACTOOL_RIGHT_REFUSED → IsSpelling SpellsFrame left.now × Tells (IsHopeless right.now) outcome.new }
-    ensures memory { result ≡ BACTOOL_NO_MEMORY → outcome.new ≡ without_memory }
+    ensures memory { result ≡ BACTOOL_NO_MEMORY → (IsShortOfMemory left.now ⊎ (IsSpelling SpellsFrame left.now × IsShortOfMemory right.now)) × (outcome.new ≡ without_memory) }
 {
     match same_meaning(alloc, left, right) {
         Ok(same) => {

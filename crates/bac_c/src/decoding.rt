@@ -1,6 +1,7 @@
 //! The canonical octets of a frame, and its fields.
 
 ghost use Rattle.std.specs.Prelude.{◌≡◌, ◌≢◌, ◌⊎◌, ◌↔◌, ◌≤◌, ◌+◌, ◌*◌, IsTrue, false, length};
+ghost use Rattle.bac_npdu.specs.Meanings.{IsShortOfMemory};
 ghost use Rattle.bac_c.specs.Outcomes.{IsDecoded, IsFront, IsHopeless, LacksEither, Tells, decoded, without_memory};
 ghost use Rattle.bac_c.specs.InPlace.{octets_or};
 
@@ -47,7 +48,8 @@ fn hand_out_both(frame: &Decoded, octets: &[u8], out: &mut [u8], outcome: &mut O
 /// - `BACTOOL_OK` if both are written: `outcome` has their numbers;
 /// - `BACTOOL_NO_ROOM` if `out` or `fields` is too short: nothing is written, and `outcome` has both numbers;
 /// - `BACTOOL_REFUSED` if the octets passed are refused: `outcome` has why and where;
-/// - `BACTOOL_NO_MEMORY` if memory is refused: nothing is written.
+/// - `BACTOOL_NO_MEMORY` if memory is refused, for octets that spell a frame or do not begin as a small one: nothing is
+///   written.
 #[unsafe(no_mangle)]
 pub extern "C" fn bactool_decode(
     alloc: Global,
@@ -62,7 +64,7 @@ pub extern "C" fn bactool_decode(
     ensures enough { length octets.now ≤ length out.old → 2 * length octets.now + 2 ≤ length fields.old → result ≢ BACTOOL_NO_ROOM }
     ensures unchanged { result ≢ BACTOOL_OK → (out.new ≡ out.old) × (fields.new ≡ fields.old) }
     ensures refused { result ≡ BACTOOL_REFUSED → Tells (IsHopeless octets.now) outcome.new }
-    ensures memory { result ≡ BACTOOL_NO_MEMORY → outcome.new ≡ without_memory }
+    ensures memory { result ≡ BACTOOL_NO_MEMORY → IsShortOfMemory octets.now × (outcome.new ≡ without_memory) }
 {
     canonical_octets_are_no_longer();
     frames_have_few_fields();

@@ -11,7 +11,7 @@ use crate::{BACTOOL_NO_MEMORY, BACTOOL_NO_ROOM, BACTOOL_OK, BACTOOL_REFUSED, Out
 use bac_fields::{Field, FieldRefusal, FieldWhy, append_octets};
 use std::alloc::Global;
 
-/// How many octets there is room for at first: as many as most frames need.
+/// For how many octets there is capacity at first: as many as most frames need.
 const FIRST_ROOM: usize = 64;
 
 /// What is reported if memory is refused.

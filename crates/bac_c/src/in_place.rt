@@ -5,6 +5,7 @@ ghost use Rattle.bac_tag.specs.declared.refusals.Why.TheVariants.{OutOfMemory as
 ghost use Rattle.bac_tag.specs.Spelling.{IsLeast};
 ghost use Rattle.bac_npdu_parts.specs.FrameHeads.{frame_with};
 ghost use Rattle.bac_npdu_parts.specs.Frames.{SpellsFrame, body_value};
+ghost use Rattle.bac_npdu.specs.Meanings.{IsShortOfMemory};
 ghost use Rattle.bac_fields.specs.FrameFields.{placed_fields, FrameFits};
 ghost use Rattle.bac_c.specs.Outcomes.{IsHopeless};
 ghost use Rattle.bac_c.specs.InPlace.{HasRoomFor, IsFilledIf, IsMadeOf, IsMadeOfSome, IsInPlaceIfSome, octets_or};
@@ -24,7 +25,7 @@ pub(crate) struct Decoded {
     canonical: Option<Vec<u8>>,
     /// How many fields the frame has.
     pub(crate) count: usize,
-    /// Whether the fields are written, and there is room for the canonical octets.
+    /// Whether the fields are written, and there is capacity for the canonical octets.
     pub(crate) are_written: bool,
 }
 
@@ -63,7 +64,7 @@ fn count_and_write(
 
 /// Writes the fields of the frame with this head and this body at the front of `fields`, if it is long enough and `room`
 /// is at least `size`, the number of the frame's canonical octets. Returns how many fields there are, and whether they are
-/// written. None if a number has no room.
+/// written. None if a number does not fit.
 ///
 /// If `fields` is long enough for every frame of so many octets, the fields are not counted first.
 #[inline(always)]
@@ -99,7 +100,7 @@ fn canonical_of(alloc: Global, head: &FrameHead<'_>, body: &Body, size: usize) -
     }
 }
 
-/// Writes the fields of the frame with this head and this body, which has `size` canonical octets, if they have room.
+/// Writes the fields of the frame with this head and this body, which has `size` canonical octets, if they fit.
 #[inline(always)]
 fn decode_canonical(
     head: &FrameHead<'_>,
@@ -121,7 +122,7 @@ fn decode_canonical(
 }
 
 /// Makes the canonical octets of the frame with this head and this body, which are at most `size`, and writes its fields if
-/// they have room.
+/// they fit.
 fn decode_tolerated(
     alloc: Global,
     head: &FrameHead<'_>,
@@ -164,10 +165,10 @@ fn decode_with_mark(
     }
 }
 
-/// Room for fields.
+/// A buffer for fields.
 #[derive(Drop)]
 struct FieldRoom<'a> {
-    /// The room that C passes. What is after the fields that are written stays as it was.
+    /// The buffer that C passes. What is after the fields that are written stays as it was.
     fields: &'a mut [Field],
 }
 
@@ -178,7 +179,7 @@ struct InPlace<'a> {
     alloc: Global,
     /// The octets that spell the frame.
     octets: &'a [u8],
-    /// How many octets there is room for.
+    /// For how many octets there is capacity.
     room: usize,
 }
 
@@ -214,7 +215,7 @@ fn visit_in_place(
 ) -> Result<Option<Decoded>, Refusal>
     ensures made { IfOk result (λ made. IsMadeOfSome octets.now room fields.old fields.new made) }
     ensures refused { IfErr result (λ refusal. refusal.why ≢ NoMemory → IsHopeless octets.now refusal) }
-    ensures memory { IfErr result (λ refusal. refusal.why ≡ NoMemory → refusal.place ≡ 0) }
+    ensures memory { IfErr result (λ refusal. refusal.why ≡ NoMemory → (refusal.place ≡ 0) × IsShortOfMemory octets.now) }
     ensures unchanged { OnErr result (fields.new ≡ fields.old) }
 {
     let mut places = FieldRoom { fields };
@@ -231,7 +232,7 @@ fn visit_in_place(
 }
 
 /// Makes the canonical octets of the frame that the octets spell, and writes its fields at the front of `fields` if they
-/// have room there and the canonical octets have, of which there may be `room`. None if memory is refused; then nothing is
+/// fit there and the canonical octets fit, of which there may be `room`. None if memory is refused; then nothing is
 /// written.
 pub(crate) fn decode_in_place(
     alloc: Global,
@@ -241,7 +242,7 @@ pub(crate) fn decode_in_place(
 ) -> Result<Option<Decoded>, Refusal>
     ensures made { IfOk result (λ made. IsInPlaceIfSome octets.now room fields.old fields.new made) }
     ensures refused { IfErr result (λ refusal. refusal.why ≢ NoMemory → IsHopeless octets.now refusal) }
-    ensures memory { IfErr result (λ refusal. refusal.why ≡ NoMemory → refusal.place ≡ 0) }
+    ensures memory { IfErr result (λ refusal. refusal.why ≡ NoMemory → (refusal.place ≡ 0) × IsShortOfMemory octets.now) }
     ensures unchanged { OnErr result (fields.new ≡ fields.old) }
 {
     frames_have_few_fields();

@@ -1,10 +1,10 @@
 //! The library for C. `include/bactool.h` declares these calls and says for a C program what they do.
 //!
-//! Each call uses one call of the library, but [`bactool_show`] two, and [`bactool_decode`] those that write a frame
-//! where it is decoded (`in_place.rt`). It repeats the contract of what it uses for what C passes and gets back: octets
-//! as a pointer and a length, an [`Outcome`] through a pointer, and one of the codes below as the result. A frame is
-//! one NPDU (clause 6 of the standard), with an APDU or a network message in it. No call keeps a pointer, has a state,
-//! or keeps memory after it returns, so any calls may run in any threads at the same time.
+//! Each call uses one call of the library, but [`bactool_show`] and [`bactool_head`] two, and [`bactool_decode`] those
+//! that write a frame where it is decoded (`in_place.rt`). It repeats the contract of what it uses for what C passes
+//! and gets back: octets as a pointer and a length, an [`Outcome`] through a pointer, and one of the codes below as the
+//! result. A frame is one NPDU (clause 6 of the standard), with an APDU or a network message in it. No call keeps a
+//! pointer, has a state, or keeps memory after it returns, so any calls may run in any threads at the same time.
 //!
 //! # How it works
 //!
@@ -19,12 +19,12 @@
 //! only this crate is proved once more.
 //!
 //! No crate can depend on a static library, so it is tried from outside. `scripts/try-library` runs the programs in
-//! `examples/c`, `examples/python` and `examples/rust` on the frames of `examples/every-kind.frames`, on files at
-//! fault, and on the rows of frames and texts in `crates/bac_vectors/data`, and compares what they write with what the
-//! program writes. `scripts/try-library.c` then uses the calls as a hostile caller may: every room up to the one that
-//! is needed, lengths 0 and 65,535, allocations that fail, random inputs in four threads, octets before a page that
-//! must not be touched, and fewer inputs under valgrind. The gate runs this with 4,000 random inputs, and
-//! `make try-library` with a million.
+//! `examples/c` on the frames of `examples/every-kind.frames`, on files at fault, and on the rows of frames and texts
+//! in `crates/bac_vectors/data`, and compares what they write with what the program writes; the packages for Python and
+//! Rust have scripts of their own, which do the same. `scripts/try-library.c` then uses the calls as a hostile caller
+//! may: every capacity up to the one that is needed, lengths 0 and 65,535, allocations that fail, random inputs in four
+//! threads, octets before a page that must not be touched, and fewer inputs under valgrind. The gate runs this with
+//! 4,000 random inputs, and `make try-library` with a million.
 #![tactic(auto)]
 
 mod checking;
@@ -34,6 +34,7 @@ mod decoding;
 mod encoding;
 mod field_names;
 mod in_place;
+mod knowing;
 mod normalising;
 mod outcomes;
 mod reading;
@@ -51,6 +52,7 @@ pub use comparing::bactool_same_meaning;
 pub use decoding::bactool_decode;
 pub use encoding::bactool_encode;
 pub use field_names::bactool_name;
+pub use knowing::bactool_head;
 pub use normalising::bactool_normalise;
 pub use outcomes::Outcome;
 pub use reading::bactool_read;

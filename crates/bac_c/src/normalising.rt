@@ -1,7 +1,7 @@
 //! The canonical octets of a frame.
 
 ghost use Rattle.std.specs.Prelude.{◌≡◌, ◌≢◌, ◌⊎◌, ◌≤◌, length};
-ghost use Rattle.bac_npdu.specs.Meanings.{IsNormalOf};
+ghost use Rattle.bac_npdu.specs.Meanings.{IsNormalOf, IsShortOfMemory};
 ghost use Rattle.bac_c.specs.Outcomes.{IsHopeless, IsWritten, LacksRoom, Tells, without_memory};
 
 use crate::writing::{hand_out, refuse};
@@ -16,7 +16,7 @@ use std::alloc::Global;
 /// - `BACTOOL_OK` if they are written: `outcome` has their number;
 /// - `BACTOOL_NO_ROOM` if `out` is too short for them: nothing is written, and `outcome` has their number;
 /// - `BACTOOL_REFUSED` if the octets passed are refused: `outcome` has why and where;
-/// - `BACTOOL_NO_MEMORY` if memory is refused.
+/// - `BACTOOL_NO_MEMORY` if memory is refused, for octets that spell a frame or do not begin as a small one.
 #[unsafe(no_mangle)]
 pub extern "C" fn bactool_normalise(
     alloc: Global,
@@ -30,7 +30,7 @@ pub extern "C" fn bactool_normalise(
     ensures enough { length octets.now ≤ length out.old → result ≢ BACTOOL_NO_ROOM }
     ensures unchanged { result ≢ BACTOOL_OK → out.new ≡ out.old }
     ensures refused { result ≡ BACTOOL_REFUSED → Tells (IsHopeless octets.now) outcome.new }
-    ensures memory { result ≡ BACTOOL_NO_MEMORY → outcome.new ≡ without_memory }
+    ensures memory { result ≡ BACTOOL_NO_MEMORY → IsShortOfMemory octets.now × (outcome.new ≡ without_memory) }
 {
     canonical_octets_are_no_longer();
     match normalise_frame(alloc, octets) {

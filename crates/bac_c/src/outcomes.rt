@@ -22,8 +22,8 @@ fn field_reason(why: FieldWhy) -> u32
     }
 }
 
-/// What a call reports beside its code: `struct bactool_outcome` in `include/bactool.h`. A field of which the code says
-/// nothing is 0.
+/// What a call reports beside its code: `struct bactool_outcome` in `include/bactool.h`. A member that does not apply to
+/// the code is 0.
 #[repr(C)]
 #[derive(Clone, Copy, Debug, PartialEq, Eq)]
 pub struct Outcome {
@@ -32,9 +32,9 @@ pub struct Outcome {
     /// The offset at which an input is refused, or at which it first differs from the canonical octets. Of fields that are
     /// refused, the index of one of them.
     pub place: usize,
-    /// The number of octets that are written, or that would be written if the room were not too small.
+    /// The number of octets that are written, or that would be written with enough capacity.
     pub count: usize,
-    /// The number of fields that are written, or that would be written if there were room for all.
+    /// The number of fields that are written, or that would be written with enough capacity.
     pub fields: usize,
 }
 

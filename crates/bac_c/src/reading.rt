@@ -11,7 +11,7 @@ use bac_lines::{LineFault, append_octets_of_line};
 use bac_tag::Refusal;
 use std::alloc::Global;
 
-/// How many octets there is room for at first: as many as most frames need.
+/// For how many octets there is capacity at first: as many as most frames need.
 const FIRST_ROOM: usize = 64;
 
 /// Returns the canonical octets of the frame that the line says.

@@ -2,6 +2,7 @@
 
 ghost use Rattle.std.specs.Prelude.{◌≡◌, ◌≢◌, ◌⊎◌, IfErr, IfOk};
 ghost use Rattle.bac_tag.specs.declared.refusals.Why.TheVariants.{OutOfMemory as NoMemory};
+ghost use Rattle.bac_npdu.specs.Meanings.{IsShortOfMemory};
 ghost use Rattle.bac_c.specs.Outcomes.{IsHopeless, IsTextOf, IsWritten, LacksRoom, Tells, without_memory};
 
 use crate::writing::{hand_out, refuse};
@@ -12,7 +13,7 @@ use bac_tag::{OutOfMemory, Refusal};
 use bac_text::layers::write_text_of;
 use std::alloc::Global;
 
-/// How many octets there is room for at first: as many as most texts need.
+/// For how many octets there is capacity at first: as many as most texts need.
 const FIRST_ROOM: usize = 256;
 
 /// Writes the text of a frame where it was decoded, so that the frame is not put together and moved.
@@ -50,7 +51,7 @@ impl FrameVisitor for Showing {
 fn text_of(alloc: Global, octets: &[u8]) -> Result<Vec<u8>, Refusal>
     ensures text { IfOk result (λ line. IsTextOf octets.now line.items) }
     ensures refused { IfErr result (λ refusal. refusal.why ≢ NoMemory → IsHopeless octets.now refusal) }
-    ensures memory { IfErr result (λ refusal. refusal.why ≡ NoMemory → refusal.place ≡ 0) }
+    ensures memory { IfErr result (λ refusal. refusal.why ≡ NoMemory → (refusal.place ≡ 0) × IsShortOfMemory octets.now) }
 {
     match visit_frame(alloc, octets, Showing { alloc }, &mut ())? {
         Ok(line) => Ok(line),
@@ -64,7 +65,7 @@ fn text_of(alloc: Global, octets: &[u8]) -> Result<Vec<u8>, Refusal>
 /// - `BACTOOL_NO_ROOM` if `out` is too short for the text: nothing is written, and `outcome` has the number of its
 ///   octets;
 /// - `BACTOOL_REFUSED` if the octets are refused: `outcome` has why and where;
-/// - `BACTOOL_NO_MEMORY` if memory is refused.
+/// - `BACTOOL_NO_MEMORY` if memory is refused, for octets that spell a frame or do not begin as a small one.
 #[unsafe(no_mangle)]
 pub extern "C" fn bactool_show(
     alloc: Global,
@@ -77,7 +78,7 @@ pub extern "C" fn bactool_show(
     ensures room { result ≡ BACTOOL_NO_ROOM → LacksRoom (IsTextOf octets.now) out.old outcome.new }
     ensures unchanged { result ≢ BACTOOL_OK → out.new ≡ out.old }
     ensures refused { result ≡ BACTOOL_REFUSED → Tells (IsHopeless octets.now) outcome.new }
-    ensures memory { result ≡ BACTOOL_NO_MEMORY → outcome.new ≡ without_memory }
+    ensures memory { result ≡ BACTOOL_NO_MEMORY → IsShortOfMemory octets.now × (outcome.new ≡ without_memory) }
 {
     match text_of(alloc, octets) {
         Ok(line) => hand_out(line.as_slice(), out, outcome),

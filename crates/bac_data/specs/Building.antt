@@ -4,39 +4,46 @@ use Rattle.std.specs.List.{AllByRecursion}
 use Rattle.bac_tag.specs.Spelling.{IsLeast}
 use Rattle.bac_data.specs.Events.{Event, Opens, SpellsEvents}
 
--- behind these events so many groups are open
+-- The events leave count groups open. They are possible if no group is open before them, and no more groups nest than the
+-- limit.
 abbrev pub HasOpen : ℕ → List Event → ℕ → Type 0
 HasOpen limit es count = (s : List ℕ) × Opens limit [] es s × (length s ≡ count)
 
--- behind these events the innermost open group has that number
+-- The events leave a group of that number as the innermost open one. They are possible if no group is open before them, and
+-- no more groups nest than the limit.
 abbrev pub IsInnermost : ℕ → List Event → ℕ → Type 0
 IsInnermost limit es number = (outer : List ℕ) × Opens limit [] es (number ∷ outer)
 
--- behind these events the groups with these numbers are open, the outermost first
+-- After the events, the groups with these numbers are open, the outermost first. At most 32 groups nest, and each number is
+-- at most 254.
 pub record AreOpen (es : List Event) (groups : List ℕ) : Type 0 where
   pub opened : Opens 32 [] es (reverse groups)
   pub numbers : AllByRecursion (λ number. number ≤ 254) groups
 
--- what a builder holds: the canonical octets of its events, how many these are, and the numbers of the open groups
+-- What a builder holds: the canonical octets of its events, how many events these are, and the numbers of the open groups.
 pub record IsBuilding (es : List Event) (octets : List ℕ) (count : ℕ) (groups : List ℕ) : Type 0 where
   pub least : IsLeast (SpellsEvents es) octets
   pub counted : count ≡ length es
   pub are_open : AreOpen es groups
 
--- What a reader keeps of the events so far: nothing while all octets were the canonical ones, else their canonical octets.
+-- What a reader keeps of the events so far: nothing if there is no mark, and else their canonical octets. There is no mark
+-- as long as all octets are the canonical ones.
 abbrev pub Keeps : Option ℕ → List Event → List ℕ → Type 0
 Keeps None es kept = kept ≡ []
 Keeps (Some place) es kept = IsLeast (SpellsEvents es) kept
 
--- the number that ends the innermost group, or the value, which has this one
+-- The number of the tag that ends the innermost open group, or the value if no group is open. The tags of the value have
+-- the number that is the first argument.
 abbrev pub closing_number : ℕ → List ℕ → ℕ
 closing_number number [] = number
 closing_number number (k ∷ s) = k
 
--- behind these events a group may begin where there is room, and the innermost group, or the value, has the closing number
+-- After the events, room is true exactly where fewer groups than the limit are open, and closing is the number that ends
+-- the innermost group, or the value. So room says whether a group may begin.
 abbrev pub IsPlace : ℕ → ℕ → List Event → Bool → ℕ → Type 0
 IsPlace limit number es room closing = (s : List ℕ) × Opens limit [] es s × (IsTrue room ↔ (length s < limit)) × (closing ≡ closing_number number s)
 
--- the event may follow
+-- The event may follow the events. They are possible together if no group is open before them, and no more groups nest than
+-- the limit.
 abbrev pub MayFollow : ℕ → List Event → Event → Type 0
 MayFollow limit es event = (s t : List ℕ) × Opens limit [] es s × Opens limit s (event ∷ []) t

@@ -4,7 +4,7 @@ use Rattle.bac_tag.specs.Octets.{IsMark}
 use Rattle.bac_tag.specs.Spelling.{IsLeast}
 use Rattle.bac_data.specs.Events.{Event, opening, SpellsEvents}
 
--- so many octets of the input, which spell the opening tag and these events, have the mark
+-- The mark is that of the octets before the place against the least octets that spell the opening tag and these events.
 pub record HasMark (number : ℕ) (input : List ℕ) (place : ℕ) (es : List Event) (mark : Option ℕ) : Type 0 where
   pub least : List ℕ
   pub is_least : IsLeast (SpellsEvents (opening number ∷ es)) least

@@ -1,4 +1,6 @@
--- What may stand next between the tags of an open value, as a reader meets it.
+-- What may be next between the tags of an open value, as a reader meets it. These are the words for one step of read_any.
+-- An item is what one step reads: a primitive with its contents as they are in the input, or a tag. An application
+-- primitive other than a Boolean also says whether its contents are those that are written of their value.
 use Rattle.std.specs.Prelude.{◌≡◌, ◌≢◌, ◌↔◌, ℕ, Bool, true, false, IsTrue, ◌≤◌, None, Some, List, [], ◌∷◌, ◌++◌, length, take}
 use Rattle.bac_tag.specs.declared.heads.TagHead.{TagHead}
 use Rattle.bac_tag.specs.declared.heads.TagHead.TheVariants.{App, AppBool, Ctx, Open, Close}
@@ -14,23 +16,25 @@ use Rattle.bac_data.specs.declared.items.Item.{Item}
 use Rattle.bac_data.specs.declared.items.Item.TheVariants as item
 use Rattle.bac_data.specs.Events.{Event, application, contextual, opening, closing, SpellsEvent}
 
--- the event may stand where a group can begin or not, and where the innermost group, or the value, has this number
+-- The event may be next where a reader is: an opening if room is true, a closing with this number, any primitive. room says
+-- whether a group can begin there. The number is that of the innermost group, or of the value if no group is open.
 abbrev pub MayStand : Bool → ℕ → Event → Type 0
 MayStand room number (application prim) = Unit {0}
 MayStand room number (contextual m octets) = Unit {0}
 MayStand room number (opening m) = IsTrue room
 MayStand room number (closing m) = m ≡ number
 
--- the lists that spell such an event
+-- The lists that spell an event that may be next where a reader is, by MayStand.
 pub record SpellsStanding (room : Bool) (number : ℕ) (event : Event) (b : List ℕ) : Type 0 where
   pub stands : MayStand room number event
   pub spelled : SpellsEvent event b
 
--- the heads of such events
+-- The heads of the openings that may be next, as expected heads: those of any number if room is true, and else none.
 abbrev pub group_heads : Bool → List Expected
 group_heads true = expected.Open None ∷ []
 group_heads false = []
 
+-- The heads of the events that may be next, as expected heads. group_heads are the openings among them.
 abbrev pub next_heads : Bool → ℕ → List Expected
 next_heads room number =
     expected.App 0 0 0
@@ -50,7 +54,7 @@ next_heads room number =
     ∷ expected.Close (Some number)
     ∷ group_heads room
 
--- the event that an item is
+-- The event that an item is.
 abbrev pub item_event : Item → Event
 item_event (item.Boolean bit) = application (Boolean (record { 0 = bit }))
 item_event (item.Application number contents written) = application (prim_of_contents number contents.now)
@@ -58,7 +62,7 @@ item_event (item.Context number octets) = contextual number octets.now
 item_event (item.Open number) = opening number
 item_event (item.Close number) = closing number
 
--- its contents as they lie there
+-- The contents of an item as they are in the input. A tag has none, and an application Boolean has none.
 abbrev pub item_contents : Item → List ℕ
 item_contents (item.Boolean bit) = []
 item_contents (item.Application number contents written) = contents.now
@@ -66,7 +70,7 @@ item_contents (item.Context number octets) = octets.now
 item_contents (item.Open number) = []
 item_contents (item.Close number) = []
 
--- the head above them
+-- The head before the contents of an item, with their length.
 abbrev pub item_head : Item → TagHead
 item_head (item.Boolean bit) = AppBool bit
 item_head (item.Application number contents written) = App number (length contents.now)
@@ -74,7 +78,8 @@ item_head (item.Context number octets) = Ctx number (length octets.now)
 item_head (item.Open number) = Open number
 item_head (item.Close number) = Close number
 
--- its contents are those of a value, its number is one of its kind; and it is told whether they are those that are written
+-- The contents of the item are those of a value, and its number is one of its kind. What an application primitive other
+-- than a Boolean says of its contents is right, which is whether they are those that are written of their value.
 abbrev pub IsItem : Item → Type 0
 IsItem (item.Boolean bit) = Unit {0}
 IsItem (item.Application number contents written) = (number ≤ 12) × (number ≢ 1) × ((prim : PrimitiveValue) × ContentsOf number prim contents.now) × (IsTrue written ↔ IsWrittenOf number contents.now)
@@ -82,24 +87,25 @@ IsItem (item.Context number octets) = (number ≤ 254) × IsOctetString octets.n
 IsItem (item.Open number) = number ≤ 254
 IsItem (item.Close number) = number ≤ 254
 
--- its contents are those that are written of its value
+-- If the item is an application primitive, its contents are those that are written of their value.
 abbrev pub HasLeastContents : Item → Type 0
 HasLeastContents (item.Application number contents written) = (prim : PrimitiveValue) → ContentsOf number prim contents.now → contents.now ≡ prim_written prim
 HasLeastContents _ = Unit {0}
 
--- the item lies at the front of the octets: so many of them are its head, and so many it takes with its contents
+-- The item is at the front of the octets: the first start octets spell its head, and with the contents after them it takes
+-- taken octets.
 pub record LiesInFront (item : Item) (start taken : ℕ) (octets : List ℕ) : Type 0 where
   pub within : start ≤ taken
   pub headed : Heads (item_head item) (take start octets)
   pub octets_are : take taken octets ≡ take start octets ++ item_contents item
 
--- it is an application primitive
+-- The item is an application primitive.
 abbrev pub IsApplication : Item → Type 0
 IsApplication (item.Boolean bit) = Unit {0}
 IsApplication (item.Application number contents written) = Unit {0}
 IsApplication _ = ⊥
 
--- an application primitive with a head of one octet lies there, and so many octets at the front are its canonical ones
+-- An application primitive is at the front with a head of one octet, and the first taken octets are its canonical ones.
 pub record BeginsLeast (item : Item) (taken : ℕ) (octets : List ℕ) : Type 0 where
   pub is_item : IsItem item
   pub primitive : IsApplication item

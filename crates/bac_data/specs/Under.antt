@@ -1,4 +1,4 @@
--- What stands under a head.
+-- What is under a head.
 use Rattle.std.specs.Prelude.{◌≡◌, ◌≢◌, ℕ, ◌≤◌, List, [], length}
 use Rattle.bac_tag.specs.declared.heads.TagHead.{TagHead}
 use Rattle.bac_tag.specs.declared.heads.TagHead.TheVariants.{App, AppBool, Ctx, Open, Close}
@@ -10,7 +10,7 @@ use Rattle.bac_value.specs.OctetStringContents.{IsOctetString}
 use Rattle.bac_value.specs.PrimContents.{application_number, PrimContents, ContentsOf}
 use Rattle.bac_data.specs.Events.{Event, application, contextual, opening, closing}
 
--- the contents that stand under a head, for an event
+-- The octets are contents that are under the head, for that event. A tag has none, and an application Boolean has none.
 abbrev pub Under : TagHead → Event → List ℕ → Type 0
 Under (App number len) e c = (prim : PrimitiveValue) × (e ≡ application prim) × (application_number prim ≡ number) × PrimContents prim c × (length c ≡ len)
 Under (AppBool bit) e c = (value : BooleanValue) × (e ≡ application (Boolean value)) × (value.0 ≡ bit) × (c ≡ [])
@@ -18,7 +18,7 @@ Under (Ctx number len) e c = (e ≡ contextual number c) × IsOctetString c × (
 Under (Open number) e c = (e ≡ opening number) × (c ≡ [])
 Under (Close number) e c = (e ≡ closing number) × (c ≡ [])
 
--- some contents can stand under the head
+-- Some contents can be under the head.
 abbrev pub HasContents : TagHead → Type 0
 HasContents (App number len) = (number ≤ 12) × (number ≢ 1) × IsBegun (ContentsOf number) [] len
 HasContents (AppBool bit) = Unit {0}

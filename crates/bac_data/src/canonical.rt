@@ -15,7 +15,7 @@ use bac_tag::{TagHead, read_head};
 use bac_value::layers::are_written;
 
 /// Returns the item with this head and with its contents at the front of the octets, and how many octets its contents
-/// have, if these contents are those that are written. None says nothing about the octets.
+/// have, if these contents are those that are written. None is inconclusive.
 fn written_under(head: TagHead, octets: &[u8]) -> Option<(Item<'_>, usize)>
     requires { HasContents head }
     ensures within { IfSome result (λ found. found.1 ≤ length octets.now) }
@@ -50,8 +50,8 @@ fn written_under(head: TagHead, octets: &[u8]) -> Option<(Item<'_>, usize)>
 }
 
 /// Returns the next item and how many octets it takes, if these are its canonical octets. `room` says whether a group
-/// may begin. `closing` is the number of the innermost group, or of the value if no group is open. None says nothing
-/// about the octets.
+/// may begin. `closing` is the number of the innermost group, or of the value if no group is open. None is
+/// inconclusive.
 fn least_item(octets: &[u8], room: bool, closing: u8) -> Option<(Item<'_>, usize)>
     ensures found { IfSome result (λ found. Takes (SpellsStanding room closing) octets.now (item_event found.0, found.1)) }
     ensures some { IfSome result (λ found. 0 < found.1) }
@@ -72,7 +72,7 @@ fn least_item(octets: &[u8], room: bool, closing: u8) -> Option<(Item<'_>, usize
 }
 
 /// Returns how many octets the open value (clause 20.2) at the front takes with its tags, if they are its canonical
-/// octets and each tag around it has one octet. None says nothing about the octets. `number` must be at most 254.
+/// octets and each tag around it has one octet. None is inconclusive. `number` must be at most 254.
 ///
 /// The call takes no memory, however long the value is.
 pub fn canonical_any_len(octets: &[u8], number: u8) -> Option<usize>

@@ -24,7 +24,7 @@ use bac_value::{
     Text, Time, Unsigned,
 };
 
-/// The next item in an open value: a primitive with its contents as they lie, or a tag.
+/// The next item in an open value: a primitive with its contents as they are in the input, or a tag.
 #[derive(Clone, Copy)]
 pub(crate) enum Item<'a> {
     /// An application Boolean.
@@ -172,7 +172,7 @@ fn begins_group(octets: &[u8]) -> bool
     }
 }
 
-/// Returns true if the head is found to be one that the next item may have. False says nothing about the head.
+/// Returns true if the head is found to be one that the next item may have. False is inconclusive.
 pub(crate) fn may_stand(head: TagHead, room: bool, closing: u8) -> bool
     requires { IsValid head }
     ensures { IsTrue result → FitsOne (next_heads room closing) head }
@@ -216,7 +216,7 @@ fn read_next_head(octets: &[u8], room: bool, closing: u8) -> Result<(TagHead, us
 /// the place of a refusal.
 ///
 /// # Errors
-/// As those of `bac_tag::read_one_of`; but `Depth` if a group begins and there is no room for one.
+/// As those of `bac_tag::read_one_of`; but `Depth` if a group begins and none may.
 fn read_listed_head(octets: &[u8], room: bool, closing: u8) -> Result<(TagHead, usize), Refusal>
     requires { closing ≤ 254 }
     ensures found { IfOk result (Takes (HeadsOfOne (next_heads room closing)) octets.now) }
@@ -232,8 +232,7 @@ fn read_listed_head(octets: &[u8], room: bool, closing: u8) -> Result<(TagHead, 
     }
 }
 
-/// Returns the refusal, but with the reason `Depth` if it is at the first octet, a group begins there and there is no
-/// room for one.
+/// Returns the refusal, but with the reason `Depth` if it is at the first octet, a group begins there and none may.
 fn told(refusal: Refusal, octets: &[u8], room: bool) -> Refusal
     requires { IsHeadReason refusal.why }
     ensures place { result.place ≡ refusal.place }
@@ -248,7 +247,7 @@ fn told(refusal: Refusal, octets: &[u8], room: bool) -> Refusal
 }
 
 /// Returns how many octets the application primitive at the front takes, if they are its canonical ones and its head
-/// has one octet. None says nothing about the octets.
+/// has one octet. None is inconclusive.
 #[inline(always)]
 pub(crate) fn least_primitive(octets: &[u8]) -> Option<usize>
     ensures within { IfSome result (λ taken. taken ≤ length octets.now) }

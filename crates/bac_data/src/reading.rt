@@ -124,7 +124,7 @@ fn keep_octets(octets: &[u8], mark: Option<usize>, kept: &mut Vec<u8>) -> Result
     Ok(())
 }
 
-/// Room for what follows the first octet that is not canonical. Most values have less.
+/// The capacity for what follows the first octet that is not canonical. Most values have less.
 const ROOM: usize = 48;
 
 /// Keeps the octets of the items before the first one that is not canonical.

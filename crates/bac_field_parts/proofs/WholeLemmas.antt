@@ -1,8 +1,9 @@
 -- Fields that are all of what a value says, and fields that are not.
-use Rattle.std.specs.Prelude.{◌≡◌, ◌≢◌, ℕ, ◌+◌, ◌*◌, ◌<◌, ◌≤◌, Bool, List, [], ◌∷◌, ◌++◌, length, take, drop, refl}
+use Rattle.std.specs.Prelude.{◌≡◌, ◌≢◌, ℕ, ◌+◌, ◌*◌, ◌<◌, ◌≤◌, Bool, Some, List, [], ◌∷◌, ◌++◌, length, take, drop, slice_get, refl}
 use Rattle.std.proofs.Common.{sym, ◌∙◌, ap, subst, arith, inl, inr, zero, suc, append_assoc}
 use Rattle.std.proofs.Math.Seq.{take-append-add, take-length}
 use Rattle.std.proofs.lemmas.Bool.{cases_lt}
+use Rattle.std.proofs.lemmas.Option.{slice_get_within}
 use Rattle.std.proofs.lemmas.List.{take-take, take-append-drop, length-take-le, append-nil, length-drop}
 use Rattle.bac_tag.specs.Spelling.{IsViable}
 use Rattle.bac_field_parts.specs.declared.field.Field.{Field}
@@ -10,7 +11,7 @@ use Rattle.bac_field_parts.specs.declared.field_refusal.FieldWhy.TheVariants.{Sh
 use Rattle.bac_field_parts.specs.declared.making.Part.{Part}
 use Rattle.bac_field_parts.specs.declared.making.Part.TheVariants as part
 use Rattle.bac_field_parts.specs.declared.making.Stop.{Stop}
-use Rattle.bac_field_parts.specs.Refused.{EndsWithThem, AreAllOfOne, BeginOne, field_symbols, MadeOfAll, IsRefusalOf, why_of}
+use Rattle.bac_field_parts.specs.Refused.{EndsWithThem, AreAllOfOne, BeginOne, field_symbols, MadeOfAll, IsRefusalOf, IsHopeless, before_part, through_part, why_of}
 use Rattle.bac_field_parts.specs.Symbols.{Symbol, named, numbered, containing, contents_in, finished, symbols_in, taken_symbols, part_place, place_of, Made, Language, IsStop}
 use Rattle.bac_field_parts.specs.Laws.Making.{symbols_after, symbols_length}
 
@@ -92,6 +93,34 @@ take_fields octets (f ∷ fields) (suc n) le =
     let e : 3 * suc n ≡ suc (suc (suc (3 * n))) = omega arith in
     rw e (ap (λ (l : List Symbol). named f.name ∷ numbered f.number ∷ containing (contents_in octets f) ∷ l) (take_fields octets fields n (omega (arith, le))))
 
+-- the first symbols of the fields, up to a part of one of them
+take_before : (octets : List ℕ) (fields : List Field) (n : ℕ) (field : Field) (p : Part) → Some field ≡ slice_get fields n
+    → take (3 * n + part_place p) (symbols_in octets fields) ≡ field_symbols octets (take n fields) ++ before_part p octets field
+take_before octets [] n field p is = absurd (cc)
+take_before octets (f ∷ fields) zero field p is = first p (cc)
+  where
+    first : (p : Part) → field ≡ f → take (3 * zero + part_place p) (symbols_in octets (f ∷ fields)) ≡ before_part p octets field
+    first part.Name same = refl
+    first part.Number same = rw same refl
+    first part.Contents same = rw same refl
+take_before octets (f ∷ fields) (suc n) field p is =
+    let e : 3 * suc n + part_place p ≡ suc (suc (suc (3 * n + part_place p))) = omega arith in
+    rw e (ap (λ (l : List Symbol). named f.name ∷ numbered f.number ∷ containing (contents_in octets f) ∷ l) (take_before octets fields n field p is))
+
+-- and with this part
+take_through : (octets : List ℕ) (fields : List Field) (n : ℕ) (field : Field) (p : Part) → Some field ≡ slice_get fields n
+    → take (3 * n + part_place p + 1) (symbols_in octets fields) ≡ field_symbols octets (take n fields) ++ through_part p octets field
+take_through octets [] n field p is = absurd (cc)
+take_through octets (f ∷ fields) zero field p is = first p (cc)
+  where
+    first : (p : Part) → field ≡ f → take (3 * zero + part_place p + 1) (symbols_in octets (f ∷ fields)) ≡ through_part p octets field
+    first part.Name same = rw same refl
+    first part.Number same = rw same refl
+    first part.Contents same = rw same refl
+take_through octets (f ∷ fields) (suc n) field p is =
+    let e : 3 * suc n + part_place p + 1 ≡ suc (suc (suc (3 * n + part_place p + 1))) = omega arith in
+    rw e (ap (λ (l : List Symbol). named f.name ∷ numbered f.number ∷ containing (contents_in octets f) ∷ l) (take_through octets fields n field p is))
+
 module _ {V : Type 0} (f : V → List Symbol) (S : V → List ℕ → Type 0) (octets : List ℕ) (fields : List Field) (s : Stop) (stop : IsStop (Language f S) (symbols_in octets fields) (place_of s)) (near : place_of s ≤ 3 * length fields) where
   index_within : s.index ≤ length fields
   index_within = omega (arith, near)
@@ -111,14 +140,27 @@ module _ {V : Type 0} (f : V → List Symbol) (S : V → List ℕ → Type 0) (o
       let there = subst (λ (l : List Symbol). IsViable (Language f S) l) (sym (take_fields octets fields (s.index + 1) (omega (arith, earlier)))) more in
       stop.furthest.ends (omega (arith, near, symbols_length octets fields)) (viable_front (Language f S) (symbols_in octets fields) (place_of s + 1) (3 * (s.index + 1)) (omega (arith, part_few s.part)) there)
 
+  no_value : AreAllOfOne f S octets fields → ⊥
+  no_value = are_of_none f S octets fields (place_of s) stop
+
+  -- the field there, if there is one
+  at_field : (field : Field) → Some field ≡ slice_get fields s.index → IsHopeless f S octets (take s.index fields) field s.part
+  at_field field is = record {
+    begins = subst (λ (l : List Symbol). IsViable (Language f S) l) (take_before octets fields s.index field s.part is) stop.furthest.begins;
+    ends = λ more.
+        stop.furthest.ends (omega (arith, part_few s.part, symbols_length octets fields, slice_get_within fields s.index field (sym is)))
+        (subst (λ (l : List Symbol). IsViable (Language f S) l) (sym (take_through octets fields s.index field s.part is)) more);
+  }
+
   pub short_refused : s.index ≡ length fields → IsRefusalOf f S octets fields (record { index = s.index; why = Short })
   short_refused last = record {
     stopped = λ other. record {
+      none = no_value;
       within = index_within;
       begins = begins;
       ends = ends;
       hopeless = s.part;
-      stop = stop;
+      stop = at_field;
       short = (λ e. last, λ e. refl);
       trailing = (λ e. absurd (cc), λ t. absurd (omega (arith, t.0, last)));
       others = λ no. absurd (no refl);
@@ -133,16 +175,17 @@ module _ {V : Type 0} (f : V → List Symbol) (S : V → List ℕ → Type 0) (o
       | inr le ↦ (let same : s.index ≡ length fields = omega (arith, index_within, le) in absurd (before same))
     ]
 
-    pub trailing_refused : AreAllOfOne f S octets (take s.index fields) → IsRefusalOf f S octets fields (record { index = s.index; why = Trailing })
-    trailing_refused whole = record {
+    pub trailing_refused : s.part ≡ part.Name → AreAllOfOne f S octets (take s.index fields) → IsRefusalOf f S octets fields (record { index = s.index; why = Trailing })
+    trailing_refused name whole = record {
       stopped = λ other. record {
+        none = no_value;
         within = index_within;
         begins = begins;
         ends = ends;
         hopeless = s.part;
-        stop = stop;
+        stop = at_field;
         short = (λ e. absurd (cc), λ e. absurd (before e));
-        trailing = (λ e. (earlier, whole), λ t. refl);
+        trailing = (λ e. (earlier, whole, name), λ t. refl);
         others = λ no never. absurd (never refl);
       };
       memory = λ e. absurd (cc);
@@ -154,19 +197,24 @@ module _ {V : Type 0} (f : V → List Symbol) (S : V → List ℕ → Type 0) (o
     other_why part.Number = (λ e. absurd (cc), (λ e. absurd (cc), λ e. absurd (cc)))
     other_why part.Contents = (λ e. absurd (cc), (λ e. absurd (cc), λ e. absurd (cc)))
 
-    pub part_refused : (AreAllOfOne f S octets (take s.index fields) → ⊥) → IsRefusalOf f S octets fields (record { index = s.index; why = why_of s.part })
-    part_refused none =
+    -- what is hopeless, if it is no name after all the fields of a value
+    hopeless_refused : (AreAllOfOne f S octets (take s.index fields) → s.part ≡ part.Name → ⊥) → IsRefusalOf f S octets fields (record { index = s.index; why = why_of s.part })
+    hopeless_refused never =
         let other = other_why s.part in
         record {
           stopped = λ no_memory. record {
+            none = no_value;
             within = index_within;
             begins = begins;
             ends = ends;
             hopeless = s.part;
-            stop = stop;
+            stop = at_field;
             short = (λ e. absurd (other.0 e), λ e. absurd (before e));
-            trailing = (λ e. absurd (other.1.0 e), λ t. absurd (none t.1));
-            others = λ no never. refl;
+            trailing = (λ e. absurd (other.1.0 e), λ t. absurd (never t.1 t.2));
+            others = λ no trailing. refl;
           };
           memory = λ e. absurd (other.1.1 e);
         }
+
+    pub part_refused : (p : Part) → s.part ≡ p → (AreAllOfOne f S octets (take s.index fields) → p ≡ part.Name → ⊥) → IsRefusalOf f S octets fields (record { index = s.index; why = why_of p })
+    part_refused p same never = subst (λ (q : Part). IsRefusalOf f S octets fields (record { index = s.index; why = why_of q })) same (hopeless_refused (λ all name. never all (sym same ∙ name)))

@@ -1,9 +1,9 @@
--- The numbers of names.
+-- The numbers and the words of names.
 use Rattle.std.specs.Prelude.{ℕ, List, codes}
 use Rattle.bac_field_parts.specs.declared.names.Name.{Name}
 use Rattle.bac_field_parts.specs.declared.names.Name.TheVariants as name
 
--- They never change.
+-- The number of a name, as in section 8.4 of FORMATS. These numbers never change.
 abbrev pub number_of : Name → ℕ
 number_of name.NetworkPriority = 1
 number_of name.ReplyExpected = 2

@@ -17,27 +17,29 @@ use Rattle.bac_field_parts.specs.declared.names.Name.{Name}
 use Rattle.bac_field_parts.specs.declared.names.Name.TheVariants as name
 use Rattle.bac_field_parts.specs.Fields.{FieldValue, under_tag, under_type}
 
--- 0 or 1
+-- A truth value as a number, 0 or 1.
 abbrev pub truth : Bool → ℕ
 truth value = if value then 1 else 0
 
--- the 32 bits of an object identifier
+-- The 32 bits of an object identifier, as a number.
 abbrev pub object_number : Identifier → ℕ
 object_number object = object.kind * 2 ^ 22 + object.instance
 
--- a Boolean has no contents: its tag says which
+-- The field of a Boolean, which has no contents: its tag says which it is.
 abbrev pub boolean_field : Bool → FieldValue
 boolean_field value = record { name = name.Boolean; number = truth value; head = narrow_opening 0 1 (truth value); contents = [] }
 
--- the octet with the set belongs to the head
+-- The field of a character string. The octet with the set belongs to the head.
 abbrev pub text_field : TextValue → FieldValue
 text_field text = record { name = name.CharacterString; number = text.set; head = narrow_head 0 7 (length (text_octets text)) ++ text.set ∷ []; contents = text.octets }
 
--- the octet with the count of unused bits belongs to the head
+-- The field of a bit string. The octet with the count of unused bits belongs to the head.
 abbrev pub bits_field : List Bool → FieldValue
 bits_field bits =
     record { name = name.BitString; number = length bits; head = narrow_head 0 8 (1 + octets_for (length bits)) ++ (8 * octets_for (length bits) - length bits) ∷ []; contents = packed_bits bits }
 
+-- The field of a value of any primitive type, under its application tag, with a line for each type. Three of them are more than
+-- contents under a tag: boolean_field, text_field and bits_field.
 abbrev pub primitive_field : PrimitiveValue → FieldValue
 primitive_field (Null value) = under_type name.Null 0 0 []
 primitive_field (Boolean value) = boolean_field value.0
@@ -55,22 +57,26 @@ primitive_field (ObjectId object) = under_type name.ObjectIdentifier 12 (object_
 
 -- ---- numbers under tags
 
--- an Unsigned or an Enumerated under a context tag
+-- The field of a number, an Unsigned or an Enumerated, under a context tag.
 abbrev pub number_under : Name → ℕ → ℕ → FieldValue
 number_under name tag number = under_tag name tag number (least_number number)
 
+-- The field of a truth value under a context tag.
 abbrev pub truth_under : Name → ℕ → Bool → FieldValue
 truth_under name tag value = under_tag name tag (truth value) (truth value ∷ [])
 
+-- The field of an object under a context tag.
 abbrev pub object_under : Name → ℕ → Identifier → FieldValue
 object_under name tag object = under_tag name tag (object_number object) (identifier_octets object)
 
--- and under application tags
+-- The field of an Unsigned under its application tag.
 abbrev pub unsigned_field : Name → ℕ → FieldValue
 unsigned_field name number = under_type name 2 number (least_number number)
 
+-- The field of an Enumerated under its application tag.
 abbrev pub enumerated_field : Name → ℕ → FieldValue
 enumerated_field name number = under_type name 9 number (least_number number)
 
+-- The field of an object under its application tag.
 abbrev pub object_field : Name → Identifier → FieldValue
 object_field name object = under_type name 12 (object_number object) (identifier_octets object)

@@ -9,14 +9,14 @@ use crate::names::Name;
 /// Where the next field is written.
 #[derive(Clone, Copy)]
 pub struct Cursor {
-    /// How many fields are written, or would be if the room were longer.
+    /// How many fields are written, or would be if the buffer were longer.
     pub count: usize,
     /// The place in the frame after the octets of the last field.
     pub place: usize,
 }
 
-/// Writes a field if there is room for it, and returns where the next one goes. None if a number has no room in a
-/// `usize`.
+/// Writes a field if it fits in the buffer `room`, and returns where the next one goes. Returns None if a number does
+/// not fit in a `usize`.
 #[inline(always)]
 pub fn write_field(
     name: Name,
@@ -46,8 +46,8 @@ pub fn write_field(
     Some(end)
 }
 
-/// Writes a number that the octet holds which is `offset` octets further, if there is room for it, and returns where the
-/// next field goes. None if a number has no room in a `usize`.
+/// Writes a number that the octet holds which is `offset` octets further, if it fits in the buffer `room`, and returns
+/// where the next field goes. Returns None if a number does not fit in a `usize`.
 #[inline(always)]
 pub fn write_aside(
     offset: usize,

@@ -185,7 +185,7 @@ pub trait StringType: Drop {
         ensures none { result ≡ false → IsNoNumber number (λ value. SpellsPrimitive (prim value)) given };
 
     /// Returns what the contents of an element have before those of its field, which has the given number and so many
-    /// contents: nothing, or one octet. None if no value has so many.
+    /// contents: nothing, or one octet. Returns None if no value has so many.
     fn first(given: u64, size: usize) -> Option<Option<u8>>
         requires { size ≤ 1048576 }
         ensures { result ≡ first given size };

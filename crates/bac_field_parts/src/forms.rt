@@ -122,7 +122,7 @@ pub trait Holding: Drop {
     ghost inhabited: { IsInhabited spells };
 }
 
-/// Returns the contents of a field. None if they are not in the octets.
+/// Returns the contents of a field, or None if they are not in the octets.
 #[inline(always)]
 pub fn contents_of<'a>(field: &Field, octets: &'a [u8]) -> Option<&'a [u8]>
     ensures some { IfSome result (λ contents. has_contents field.now.name ≡ true → contents_in octets.now field.now ≡ Some contents.now) }

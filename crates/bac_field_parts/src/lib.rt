@@ -5,21 +5,22 @@
 //! # How it works
 //!
 //! A field (`field.rt`) has the number of its name (`names.rt`), a number, and the place of its octets. A
-//! [`Cursor`](cursor::Cursor) says how many fields are written and where the next octets are. A field for which there is
-//! no room is counted only.
+//! [`Cursor`](cursor::Cursor) says how many fields are written and where the next octets are. A field that does not
+//! fit in the buffer is only counted.
 //!
 //! The way back goes by the trait [`FromFields`](making::FromFields). A part appends the canonical octets of what a front
 //! of the fields says, straight from the fields, or reports the first field that is hopeless:
 //!
-//! | Part | Type | In |
-//! |---|---|---|
-//! | one field that says a value by its number | `One<F>`, where F is a `Form` | `forms.rt`; forms in `leaves.rt`, `values.rt`, `edges.rt` |
-//! | one field that says it by its number and its contents | `Held<H>`, where H is a `Holding` | `forms.rt`; in `leaves.rt`, `elements.rt` |
-//! | octets that no field says | `After`, `ClosedEnd` | `tagged.rt` |
-//! | one part after the other, a part that may be absent, one part or another, a list, the end | `(A, B)`, `Maybe`, `Either`, `Each`, `End` | `making.rt` |
-//! | a list after the number of its items | `Table` | `tables.rt` |
-//! | an element of an open value, a whole open value | | `elements.rt`, `groups.rt` |
-//! | a message, which is its parts | `Whole<M>`, where M is a `Message` | `whole.rt` |
+//! - one field that says a value by its number: `One<F>`, where F is a `Form`, in `forms.rt`; forms in `leaves.rt`,
+//!   `values.rt`, `edges.rt`
+//! - one field that says it by its number and its contents: `Held<H>`, where H is a `Holding`, in `forms.rt`; holdings in
+//!   `leaves.rt`, `elements.rt`
+//! - octets that no field says: `After`, `ClosedEnd`, in `tagged.rt`
+//! - one part after the other, a part that may be absent, one part or another, a list, the end: `(A, B)`, `Maybe`,
+//!   `Either`, `Each`, `End`, in `making.rt`
+//! - a list after the number of its items: `Table`, in `tables.rt`
+//! - an element of an open value, a whole open value: in `elements.rt`, `groups.rt`
+//! - a message, which is its parts: `Whole<M>`, where M is a `Message`, in `whole.rt`
 //!
 //! The octets of some heads are in another order than their fields. So their numbers are read before any octet is written
 //! (`numbers.rt`). The name of a field always says which part comes next, so nothing is read twice. Whether that holds is

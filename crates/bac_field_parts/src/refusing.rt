@@ -3,7 +3,7 @@
 ghost use Rattle.std.specs.Prelude.{◌≡◌, ◌≤◌, ◌*◌, length, IfOk, IfErr, IfSome, IsTrue, false};
 ghost use Rattle.bac_field_parts.specs.declared.field_refusal.FieldWhy.TheVariants as why;
 ghost use Rattle.bac_field_parts.specs.Symbols.{symbols_in, Language, IsStop, place_of};
-ghost use Rattle.bac_field_parts.specs.Refused.{EndsWithThem, AreAllOfOne, MadeOfAll, IsRefusalOf, why_of};
+ghost use Rattle.bac_field_parts.specs.Refused.{EndsWithThem, AreAllOfOne, MadeOfAll, IsRefusalOf};
 
 use crate::field::Field;
 use crate::field_refusal::{FieldRefusal, FieldWhy};
@@ -18,20 +18,6 @@ impl FieldRefusal {
         FieldRefusal {
             index: 0,
             why: FieldWhy::OutOfMemory,
-        }
-    }
-}
-
-impl FieldWhy {
-    /// Returns the reason if this of a field is hopeless.
-    #[inline(always)]
-    fn of_part(part: Part) -> FieldWhy
-        ensures { result ≡ why_of part }
-    {
-        match part {
-            Part::Name => FieldWhy::Name,
-            Part::Number => FieldWhy::Number,
-            Part::Contents => FieldWhy::Contents,
         }
     }
 }
@@ -82,10 +68,14 @@ fn why_stopped<P: FromFields>(
         let why = FieldWhy::Short;
         return FieldRefusal { index, why };
     }
-    let why = match are_all(part, &fields[..index], octets, out) {
-        Some(true) => FieldWhy::Trailing,
-        Some(false) => FieldWhy::of_part(stop.part),
-        None => return FieldRefusal::out_of_memory(),
+    let why = match stop.part {
+        Part::Number => FieldWhy::Number,
+        Part::Contents => FieldWhy::Contents,
+        Part::Name => match are_all(part, &fields[..index], octets, out) {
+            Some(true) => FieldWhy::Trailing,
+            Some(false) => FieldWhy::Name,
+            None => return FieldRefusal::out_of_memory(),
+        },
     };
     FieldRefusal { index, why }
 }

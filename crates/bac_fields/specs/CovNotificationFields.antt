@@ -8,11 +8,12 @@ use Rattle.bac_field_parts.specs.Fields.{FieldValue, Step, next, octet_field, li
 use Rattle.bac_field_parts.specs.PrimitiveFields.{object_under, number_under}
 use Rattle.bac_fields.specs.PropertyFields.{property_value_steps}
 
--- a notification is one of the two kinds of request
+-- The field with the service choice of a notification, which is one of the two kinds of request.
 abbrev pub notification_field : Kind → FieldValue
 notification_field Confirmed = octet_field name.ConfirmedCovNotification 1
 notification_field _ = octet_field name.UnconfirmedCovNotification 2
 
+-- The steps of a notification of changed values.
 abbrev pub notification_steps : Kind → Notification → List Step
 notification_steps kind notification =
     next (notification_field kind) ∷ next (number_under name.Process 0 notification.process) ∷ next (object_under name.Device 1 notification.device)

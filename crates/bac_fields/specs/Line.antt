@@ -14,7 +14,7 @@ use Rattle.bac_field_parts.specs.declared.names.Name.TheVariants as name
 use Rattle.bac_field_parts.specs.Fields.{FieldValue}
 use Rattle.bac_field_parts.specs.Names.{word_of}
 
--- What is in the line for a field.
+-- What is in the line for a field. There are 21 forms, such as its word, word=number, word=TYPE:INSTANCE, or word:contents.
 pub data Form : Type 0 where
   -- its word; its word, an equals sign, and a number, an object, its contents, or a network and an address
   as_word as_number as_object as_octets as_address : Form
@@ -30,6 +30,7 @@ pub data Form : Type 0 where
   -- a text; a context tag and its contents
   as_text as_context : Form
 
+-- The form of the fields of a name, which is what is in the line for them.
 abbrev pub form_of : Name → Form
 form_of name.ConfirmedRequest = as_word
 form_of name.UnconfirmedRequest = as_word
@@ -91,10 +92,12 @@ form_of name.CharacterString = as_text
 form_of name.ContextPrimitive = as_context
 form_of _ = as_number
 
--- the object with these 32 bits
+-- The object with these 32 bits.
 abbrev pub object_of : ℕ → Identifier
 object_of bits = record { kind = bits / 2 ^ 22; instance = bits % 2 ^ 22 }
 
+-- What is in the line for a field in this form. It takes the name, the number and the contents of the field. It uses the same
+-- words as the text of bac_text: decimal numbers, objects, hexadecimal digits, the text of a character string.
 abbrev pub shown : Form → FieldValue → List ℕ
 shown as_word v = word_of v.name
 shown as_number v = word_of v.name ++ (codes "=" ++ number v.number)
@@ -118,7 +121,7 @@ shown as_identifier v = word_of v.name ++ (codes ":" ++ object_text (object_of v
 shown as_text v = string_text (record { set = v.number; octets = v.contents })
 shown as_context v = codes "[" ++ (number v.number ++ (codes "]" ++ hexadecimal v.contents))
 
--- what is next is the first of something that begins here
+-- Whether a field of this form begins something, so that what is next is the first of it.
 abbrev pub begins : Form → Bool
 begins as_list = true
 begins as_item = true
@@ -126,17 +129,18 @@ begins as_value = true
 begins as_group = true
 begins _ = false
 
--- A blank is before each field, but not before the first of something nor before an end.
+-- What is before a field: a blank, or nothing. Nothing is before the first of something and before an end.
 abbrev pub lead : Bool → Form → List ℕ
 lead first as_parenthesis = []
 lead first as_brace = []
 lead first _ = blank first
 
--- Fields, one after another, of which the first may be the first of something.
+-- What is shown of fields, one after another, of which the first may be the first of something.
 abbrev pub printed_from : Bool → List FieldValue → List ℕ
 printed_from first [] = []
 printed_from first (v ∷ vs) = (lead first (form_of v.name) ++ shown (form_of v.name) v) ++ printed_from (begins (form_of v.name)) vs
 
--- the line that has these fields
+-- The line that has these fields: what is shown of them, one after another, with a blank between two. No blank is before the
+-- first, before one that ends something, nor after one that begins something (lead, begins).
 abbrev pub printed : List FieldValue → List ℕ
 printed = printed_from true

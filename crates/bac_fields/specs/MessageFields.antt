@@ -8,30 +8,37 @@ use Rattle.bac_npdu_parts.specs.Messages.{MessageValue, who_is_router, i_am_rout
 use Rattle.bac_field_parts.specs.declared.names.Name.TheVariants as name
 use Rattle.bac_field_parts.specs.Fields.{Step, next, optional, word, octet_field, two_octets_field, octets_field, counted_field, counter_field, item_steps}
 
+-- The step of the type of a network message.
 abbrev pub type_step : ℕ → Step
 type_step kind = next (octet_field name.NetworkMessage kind)
 
+-- The step of a network.
 abbrev pub network_step : ℕ → Step
 network_step network = next (two_octets_field name.Network network)
 
+-- The step of a network of a list.
 abbrev pub listed_network_steps : ℕ → List Step
 listed_network_steps network = next (two_octets_field name.ListedNetwork network) ∷ []
 
+-- The steps of a list of networks.
 abbrev pub networks_steps : List ℕ → List Step
 networks_steps networks = next (word name.Networks) ∷ (flat_map listed_network_steps networks ++ next (word name.ListEnd) ∷ [])
 
+-- The steps of a port: its network, its number, and its octets of information after their number.
 abbrev pub port_steps : Port → List Step
 port_steps port = network_step port.network ∷ next (octet_field name.PortId port.id) ∷ next (counted_field name.PortInfo port.info) ∷ []
 
--- the octet with the number of ports is the head of the list
+-- The steps of a routing table. The octet with the number of ports is the head of the list.
 abbrev pub ports_steps : List Port → List Step
 ports_steps ports =
     next (counter_field name.Ports (length ports)) ∷ (flat_map (item_steps port_steps) ports ++ next (word name.ListEnd) ∷ [])
 
+-- The steps of an opaque message: its type, a vendor if it has one, and its octets.
 abbrev pub opaque_net_steps : OpaqueNetValue → List Step
 opaque_net_steps message =
     type_step message.kind ∷ (optional (two_octets_field name.Vendor) message.vendor ++ next (octets_field name.Data message.octets) ∷ [])
 
+-- The steps of a network message from its type on, with a line for each message.
 abbrev pub message_steps : MessageValue → List Step
 message_steps (who_is_router network) = type_step 0 ∷ optional (two_octets_field name.Network) network
 message_steps (i_am_router networks) = type_step 1 ∷ networks_steps networks

@@ -6,8 +6,9 @@ use Rattle.bac_field_parts.specs.Names.{number_of}
 use Rattle.bac_field_parts.specs.Fields.{Step, next, aside, pass, size_of}
 use Rattle.bac_field_parts.specs.Symbols.{has_contents}
 
--- An octet of the head of a frame or of an APDU holds the number of a field: in some of its bits, or as a whole. The
--- highest four bits of its first octet say which APDU it is.
+-- An octet of a head holds the number of a field of this name, in some of its bits or as a whole. The head is that of a frame
+-- or of an APDU. Where the field says which APDU it is, the highest four bits of the octet are the type of that APDU. That
+-- octet is the first one of the APDU.
 abbrev pub HoldsNumber : Name → ℕ → ℕ → Type 0
 HoldsNumber name.NetworkPriority number octet = octet % 4 ≡ number
 HoldsNumber name.ReplyExpected number octet = octet / 4 % 2 ≡ number
@@ -29,8 +30,9 @@ HoldsNumber name.Negative number octet = octet / 2 % 2 ≡ number
 HoldsNumber name.Server number octet = octet % 2 ≡ number
 HoldsNumber _ number octet = octet ≡ number
 
--- In the octets, from a place on: each field where the steps put it, and nothing after the last one. A number that an octet
--- holds is that of a field without contents.
+-- In the octets, from this place on, each field is where the steps put it. A field with octets of its own has its head and its
+-- contents there. A number that an octet further on holds is in that octet, and its field has no contents by its name
+-- (has_contents). After the last step there are no octets left.
 abbrev pub AreAt : List ℕ → ℕ → List Step → Type 0
 AreAt octets place [] = place ≡ length octets
 AreAt octets place (next v ∷ steps) = (take (size_of v) (drop place octets) ≡ v.head ++ v.contents) × AreAt octets (place + size_of v) steps

@@ -7,6 +7,8 @@ use Rattle.bac_field_parts.specs.PrimitiveFields.{object_under, number_under}
 use Rattle.bac_field_parts.specs.OpenValueFields.{open_steps}
 use Rattle.bac_fields.specs.PropertyFields.{property_steps}
 
+-- The steps of WriteProperty: the service choice, the object, the property and its index, the value, and
+-- a priority, if there is one.
 abbrev pub write_property_steps : WriteProperty → List Step
 write_property_steps request =
     next (octet_field name.WriteProperty 15) ∷ next (object_under name.Object 0 request.object)

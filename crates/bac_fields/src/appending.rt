@@ -15,7 +15,7 @@ use bac_tag::OutOfMemory;
 /// The first octet of a frame, before any field.
 const START: Cursor = Cursor { count: 0, place: 0 };
 
-/// What room is filled with before fields are written into it.
+/// What a buffer is filled with before fields are written into it.
 const BLANK: Field = Field {
     name: 0,
     number: 0,
@@ -24,7 +24,8 @@ const BLANK: Field = Field {
     length: 0,
 };
 
-/// Returns how many fields the frame with this head and this body has. None exactly if a number has no room in a `usize`.
+/// Returns how many fields the frame with this head and this body has. It returns None exactly if a number does not fit
+/// in a `usize`.
 fn count_fields(head: &FrameHead<'_>, body: &Body) -> Option<usize>
     ensures count { IfSome result (λ count. count ≡ length (placed_fields (frame_with head.now (body_value body.now)))) }
     ensures fits { IsSome result → FrameFits (frame_with head.now (body_value body.now)) }
@@ -33,7 +34,7 @@ fn count_fields(head: &FrameHead<'_>, body: &Body) -> Option<usize>
     Some(tell_frame(head, body, START, &mut [])?.count)
 }
 
-/// Writes the fields of the frame with this head and this body at the front of room for them.
+/// Writes the fields of the frame with this head and this body at the front of `room`, which has capacity for them.
 fn fill(head: &FrameHead<'_>, body: &Body, room: &mut [Field])
     requires room { length (placed_fields (frame_with head.now (body_value body.now))) ≤ length room.old }
     requires fits { FrameFits (frame_with head.now (body_value body.now)) }
@@ -44,8 +45,9 @@ fn fill(head: &FrameHead<'_>, body: &Body, room: &mut [Field])
     }
 }
 
-/// Writes the fields of the frame with this head and this body at the front of the room, if it has room for all of them.
-/// Returns how many they are. None exactly if a number has no room in a `usize`, which no frame in memory comes to.
+/// Writes the fields of the frame with this head and this body at the front of the buffer `room`, if all of them fit.
+/// Returns how many they are. It returns None exactly if a number does not fit in a `usize`, which no frame in memory
+/// comes to.
 pub fn write_fields(head: &FrameHead<'_>, body: &Body, room: &mut [Field]) -> Option<usize>
     ensures count { IfSome result (λ count. count ≡ length (placed_fields (frame_with head.now (body_value body.now)))) }
     ensures written { IfSome result (λ count. count ≤ length room.old → room.new ≡ placed_fields (frame_with head.now (body_value body.now)) ++ drop count room.old) }
@@ -60,9 +62,9 @@ pub fn write_fields(head: &FrameHead<'_>, body: &Body, room: &mut [Field]) -> Op
     Some(count)
 }
 
-/// Writes the fields of the frame with this head and this body at the front of the room, in one pass. Returns how many
-/// they are. If they are more than the room is long, it may hold some of them. None exactly if a number has no room in a
-/// `usize`, which no frame in memory comes to.
+/// Writes the fields of the frame with this head and this body at the front of the buffer `room`, in one pass. Returns
+/// how many they are. If not all of them fit, the buffer may hold some of them. It returns None exactly if a number does
+/// not fit in a `usize`, which no frame in memory comes to.
 pub fn write_fields_at_once(head: &FrameHead<'_>, body: &Body, room: &mut [Field]) -> Option<usize>
     ensures count { IfSome result (λ count. count ≡ length (placed_fields (frame_with head.now (body_value body.now)))) }
     ensures written { IfSome result (λ count. count ≤ length room.old → room.new ≡ placed_fields (frame_with head.now (body_value body.now)) ++ drop count room.old) }

@@ -54,7 +54,8 @@ pub fn frames_have_few_fields()
     ensures { (f : FrameValue) (c : List ℕ) → IsLeast (SpellsFrame f) c → length (placed_fields f) ≤ 2 * length c + 2 }
 {}
 
-/// If a `usize` has room for as many, each number of the fields has room in one.
+/// If a `usize` can hold twice the number of the canonical octets of a frame and two more, each number of its fields
+/// fits in one.
 pub fn frames_in_memory_fit()
     ensures { (f : FrameValue) (c : List ℕ) → IsLeast (SpellsFrame f) c → 2 * length c + 2 < 2 ^ 64 → FrameFits f }
 {}

@@ -16,15 +16,15 @@
 //! is written as nested pairs of its parts, as its definition in `specs` lists them. A message has a file in `specs` with
 //! the name of its type.
 //!
-//! A `Cursor` of bac_field_parts says how many fields are written and where the next octets are. A field for which there
-//! is no room is counted only. So the fields are counted by the same code, with no room at all (`append_fields` and
-//! `write_fields` in `appending.rt`), and written once their number is known. If a number had no room in a `usize`, a
-//! function would return None. Which numbers these are depends only on the steps (`Fits`), so the second pass succeeds if
-//! the first one did. A frame has at most two fields for each of its canonical octets, and two more. So
-//! `write_fields_at_once` needs no first pass where there is room for as many.
+//! A `Cursor` of bac_field_parts says how many fields are written and where the next octets are. A field that does
+//! not fit in the buffer is only counted. So the fields are counted by the same code, with an empty buffer
+//! (`append_fields` and `write_fields` in `appending.rt`), and written once their number is known. If a number did not
+//! fit in a `usize`, a function would return None. Which numbers these are depends only on the steps (`Fits`), so the
+//! second pass succeeds if the first one did. A frame has at most two fields for each of its canonical octets, and two
+//! more. So `write_fields_at_once` needs no first pass where as many fit in the buffer.
 //!
-//! The way back is next to the way out: in the file in which the fields of a message are told, its parts are listed once
-//! more, as a type that implements `Message` of bac_field_parts. Its octets are made by the parts of that crate. The
+//! The way back is next to the way out: in the file in which the fields of a message are listed, its parts are listed
+//! once more, as a type that implements `Message` of bac_field_parts. Its octets are made by the parts of that crate. The
 //! octets of a head are in another order than its fields, so its numbers are read first, and its octets written then
 //! (`headings.rt`, `frame_heads.rt`).
 //!
@@ -33,9 +33,9 @@
 //! `Laws`.
 //!
 //! The laws (`laws.rt`) say what the definitions have to do with each other: the line of a frame is its fields, printed
-//! (`Line.antt`), each field is where its place says (`Places.antt`), and the fields tell the frame. Their proofs go over
-//! the definitions type by type, in `LineLemmas.antt` and the files of names in `Lines`, in `PlaceLemmas.antt` and those
-//! in `Places`, and in `OneFrame.antt`.
+//! (`Line.antt`), each field is where its place says (`Places.antt`), and the fields determine the frame. Their proofs go
+//! over the definitions type by type, in `LineLemmas.antt` and the files of names in `Lines`, in `PlaceLemmas.antt` and
+//! those in `Places`, and in `OneFrame.antt`.
 #![tactic(auto)]
 
 mod apdus;

@@ -95,7 +95,7 @@ impl HasFields for NetMessage {
     }
 }
 
-/// Returns the type of the message that the fields say. None if the first one has another name than that of a type.
+/// Returns the type of the message that the fields say, or None if the first one has another name than that of a type.
 #[inline(always)]
 fn type_in(fields: &[Field]) -> Option<u64>
     ensures { result ≡ type_in fields.now }

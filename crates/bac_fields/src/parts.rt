@@ -14,8 +14,8 @@ pub(crate) trait HasFields {
     /// Its fields, and where their octets are.
     ghost steps: { Self → List Step };
 
-    /// Writes the fields into the room, as far as it goes, and returns where the next one goes. None if a number has no
-    /// room in a `usize`.
+    /// Writes as many of the fields as fit into the buffer `room`, and returns where the next one goes. Returns None if
+    /// a number does not fit in a `usize`.
     fn tell(&self, cursor: Cursor, room: &mut [Field]) -> Option<Cursor>
         ensures { Writes (steps self.now) room.old cursor room.new result };
 }

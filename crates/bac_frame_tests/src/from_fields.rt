@@ -1,7 +1,7 @@
 //! Of frames made of fields. If memory is refused, a call is made again, so that the tests can be run with each
 //! allocation refused in turn (`rt try --test --fail-alloc N`).
 
-use crate::expectations::{assert_joined, assert_same, copied};
+use crate::expectations::{assert_joined, assert_same, assert_same_of, assert_shown, copied};
 use bac_fields::{Field, FieldRefusal, FieldWhy, Name, append_octets, frame_of, laws};
 use bac_npdu::{Body, Frame};
 use std::alloc::Global;
@@ -77,6 +77,26 @@ fn frames_are_made_again_where_memory_was_refused(rt: HostRuntime) {
     assert_same(&rt, made(rt.alloc(), &fields[..3]).err(), Some(short));
     let frame = made(rt.alloc(), &fields[..4]).expect(&rt, "a frame");
     assert_same(&rt, matches!(frame.body, Body::Apdu(_)), true);
+}
+
+/// The reason has this number, and is shown by its name, and before the index of a field.
+fn is_named(rt: &impl Abort, alloc: Global, why: FieldWhy, number: u8, name: &str) {
+    assert_same_of(rt, why as u8, number, name);
+    assert_shown(rt, alloc, why, name);
+    let text = format!(in alloc; "{name} at field 4").expect(rt, "memory");
+    assert_shown(rt, alloc, FieldRefusal { index: 4, why }, &text);
+}
+
+// In the order of their enum, from 1 on. The names are those of section 8.5 of docs/FORMATS.md.
+#[test]
+fn reasons_have_numbers_and_names(rt: HostRuntime) {
+    let alloc = rt.alloc();
+    is_named(&rt, alloc, FieldWhy::Short, 1, "Short");
+    is_named(&rt, alloc, FieldWhy::Trailing, 2, "Trailing");
+    is_named(&rt, alloc, FieldWhy::Name, 3, "Name");
+    is_named(&rt, alloc, FieldWhy::Number, 4, "Number");
+    is_named(&rt, alloc, FieldWhy::Contents, 5, "Contents");
+    is_named(&rt, alloc, FieldWhy::OutOfMemory, 6, "OutOfMemory");
 }
 
 /// Values that are numbers, each said by that of a field.

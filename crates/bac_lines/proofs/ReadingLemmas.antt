@@ -4,6 +4,7 @@ use Rattle.std.proofs.Common.{◌∙◌, sym, ap, subst, get_or}
 use Rattle.std.proofs.lemmas.List.{append-nil, append_cancel_right}
 use Rattle.bac_tag.specs.Octets.{IsOctets}
 use Rattle.bac_tag.specs.Spelling.{IsLeast}
+use Rattle.bac_tag.specs.Laws.Spelling.{IsLeast-one}
 use Rattle.bac_npdu_parts.specs.Frames.{FrameValue, SpellsFrame}
 use Rattle.bac_npdu_parts.proofs.FrameLemmas.{behind_octets}
 use Rattle.bac_text.specs.FrameText.{text}
@@ -16,7 +17,7 @@ use Rattle.bac_fields.specs.Line.{printed}
 use Rattle.bac_fields.specs.Making.{AreFieldsOf, MadeOf, IsFieldRefusal}
 use Rattle.bac_field_parts.specs.Symbols.{Symbol, field_said, steps_said, symbols_in, finished}
 use Rattle.bac_lines.specs.declared.said.Said.{Said}
-use Rattle.bac_lines.specs.Lines.{IsRead, IsNoLine, IsFrame, SaysFrame}
+use Rattle.bac_lines.specs.Lines.{IsRead, IsOnlyLine, IsOnlyFrame, IsNoLine, IsFrame, SaysFrame}
 use Rattle.bac_lines.specs.Scanning.{AreTokens}
 use Rattle.bac_lines.specs.Found.{fields_said, AreScanned}
 use Rattle.bac_lines.proofs.FrameTokens.{frame_tokens}
@@ -32,6 +33,12 @@ pub frame_read : (line old new slice : List ℕ) (frame : FrameValue) → OneVal
 frame_read line old new slice frame one empty read same s =
     let more_is : slice ≡ read.appended.more = same ∙ read.appended.new_is ∙ ap (λ (l : List ℕ). l ++ read.appended.more) empty in
     (read.is_line ∙ ap text (one read.frame frame read.appended.more read.appended.is_least.member (subst (SpellsFrame frame) more_is s)), (slice, s))
+
+-- and it is each frame whose line it is
+pub frame_only : (line old new slice : List ℕ) (frame : FrameValue) → OneValue → old ≡ [] → IsOnlyLine line old new → slice ≡ new → SpellsFrame frame slice → IsOnlyFrame line frame
+frame_only line old new slice frame one empty only same s other octets least are is_line =
+    let is : slice ≡ octets = same ∙ only other octets least are is_line ∙ ap (λ (l : List ℕ). l ++ octets) empty in
+    one other frame octets least.member (subst (SpellsFrame frame) is s)
 
 -- ---- what is made
 
@@ -75,7 +82,7 @@ says_of line held old new listed said scanned contents_are fields_are prints sma
 -- fields that are those of no frame are not all those of one
 never_refused : (f : FrameValue) (c contents : List ℕ) (said : List Field) (refusal : FieldRefusal) → SpellsFrame f c → AreFieldsOf contents said f → refusal.why ≢ OutOfMemory → IsFieldRefusal contents said refusal → ⊥
 never_refused f c contents said refusal s are other r =
-    (r.stopped other).stop.none tt (symbols_in contents said) [] (sym (append-nil (symbols_in contents said))) (f, record { octets = c; spelled = s; is_said = are })
+    (r.stopped other).none (f, record { octets = c; spelled = s; is_said = are })
 
 -- a line that is scanned
 module _ (line contents : List ℕ) (said : List Field) (whole : Bool)
@@ -98,3 +105,12 @@ module _ (line contents : List ℕ) (said : List Field) (whole : Bool)
 
     pub no_refusal : (refusal : FieldRefusal) → refusal.why ≢ OutOfMemory → IsFieldRefusal held listed refusal → IsNoLine line
     no_refusal refusal other r f c least octets is_line = never_refused f c held listed refusal least.member (listed_found f c least octets is_line) other r
+
+    -- what is made is each frame whose line it is
+    pub only_line : ((octets : List ℕ) (l : List Field) (f g : FrameValue) (b c : List ℕ) → SpellsFrame f b → SpellsFrame g c → AreFieldsOf octets l f → AreFieldsOf octets l g → f ≡ g)
+        → (old new : List ℕ) → MadeOf held listed old new → IsOnlyLine line old new
+    only_line one old new made f c least octets is_line =
+        let more = made.appended.more in
+        let same = one held listed f made.frame c more least.member made.appended.is_least.member (listed_found f c least octets is_line) made.are_fields in
+        let is : c ≡ more = IsLeast-one (SpellsFrame f) c more least (subst (λ (g : FrameValue). IsLeast (SpellsFrame g) more) (sym same) made.appended.is_least) in
+        made.appended.new_is ∙ ap (λ (l : List ℕ). old ++ l) (sym is)

@@ -19,10 +19,11 @@ use Rattle.bac_lines.specs.declared.fault.LineFault.{LineFault}
 use Rattle.bac_lines.specs.declared.said.Said.{Said}
 use Rattle.bac_lines.specs.Scanning.{TokenIn, AreTokens, text_tail, each, clear}
 
--- With what a field begins: an end, a parenthesis, a bracket, a digit, or a word.
+-- What a field begins with: an end, a parenthesis, a bracket, a digit, or a word.
 pub data Sort : Type 0 where
   by_end by_parenthesis by_bracket by_digit by_word : Sort
 
+-- What a field of this form begins with.
 abbrev pub sort_of : Form → Sort
 sort_of as_parenthesis = by_end
 sort_of as_brace = by_end
@@ -36,6 +37,7 @@ sort_of _ = by_word
 pub data Link : Type 0 where
   by_list by_value by_equals by_colon by_text by_itself : Link
 
+-- What comes after the word of a field of this form.
 abbrev pub link_of : Form → Link
 link_of as_list = by_list
 link_of as_value = by_value
@@ -51,13 +53,13 @@ link_of as_identifier = by_colon
 link_of as_text = by_text
 link_of _ = by_itself
 
--- the word with which a field begins
+-- The word with which the text of a field begins.
 abbrev pub word_before : Form → FieldValue → List ℕ
 word_before as_truth v = if nat_eq v.number 0 then codes "false" else codes "true"
 word_before as_text v = codes "s"
 word_before _ v = word_of v.name
 
--- what comes after the equals sign or the colon
+-- The text of a field after the equals sign or the colon.
 abbrev pub value_shown : Form → FieldValue → List ℕ
 value_shown as_number v = number v.number
 value_shown as_object v = object_text (object_of v.number)
@@ -70,7 +72,7 @@ value_shown as_bits v = map bit_digit (bits_in v.contents v.number)
 value_shown as_identifier v = object_text (object_of v.number)
 value_shown _ v = []
 
--- what comes after the word
+-- The text of a field after its word.
 abbrev pub after_word : Form → FieldValue → List ℕ
 after_word as_list v = codes "=("
 after_word as_value v = codes "={"
@@ -89,7 +91,7 @@ after_word _ v = []
 
 -- ---- what is added
 
--- One field more, whose contents, if its name has any, come after those that are there.
+-- The field is added to those that are said, and its contents, if its name has any, are added after those that are there.
 pub record Adds (v : FieldValue) (old new : Said) : Type 0 where
   pub field : Field
   pub contents : List ℕ
@@ -99,11 +101,11 @@ pub record Adds (v : FieldValue) (old new : Said) : Type 0 where
   pub is_numbered : field.number ≡ v.number
   pub holds : (more : List ℕ) → contents_in (new.contents.items ++ more) field ≡ Some (if has_contents (number_of v.name) then v.contents else [])
 
--- The field is added, which has so many octets of the line, and what is open is that after it; or memory was refused.
+-- The field is added, with so many octets of the line, and what is open is that after it; or memory was refused.
 abbrev pub IsAdded : FieldValue → List Closing → ℕ → Said → Said → List Closing → Result (Option (ℕ × Bool)) LineFault → Type 0
 IsAdded v after n old new ends result = IfOk result (λ found. (found ≡ Some (n, begins (form_of v.name))) × ((ends ≡ after) × Adds v old new))
 
--- the same of a field that opens and ends nothing
+-- The field, which opens and ends nothing, is added, with so many octets of the line; or memory was refused.
 abbrev pub IsHeld : FieldValue → ℕ → Said → Said → Result (Option ℕ) LineFault → Type 0
 IsHeld v n old new result = IfOk result (λ taken. (taken ≡ Some n) × Adds v old new)
 
@@ -113,17 +115,18 @@ pub record IsRun (test : ℕ → Bool) (line : List ℕ) (n : ℕ) : Type 0 wher
   pub run : IsTrue (each test (take n line))
   pub ends : IsTrue (clear test (drop n line))
 
--- the form of an end that is a parenthesis, or a brace
+-- The form of an end: a parenthesis for true, a brace for false.
 abbrev pub ending : Bool → Form
 ending true = as_parenthesis
 ending false = as_brace
 
--- what comes after a tag in brackets
+-- The text of a field after a tag in brackets.
 abbrev pub tagged_text : Form → FieldValue → List ℕ
 tagged_text as_group v = codes "{"
 tagged_text _ v = hexadecimal v.contents
 
--- A field is scanned: so many octets of the line are its text and the blank before it, if it has one, and it is added.
+-- So many octets of the line are the text of a field as frames have it, with the blank before it, if it has one, and the field
+-- is added.
 pub record Scanned (first : Bool) (line : List ℕ) (found : ℕ × Bool) (ends after : List Closing) (old new : Said) : Type 0 where
   pub field : FieldValue
   pub token : TokenIn (form_of field.name) ends field after
@@ -131,7 +134,7 @@ pub record Scanned (first : Bool) (line : List ℕ) (found : ℕ × Bool) (ends 
   pub begun : found.1 ≡ begins (form_of field.name)
   pub added : Adds field old new
 
--- the same of a field that is no end, without the blank
+-- So many octets of the line are the text of a field that is no end, without the blank before it, and the field is added.
 pub record Shows (line : List ℕ) (found : ℕ × Bool) (ends after : List Closing) (old new : Said) : Type 0 where
   pub field : FieldValue
   pub no_end : sort_of (form_of field.name) ≡ by_end → ⊥
@@ -140,14 +143,16 @@ pub record Shows (line : List ℕ) (found : ℕ × Bool) (ends after : List Clos
   pub begun : found.1 ≡ begins (form_of field.name)
   pub added : Adds field old new
 
--- the same of a field that opens and ends nothing, of which only a part is read
+-- So many octets of the line are the text of a value, which is part of a field that opens and ends nothing, and the field is
+-- added.
 pub record Valued (Is : FieldValue → Type 0) (text : FieldValue → List ℕ) (line : List ℕ) (n : ℕ) (old new : Said) : Type 0 where
   pub field : FieldValue
   pub has : Is field
   pub is_text : take n line ≡ text field
   pub added : Adds field old new
 
--- After a tag with this number a group begins, or octets under it come.
+-- So many octets of the line come after a tag with this number: they begin a group, or are the octets under the tag. The field
+-- is added.
 pub record TaggedSo (number : ℕ) (line : List ℕ) (found : ℕ × Bool) (ends after : List Closing) (old new : Said) : Type 0 where
   pub field : FieldValue
   pub is_tag : (form_of field.name ≡ as_group) ⊎ (form_of field.name ≡ as_context)
@@ -157,8 +162,8 @@ pub record TaggedSo (number : ℕ) (line : List ℕ) (found : ℕ × Bool) (ends
   pub begun : found.1 ≡ begins (form_of field.name)
   pub added : Adds field old new
 
--- A field with this word is scanned, of which so many octets come after the word, the first of them this sign, which is not
--- in the line; or they are all in the line.
+-- A field with this word is scanned and added, of which so many octets come after the word. The first of them is this sign,
+-- which is not in the line.
 pub record WordedSo (sign : ℕ) (word line : List ℕ) (found : ℕ × Bool) (ends after : List Closing) (old new : Said) : Type 0 where
   pub field : FieldValue
   pub worded : sort_of (form_of field.name) ≡ by_word
@@ -169,6 +174,7 @@ pub record WordedSo (sign : ℕ) (word line : List ℕ) (found : ℕ × Bool) (e
   pub begun : found.1 ≡ begins (form_of field.name)
   pub added : Adds field old new
 
+-- A field with this word is scanned and added, of which so many octets come after the word. They are all in the line.
 pub record WordedAs (word line : List ℕ) (found : ℕ × Bool) (ends after : List Closing) (old new : Said) : Type 0 where
   pub field : FieldValue
   pub worded : sort_of (form_of field.name) ≡ by_word
@@ -178,14 +184,15 @@ pub record WordedAs (word line : List ℕ) (found : ℕ × Bool) (ends after : L
   pub begun : found.1 ≡ begins (form_of field.name)
   pub added : Adds field old new
 
--- the value of a field with this word and this link, whatever is open
+-- The field has this word and this link before a value, and opens and ends nothing, whatever is open.
 abbrev pub ValueOf : Link → List ℕ → List Closing → FieldValue → Type 0
 ValueOf link word ends v = (link_of (form_of v.name) ≡ link) × (TokenIn (form_of v.name) ends v ends × (word ≡ word_of v.name))
 
+-- The text of the value of a field, after the equals sign or the colon, by its form.
 abbrev pub shown_value : FieldValue → List ℕ
 shown_value v = value_shown (form_of v.name) v
 
--- the symbols of fields, one after another
+-- The symbols of fields, one after another.
 abbrev pub fields_said : List FieldValue → List Symbol
 fields_said [] = []
 fields_said (v ∷ vs) = field_said v ++ fields_said vs
@@ -199,7 +206,7 @@ pub record AreScanned (line : List ℕ) (said : Said) : Type 0 where
 
 -- ---- names
 
--- the name is one of these
+-- The name is one of these.
 abbrev pub Among : List Name → Name → Type 0
 Among [] name = ⊥
 Among (one ∷ names) name = (name ≡ one) ⊎ Among names name

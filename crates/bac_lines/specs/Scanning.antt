@@ -14,46 +14,48 @@ use Rattle.bac_lines.specs.declared.closing.Closing.{Closing}
 
 -- ---- octets of a line
 
--- none of these comes next
+-- The next octet does not pass the test, or nothing comes next.
 abbrev pub clear : (ℕ → Bool) → List ℕ → Bool
 clear test [] = true
 clear test (x ∷ more) = not (test x)
 
--- each passes the test
+-- Each of the octets passes the test.
 abbrev pub each : (ℕ → Bool) → List ℕ → Bool
 each test [] = true
 each test (x ∷ xs) = test x && each test xs
 
+-- The octet is a decimal digit.
 abbrev pub is_decimal : ℕ → Bool
 is_decimal x = nat_le 48 x && nat_le x 57
 
--- a hexadecimal digit, in upper case if it is a letter
+-- The octet is a hexadecimal digit, in upper case if it is a letter.
 abbrev pub is_hex : ℕ → Bool
 is_hex x = (nat_le 48 x && nat_le x 57) || (nat_le 65 x && nat_le x 70)
 
--- what a word is made of: a letter, or a hyphen
+-- The octet is a letter or a hyphen, which is what a word is made of.
 abbrev pub is_letter : ℕ → Bool
 is_letter x = (nat_le 97 x && nat_le x 122) || ((nat_le 65 x && nat_le x 90) || (x == 45))
 
--- What may come after a field that is not the beginning of something: nothing, a blank, or an end.
+-- Nothing comes next, or a blank, ) or }. This is what may come after a field that is not the beginning of something.
 abbrev pub ends_field : List ℕ → Bool
 ends_field [] = true
 ends_field (x ∷ more) = (x == 32) || ((x == 41) || (x == 125))
 
--- A value is found where the line has its text, if what comes after the text is clear: the value, and the octets of its text.
+-- If the line has the text of a value, and what comes after the text is clear, the value is found, with the number of octets of
+-- its text. The test fringe says what is not clear.
 abbrev pub Finds : {V : Type 0} → (V → Type 0) → (V → List ℕ) → (ℕ → Bool) → List ℕ → Option (V × ℕ) → Type 0
 Finds {V} fits text fringe line result = (v : V) (more : List ℕ) → fits v → IsTrue (clear fringe more) → line ≡ text v ++ more → result ≡ Some (v, length (text v))
 
--- What is found is at the front of the line: so many octets are the text of the value.
+-- What is found, if anything is, is a value, and so many octets at the front of the line are its text.
 abbrev pub IsFound : {V : Type 0} → (V → Type 0) → (V → List ℕ) → List ℕ → Option (V × ℕ) → Type 0
 IsFound {V} fits text line result = IfSome result (λ found. fits found.0 × (take found.1 line ≡ text found.0))
 
--- the number that octets are, the most significant first
+-- The number that octets are, the most significant first, after octets that are the number n.
 abbrev pub number_after : ℕ → List ℕ → ℕ
 number_after n [] = n
 number_after n (octet ∷ octets) = number_after (n * 256 + octet) octets
 
--- a text, after the letter s
+-- The text of a character string after its letter s.
 abbrev pub text_tail : TextValue → List ℕ
 text_tail text =
     if is_plain text then codes ":\"" ++ (text.octets ++ codes "\"") else number text.set ++ (codes ":" ++ hexadecimal text.octets)
@@ -72,28 +74,29 @@ word_number name.ConfirmedCovNotification = 1
 word_number name.UnconfirmedCovNotification = 2
 word_number _ = 0
 
--- the name of the field with which a list ends
+-- The name of the field with which a list ends.
 abbrev pub end_of : Name → Name
 end_of name.PropertyError = name.PropertyErrorEnd
 end_of _ = name.ListEnd
 
--- Two names have the word `id`: inside of something it is that of a port.
+-- The name fits what is open. Two names have the word id: inside of something it is that of a port, and else the invoke id.
 abbrev pub IsNamed : List Closing → Name → Type 0
 IsNamed ends name.InvokeId = ends ≡ []
 IsNamed ends name.PortId = ends ≡ [] → ⊥
 IsNamed ends _ = Unit {0}
 
--- the number of a field whose contents the line has
+-- The number of a Real or a Double is what its 4 or 8 octets are, and other contents have the number 0.
 abbrev pub HasBits : Name → ℕ → List ℕ → Type 0
 HasBits name.Real number octets = (number ≡ number_after 0 octets) × (length octets ≡ 4)
 HasBits name.Double number octets = (number ≡ number_after 0 octets) × (length octets ≡ 8)
 HasBits _ number octets = number ≡ 0
 
+-- The end of something that is open, with its name and its number.
 abbrev pub open_end : Name → ℕ → Closing
 open_end name number = record { name = name; number = number }
 
--- A field of the form as frames have it, where the first ends are those of what is open, the innermost last, and the second
--- ones those after it.
+-- The field is of this form as frames have it, and opens or ends what it shall. The first ends are those of what is open before
+-- it, the innermost last, and the second ones those after it.
 abbrev pub TokenIn : Form → List Closing → FieldValue → List Closing → Type 0
 TokenIn as_word ends v after = (v.number ≡ word_number v.name) × (after ≡ ends)
 TokenIn as_number ends v after = (v.number < 2 ^ 64) × (IsNamed ends v.name × (after ≡ ends))
@@ -117,7 +120,7 @@ TokenIn as_identifier ends v after = (v.number < 2 ^ 32) × (after ≡ ends)
 TokenIn as_text ends v after = (v.number < 256) × (IsOctets v.contents × (after ≡ ends))
 TokenIn as_context ends v after = (v.number < 256) × (IsOctets v.contents × (after ≡ ends))
 
--- Fields, one after another, as frames have them: each beginning has its end, with the name and the number that it has.
+-- The fields, one after another, are as frames have them: each beginning has its end, with the name and the number that it has.
 abbrev pub AreTokens : List Closing → List FieldValue → Type 0
 AreTokens ends [] = Unit {0}
 AreTokens ends (v ∷ vs) = (after : List Closing) × (TokenIn (form_of v.name) ends v after × AreTokens after vs)

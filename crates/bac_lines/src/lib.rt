@@ -24,7 +24,7 @@
 //!
 //! No grammar says which text may come where. bac_fields reports the first field with which no frame's fields continue
 //! (`places.rt`); so what comes before it is the front of a frame's line. bac_fields is then asked which fields can come in
-//! its place, and the line goes on as long as it does in the text of one of them (`shared.rt`, `texts.rt`). That the place
+//! its place, and the line continues as long as it does in the text of one of them (`shared.rt`, `texts.rt`). That the place
 //! is right is tested: by the rows of `lines.txt` in bac_vectors.
 #![tactic(auto)]
 

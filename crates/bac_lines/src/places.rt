@@ -424,7 +424,7 @@ fn hopeful_fields(said: &Said, tried: &mut Vec<u8>) -> Result<usize, LineFault>
 }
 
 /// Returns the place of the first octet that no line can have there, in a line that is that of no frame, or its length if it
-/// ends too early. `said`, `ends` and `tried` are room.
+/// ends too early. `said`, `ends` and `tried` are buffers.
 pub(crate) fn hopeless_place(
     line: &[u8],
     said: &mut Said,

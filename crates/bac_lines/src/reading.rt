@@ -3,20 +3,20 @@
 ghost use Rattle.std.specs.Prelude.{◌≡◌, false, IsTrue, IfOk, IfErr};
 ghost use Rattle.bac_npdu_parts.specs.Frames.{value_of};
 ghost use Rattle.bac_text.specs.FrameText.{text};
-ghost use Rattle.bac_lines.specs.Lines.{IfStop, IsRead, IsNear, IsNoLine, IsFrame, SaysFrame};
+ghost use Rattle.bac_lines.specs.Lines.{IfStop, IsRead, IsOnlyFrame, IsOnlyLine, IsNear, IsNoLine, IsFrame, SaysFrame};
 
 use crate::closing::Closing;
 use crate::fault::LineFault;
 use crate::places::hopeless_place;
 use crate::said::Said;
 use crate::scanning::scan;
-use bac_fields::laws::the_line_is_the_fields;
+use bac_fields::laws::{fields_are_of_one_frame, the_line_is_the_fields};
 use bac_fields::{FieldWhy, append_octets};
 use bac_npdu::laws::frames_have_one_value;
 use bac_npdu::{Frame, decode_frame};
 use std::alloc::Global;
 
-/// Reads lines, and keeps its room from one to the next.
+/// Reads lines, and keeps its buffers from one to the next.
 #[derive(Drop)]
 pub struct LineReader {
     /// What the last line said.
@@ -44,6 +44,7 @@ impl LineReader {
     /// end, if it ends too early; or that memory is refused. `out` then stays as it was.
     pub fn append_octets(&mut self, line: &[u8], out: &mut Vec<u8>) -> Result<(), LineFault>
         ensures read { IfOk result (λ _. IsRead line.now out.old.items out.new.items) }
+        ensures only { IfOk result (λ _. IsOnlyLine line.now out.old.items out.new.items) }
         ensures refused { IfErr result (λ fault. IfStop fault (λ place. IsNoLine line.now)) }
         ensures near { IfErr result (IsNear line.now) }
         ensures unchanged { IfErr result (λ _. out.new.items ≡ out.old.items) }
@@ -63,6 +64,7 @@ impl LineReader {
         out: &mut Vec<u8>,
     ) -> Result<bool, LineFault>
         ensures read { IfOk result (λ is_line. IsTrue is_line → IsRead line.now out.old.items out.new.items) }
+        ensures only { IfOk result (λ is_line. IsTrue is_line → IsOnlyLine line.now out.old.items out.new.items) }
         ensures says { IfOk result (λ is_line. IsTrue is_line → SaysFrame line.now self.new.said.contents.items self.new.said.fields.items) }
         ensures none { IfOk result (λ is_line. is_line ≡ false → IsNoLine line.now) }
         ensures memory { IfErr result (λ fault. fault ≡ LineFault.OutOfMemory) }
@@ -70,6 +72,7 @@ impl LineReader {
         ensures unchanged { IfErr result (λ _. out.new.items ≡ out.old.items) }
     {
         the_line_is_the_fields();
+        fields_are_of_one_frame();
         if !scan(line, &mut self.said, &mut self.ends)? {
             return Ok(false);
         }
@@ -116,6 +119,7 @@ impl LineReader {
 /// ```
 pub fn append_octets_of_line(alloc: Global, line: &[u8], out: &mut Vec<u8>) -> Result<(), LineFault>
     ensures read { IfOk result (λ _. IsRead line.now out.old.items out.new.items) }
+    ensures only { IfOk result (λ _. IsOnlyLine line.now out.old.items out.new.items) }
     ensures refused { IfErr result (λ fault. IfStop fault (λ place. IsNoLine line.now)) }
     ensures near { IfErr result (IsNear line.now) }
     ensures unchanged { IfErr result (λ _. out.new.items ≡ out.old.items) }
@@ -129,6 +133,7 @@ pub fn append_octets_of_line(alloc: Global, line: &[u8], out: &mut Vec<u8>) -> R
 /// As for [`append_octets_of_line`].
 pub fn frame_of_line(alloc: Global, line: &[u8]) -> Result<Frame, LineFault>
     ensures read { IfOk result (λ frame. (line.now ≡ text (value_of frame)) × IsFrame (value_of frame)) }
+    ensures only { IfOk result (λ frame. IsOnlyFrame line.now (value_of frame)) }
     ensures refused { IfErr result (λ fault. IfStop fault (λ place. IsNoLine line.now)) }
     ensures near { IfErr result (IsNear line.now) }
 {

@@ -18,7 +18,7 @@ use std::alloc::Global;
 /// dropped. The rest is a line as `bactool show` writes it, with the number of the record and a blank before it, or without
 /// them. Which number it is does not matter.
 ///
-/// It takes memory for 1,048,577 octets of input and for the records of the lines that lie in them.
+/// It takes memory for 1,048,577 octets of input and for the records of the lines that are in them.
 ///
 /// # Errors
 /// As [`PackFault`] says. Reading stops at what comes first: an octet after the 1,000,000th line, the 1,048,577th octet of a

@@ -35,7 +35,7 @@ pub(crate) struct ShownLines {
 }
 
 impl ShownLines {
-    /// Creates the form, with no room yet.
+    /// Creates the form, which has no memory yet.
     pub(crate) fn new(alloc: Global) -> ShownLines {
         ShownLines {
             reader: LineReader::new(alloc),

@@ -112,7 +112,7 @@ fn shared_quoted(line: &[u8]) -> usize
 }
 
 /// Returns how many digits the line has in common with the front of the octets of a text that cannot be shown as they are,
-/// with character set 0. `octets` is room for them.
+/// with character set 0. `octets` is a buffer for them.
 fn shared_digits_of_text(line: &[u8], octets: &mut Vec<u8>) -> Result<usize, LineFault>
     ensures within { IfOk result (λ count. count ≤ length line.now) }
     ensures memory { IfErr result (λ fault. fault ≡ LineFault.OutOfMemory) }
@@ -178,7 +178,7 @@ fn shared_coded(line: &[u8], octets: &mut Vec<u8>) -> Result<usize, LineFault>
 }
 
 /// Returns how many octets the line has in common with the front of a character string, after the letter s: in quotation
-/// marks if it can be shown so, and else its character set and its octets. `octets` is room for them.
+/// marks if it can be shown so, and else its character set and its octets. `octets` is a buffer for them.
 pub(crate) fn shared_text(line: &[u8], octets: &mut Vec<u8>) -> Result<usize, LineFault>
     ensures within { IfOk result (λ count. count ≤ length line.now) }
     ensures memory { IfErr result (λ fault. fault ≡ LineFault.OutOfMemory) }

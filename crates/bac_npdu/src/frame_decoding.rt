@@ -18,8 +18,8 @@ use bac_npdu_parts::{Body, Frame, FrameHead};
 use bac_tag::{Refusal, Why};
 use std::alloc::Global;
 
-/// Returns the mark of a head of `size` octets with a body after it. `first` is the mark of the head alone, and
-/// `second` that of the body alone. A mark is a place within the octets, so the sum does not wrap.
+/// Returns the mark of a head of `size` octets with a body after it. `first` is the mark of only the head, and
+/// `second` that of only the body. A mark is a place within the octets, so the sum does not wrap.
 #[inline(always)]
 fn joined(first: Option<usize>, size: usize, second: Option<usize>) -> Option<usize>
     ensures { IsBehind size second → result ≡ joined_mark first size second }
@@ -43,7 +43,7 @@ struct Behind<'a, V> {
 }
 
 impl<V: FrameVisitor> Behind<'_, V> {
-    /// Gives the visitor the head, this body and the mark of both. `mark` is that of the body alone.
+    /// Gives the visitor the head, this body and the mark of both. `mark` is that of only the body.
     #[inline(always)]
     fn visit_body(self, body: Body, mark: Option<usize>, place: &mut V::Place) -> V::Made
         ensures { IsBehind self.entry.size mark → V.makes self.entry.visitor (frame_with self.entry.head.now (body_value body)) (joined_mark self.entry.mark self.entry.size mark) place.old place.new result }

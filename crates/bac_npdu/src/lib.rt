@@ -19,9 +19,9 @@
 //! keeps the frame, with copies of the addresses, and [`decode_frame`] does so without the mark.
 //!
 //! [`decode_strict`] is [`decode_marked`] with a look at the mark. [`normalise_frame`] keeps no frame: where the frame was
-//! decoded, it copies octets without a mark, and writes the others into a vector with room for as many octets. More than
-//! 4,096 octets are first tested for being canonical, without a value (`is_canonical_frame`), so a long value is copied
-//! once and not twice. [`same_meaning`] compares canonical octets.
+//! decoded, it copies octets without a mark, and writes the others into a vector with capacity for as many octets. More
+//! than 4,096 octets are first tested for being canonical, without a value (`is_canonical_frame`), so a long value is
+//! copied once and not twice. [`same_meaning`] compares canonical octets.
 //!
 //! Where it is, in `src`, and after the semicolon in `specs`:
 //!

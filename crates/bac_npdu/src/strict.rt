@@ -52,7 +52,7 @@ pub fn decode_strict(alloc: Global, octets: &[u8]) -> Result<Frame, Refusal>
 }
 
 /// Returns true if the octets are found at once to be the canonical ones of a frame (clause 6.2) with an APDU that
-/// carries a service. False says nothing about the octets.
+/// carries a service. False is inconclusive.
 fn is_canonical_frame(alloc: Global, octets: &[u8]) -> bool
     ensures { IsTrue result → IsCanonical SpellsFrame octets.now }
 {

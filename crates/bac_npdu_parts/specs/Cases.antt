@@ -8,18 +8,22 @@ use Rattle.bac_npdu_parts.specs.HeadsRead.{SpellsBodyOf}
 
 -- ---- the lists that spell a frame with one kind of body
 
+-- The lists that spell a frame with this head and this APDU.
 abbrev pub SpellsWithApdu : HeadValue × ApduValue → List ℕ → Type 0
 SpellsWithApdu (head, a) = SpellsFrame (frame_with head (apdu a))
 
+-- The lists that spell a frame with this head and this network message.
 abbrev pub SpellsWithMessage : HeadValue × MessageValue → List ℕ → Type 0
 SpellsWithMessage (head, m) = SpellsFrame (frame_with head (message m))
 
 -- ---- its parts
 
--- the lists that spell what comes before the body of a frame: version, control octet, addresses
+-- The lists that spell what comes before the body of a frame: version, control octet, addresses. They are those that
+-- Framed has with an empty body.
 abbrev pub SpellsHead : FrameValue → List ℕ → Type 0
 SpellsHead f = Framed f (λ rest. rest ≡ [])
 
--- the lists that spell what comes after this head: a network message where the control octet says so, else an APDU
+-- The lists that spell a body after the head of this frame. The body is a network message exactly where that of the frame is
+-- one, which the control octet says. Else it is an APDU.
 abbrev pub SpellsAfter : FrameValue → BodyValue → List ℕ → Type 0
 SpellsAfter f = SpellsBodyOf (is_message f.body)

@@ -7,6 +7,7 @@ use Rattle.bac_npdu_parts.specs.declared.message.NetMessage.TheVariants as held
 use Rattle.bac_npdu_parts.specs.MessageTypes.{OpaqueNetValue, is_typed, IsVendored}
 use Rattle.bac_npdu_parts.specs.Addresses.{two_octets, counted}
 
+-- A network message as a value.
 pub data MessageValue : Type 0 where
   -- a network or none
   who_is_router : Option ℕ → MessageValue
@@ -33,6 +34,7 @@ pub data MessageValue : Type 0 where
   network_number_is : ℕ → ℕ → MessageValue
   opaque : OpaqueNetValue → MessageValue
 
+-- The value of a network message that a program holds.
 abbrev pub message_value : NetMessage → MessageValue
 message_value (held.WhoIsRouter network) = who_is_router network
 message_value (held.IAmRouter networks) = i_am_router networks.items
@@ -48,30 +50,31 @@ message_value held.WhatIsNetworkNumber = what_is_network_number
 message_value (held.NetworkNumberIs network flag) = network_number_is network flag
 message_value (held.Opaque message) = opaque message
 
--- two octets each
+-- Two octets for each network.
 abbrev pub networks_of : List ℕ → List Part
 networks_of [] = []
 networks_of (network ∷ networks) = two_octets network ++ networks_of networks
 
--- nothing, or two octets
+-- The two octets of one network, or nothing.
 abbrev pub network_or_none : Option ℕ → List Part
 network_or_none None = []
 network_or_none (Some network) = two_octets network
 
--- of each port the network, its number, and how many octets of information and they themselves
+-- The octets of ports: of each the network, its number, and how many octets of information and they themselves.
 abbrev pub ports_of : List Port → List Part
 ports_of [] = []
 ports_of (port ∷ ports) = two_octets port.network ++ octet port.id ∷ counted port.info ++ ports_of ports
 
--- how many ports, and each in turn
+-- The octets of a routing table: how many ports, and each in turn.
 abbrev pub table_of : List Port → List Part
 table_of ports = octet (length ports) ∷ ports_of ports
 
+-- The octets of a routing table, or nothing.
 abbrev pub table_or_none : Option (List Port) → List Part
 table_or_none None = []
 table_or_none (Some ports) = table_of ports
 
--- the octets in their order, of which the first is the type
+-- All octets of a message in their order, of which the first is its type (type_of).
 abbrev pub octets_of : MessageValue → List Part
 octets_of (who_is_router network) = octet 0 ∷ network_or_none network
 octets_of (i_am_router networks) = octet 1 ∷ networks_of networks
@@ -87,20 +90,21 @@ octets_of what_is_network_number = octet 18 ∷ []
 octets_of (network_number_is network flag) = octet 19 ∷ two_octets network ++ octet flag ∷ []
 octets_of (opaque message) = octet message.kind ∷ network_or_none message.vendor ++ map octet message.octets
 
--- the number that the first of these octets is
+-- The number that the first of these octets is, or 0 if there is none.
 abbrev pub first_number : List Part → ℕ
 first_number (octet number ∷ ps) = number
 first_number _ = 0
 
--- the type of a message
+-- The type of a message, which is its first octet.
 abbrev pub type_of : MessageValue → ℕ
 type_of m = first_number (octets_of m)
 
--- an opaque message has a type without a layout, and a vendor where its type wants one
+-- An opaque message has a type without a layout, and a vendor exactly where its type is from 128 on (IsVendored). Of every
+-- other message nothing is required.
 abbrev pub IsMessage : MessageValue → Type 0
 IsMessage (opaque message) = (is_typed message.kind ≡ false) × IsVendored message.kind message.vendor
 IsMessage _ = Unit {0}
 
--- the lists that spell a network message: one
+-- The one list that spells a message for which IsMessage holds: its octets_of, each below 256.
 abbrev pub SpellsMessage : MessageValue → List ℕ → Type 0
 SpellsMessage message b = IsMessage message × Headed (octets_of message) (λ rest. rest ≡ []) b

@@ -20,7 +20,7 @@ use bac_tag::layers::or_cut_back;
 use bitflags::Flags;
 use std::alloc::Global;
 
-/// How many octets there is room for at first: as many as most frames need.
+/// The capacity at first, in octets: as many as most frames need.
 const FIRST_ROOM: usize = 64;
 
 /// Returns the canonical control octet of the frame with this head and this body.

@@ -245,7 +245,7 @@ fn write_long(number: u64, out: &mut Vec<u8>) -> Result<(), OutOfMemory>
     Ok(())
 }
 
-/// Appends a number as [`write_number`] does, if there is no room for four octets: only the octets that stay are
+/// Appends a number as [`write_number`] does, if there is no capacity for four octets: only the octets that stay are
 /// appended, so that a new vector does not grow for others.
 ///
 /// # Errors

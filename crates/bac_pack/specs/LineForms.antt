@@ -10,7 +10,8 @@ pub record Pushes (packs : List ℕ → Type 0) (old new : List ℕ) : Type 0 wh
   pub packed : packs octets
   pub appended : new ≡ old ++ record_of octets
 
--- The line of this number is no record, or memory was refused for it.
+-- No record was made of the line of this number, for a fault with this number. The fault is one for which the form refuses the
+-- line, NotHex, RecordTooLong, Unreadable or Refused, or it is OutOfMemory.
 abbrev pub IsRefused : (PackFault → Type 0) → ℕ → PackFault → Type 0
 IsRefused refuses number (NotHex at) = (at ≡ number) × refuses (NotHex at)
 IsRefused refuses number (RecordTooLong at) = (at ≡ number) × refuses (RecordTooLong at)

@@ -1,4 +1,4 @@
--- What lies whole in the octets that a run holds, and what it made of it.
+-- What is whole in the octets that a run holds, and what it made of it.
 use Rattle.std.specs.Prelude.{◌≡◌, ◌≢◌, ℕ, ◌+◌, ◌<◌, ◌≤◌, List, [], ◌∷◌, ◌++◌, length, take, Option, Some, None, ⊤}
 use Rattle.std.specs.List.{AllByRecursion, AllZip}
 use Rattle.bac_record.specs.Records.{record_of, joined}
@@ -8,11 +8,11 @@ use Rattle.bac_pack.specs.declared.packers.Packer.{Packer}
 use Rattle.bac_pack.specs.declared.faults.PackFault.{PackFault}
 use Rattle.bac_pack.specs.declared.faults.PackFault.TheVariants.{LineTooLong, NotHex, RecordTooLong, ReadFault, WriteFault, TooManyLines, OutOfMemory, Unreadable, Refused}
 
--- The first LF stands behind so many octets.
+-- The first LF is after so many octets.
 abbrev pub EndsAt : List ℕ → ℕ → Type 0
 EndsAt octets end = (line more : List ℕ) × (octets ≡ line ++ LF ∷ more) × (end ≡ length line) × IsUnbroken line
 
--- The line's record was added.
+-- The record of the line was added to the packer.
 pub record Adds (packs : List ℕ → List ℕ → Type 0) (line : List ℕ) (old new : Packer) : Type 0 where
   pub octets : List ℕ
   pub packed : packs line octets
@@ -20,7 +20,7 @@ pub record Adds (packs : List ℕ → List ℕ → Type 0) (line : List ℕ) (ol
   pub lines : new.lines ≡ old.lines + 1
   pub sent : new.sent ≡ old.sent
 
--- nothing was made of the next line
+-- The packer holds the same as before, since nothing was made of the next line.
 pub record IsSame (old new : Packer) : Type 0 where
   pub output : new.output.items ≡ old.output.items
   pub lines : new.lines ≡ old.lines
@@ -39,7 +39,7 @@ pub record PacksFront (packs : List ℕ → List ℕ → Type 0) (longest : ℕ)
   pub counted : new.lines ≡ old.lines + length lines
   pub sent : new.sent ≡ old.sent
 
--- The fault is one that the octets behind so many lines show.
+-- The fault is one that the octets after so many lines show.
 abbrev pub IsFound : (List ℕ → PackFault → Type 0) → ℕ → ℕ → List ℕ → PackFault → Type 0
 IsFound refuses longest count rest (LineTooLong number) = (number ≡ count + 1) × (count < MOST_LINES) × IsUnbroken rest × (longest < length rest)
 IsFound refuses longest count rest (NotHex number) = (number ≡ count + 1) × NextLine longest count rest ⊥ (λ line. refuses line (NotHex number))
@@ -52,7 +52,7 @@ IsFound refuses longest count rest TooManyLines = (count ≡ MOST_LINES) × (res
 IsFound refuses longest count rest (ReadFault number) = ⊥
 IsFound refuses longest count rest (WriteFault written) = ⊥
 
--- why no further line is packed behind so many lines
+-- Why no further line is packed after so many lines: a fault that the octets show, or there is less than a line.
 abbrev pub Halts : (List ℕ → PackFault → Type 0) → ℕ → ℕ → List ℕ → Option PackFault → Type 0
 Halts refuses longest count rest None = Waits longest count rest
 Halts refuses longest count rest (Some fault) = IsFound refuses longest count rest fault

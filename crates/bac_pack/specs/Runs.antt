@@ -1,5 +1,6 @@
--- What a run over a text leaves in its reader and its writer. A run packs lines of any form: `packs` says which octets a line stands
--- for, `refuses` why it stands for none, and `longest` is the most octets of a line.
+-- What a run over a text leaves in its reader and its writer. A run packs lines of any form, and the form says what a line
+-- means and how long it may be: packs says which octets a line means, refuses says why it means none, and longest is the most
+-- octets of a line. They come first in these definitions, and in those of Files.antt.
 use Rattle.std.specs.Prelude.{◌≡◌, ◌≢◌, ◌⊎◌, ℕ, ◌+◌, ◌<◌, ◌≤◌, List, [], ◌∷◌, ◌++◌, length, Option, ⊤}
 use Rattle.std.specs.List.{AllByRecursion, AllZip}
 use Rattle.std.specs.Io.KnownBytes.{Consumes, Appends, IsAtEnd}
@@ -9,7 +10,8 @@ use Rattle.bac_pack.specs.Lines.{LF, LONGEST_LINE, MOST_LINES, lines_of, ended, 
 use Rattle.bac_pack.specs.declared.faults.PackFault.{PackFault}
 use Rattle.bac_pack.specs.declared.faults.PackFault.TheVariants.{LineTooLong, NotHex, RecordTooLong, ReadFault, WriteFault, TooManyLines, OutOfMemory, Unreadable, Refused}
 
--- a run that ended well: the reader gave this text and is at its end, and the writer took a record for each line
+-- A run ended well. The reader gave a text and is at its end, no line is too long, there are at most 1,000,000, the writer took
+-- a record for each, and their number is the answer.
 pub record LinesThrough (packs : List ℕ → List ℕ → Type 0) (longest : ℕ) (left left' taken taken' : Option (List ℕ)) (count : ℕ) : Type 0 where
   pub text : List ℕ
   pub records : List (List ℕ)
@@ -21,19 +23,26 @@ pub record LinesThrough (packs : List ℕ → List ℕ → Type 0) (longest : �
   pub wrote : Appends taken taken' (joined records)
   pub counted : count ≡ length (lines_of text)
 
--- Behind so many lines the rest is less than a line, and more of it may come.
+-- After so many lines the rest is less than a line, and more of it may come.
 abbrev pub Waits : ℕ → ℕ → List ℕ → Type 0
 Waits longest count rest = (count ≤ MOST_LINES) × (count ≡ MOST_LINES → rest ≡ []) × IsLine longest rest
 
--- The line is whole at the front of the rest: its LF follows, or nothing does and the reader is at its end.
+-- The line is whole at the front of the rest: its LF follows; or it is a last one that is not empty, and the reader is at its
+-- end.
 abbrev pub IsWhole : List ℕ → List ℕ → Type 0 → Type 0
 IsWhole line rest is_end = ((more : List ℕ) × (rest ≡ line ++ LF ∷ more)) ⊎ ((rest ≡ line) × (line ≢ []) × is_end)
 
--- One line more is whole at the front of the rest, and P holds of it.
+-- After so many lines one more line is whole at the front of the rest and may still be packed, and P holds of it.
 abbrev pub NextLine : ℕ → ℕ → List ℕ → Type 0 → (List ℕ → Type 0) → Type 0
 NextLine longest count rest is_end P = (count < MOST_LINES) × (line : List ℕ) × IsLine longest line × IsWhole line rest is_end × P line
 
--- When each fault comes: so many lines were packed, and this rest was read behind them.
+-- When each fault comes, by the number of lines packed and the rest that was read after them.
+-- LineTooLong: the rest is longer than a line may be, without an LF.
+-- NotHex, RecordTooLong, Unreadable, Refused: one more line is whole, and the form refuses it so.
+-- ReadFault: the rest is less than a line so far.
+-- WriteFault: IsWritten says when.
+-- TooManyLines: an octet comes after 1,000,000 lines.
+-- OutOfMemory: nothing was read yet, or one more line is whole.
 abbrev pub IsCause : (List ℕ → PackFault → Type 0) → ℕ → ℕ → List ℕ → Option (List ℕ) → PackFault → Type 0
 IsCause refuses longest count rest left' (LineTooLong number) =
     (number ≡ count + 1) × (count < MOST_LINES) × IsUnbroken rest × (longest < length rest)
@@ -48,22 +57,24 @@ IsCause refuses longest count rest left' (Refused number) =
 IsCause refuses longest count rest left' (ReadFault number) = (number ≡ count + 1) × Waits longest count rest
 IsCause refuses longest count rest left' (WriteFault written) = ⊤
 IsCause refuses longest count rest left' TooManyLines = (count ≡ MOST_LINES) × (rest ≢ [])
--- for the memory that a run begins with, or for what it makes of a line
+-- The memory was for what a run begins with, or for what it makes of a line.
 IsCause refuses longest count rest left' (OutOfMemory number) =
     (number ≡ count + 1) × (((count ≡ 0) × (rest ≡ [])) ⊎ NextLine longest count rest (IsAtEnd left') (λ line. ⊤))
 
--- the record of a last line that no LF ends, or nothing
+-- The record of a last line that no LF ends, or nothing.
 abbrev pub IsLast : (List ℕ → List ℕ → Type 0) → ℕ → ℕ → List ℕ → Option (List ℕ) → List ℕ → Type 0
 IsLast packs longest count rest left' last = (last ≡ [])
     ⊎ ((count < MOST_LINES) × (rest ≢ []) × IsLine longest rest × IsAtEnd left' × (octets : List ℕ) × packs rest octets × (last ≡ record_of octets))
 
--- What the writer took: the records of these lines. After a write fault a part of them and of a last line's, which is not all.
+-- What the writer took before a fault: the records of these lines. After a write fault it took a part of them and of the record
+-- of a last line, which is not all, and the number in the fault is that of the octets taken.
 abbrev pub IsWritten : (List ℕ → List ℕ → Type 0) → ℕ → List (List ℕ) → List ℕ → Option (List ℕ) → List ℕ → PackFault → Type 0
 IsWritten packs longest records rest left' written (WriteFault count) = (count ≡ length written)
     × (unsent last : List ℕ) × IsLast packs longest (length records) rest left' last × (written ++ unsent ≡ joined records ++ last) × (unsent ≢ [])
 IsWritten packs longest records rest left' written fault = written ≡ joined records
 
--- a run that stopped: these lines were packed, and this rest was read behind them
+-- A run stopped: these lines were packed, this rest was read after them, and their records were written, or after a write fault
+-- a part of them.
 pub record LinesStopped (packs : List ℕ → List ℕ → Type 0) (refuses : List ℕ → PackFault → Type 0) (longest : ℕ)
     (left left' taken taken' : Option (List ℕ)) (fault : PackFault) : Type 0 where
   pub lines : List (List ℕ)
@@ -78,16 +89,16 @@ pub record LinesStopped (packs : List ℕ → List ℕ → Type 0) (refuses : Li
   pub cause : IsCause refuses longest (length lines) rest left' fault
   pub records_out : IsWritten packs longest records rest left' written fault
 
--- The reader's failures rose where the fault is a read fault, and the writer's where it is a write fault; else they stay.
+-- A device's failures rose if the fault is its own, ReadFault of the reader and WriteFault of the writer, and else they stay.
 abbrev pub RunCounts : ℕ → ℕ → ℕ → ℕ → PackFault → Type 0
 RunCounts read read' write write' (ReadFault number) = HasRisen read read' × (write' ≡ write)
 RunCounts read read' write write' (WriteFault count) = (read' ≡ read) × HasRisen write write'
 RunCounts read read' write write' _ = (read' ≡ read) × (write' ≡ write)
 
--- a run over lines of hexadecimal digits that ended well
+-- A run over lines of hexadecimal digits ended well. This is LinesThrough, by Packs and LONGEST_LINE.
 abbrev pub PacksThrough : Option (List ℕ) → Option (List ℕ) → Option (List ℕ) → Option (List ℕ) → ℕ → Type 0
 PacksThrough = LinesThrough Packs LONGEST_LINE
 
--- one that stopped
+-- A run over lines of hexadecimal digits stopped. This is LinesStopped, by Packs, PacksNone and LONGEST_LINE.
 abbrev pub Stopped : Option (List ℕ) → Option (List ℕ) → Option (List ℕ) → Option (List ℕ) → PackFault → Type 0
 Stopped = LinesStopped Packs PacksNone LONGEST_LINE

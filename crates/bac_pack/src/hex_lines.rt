@@ -17,12 +17,12 @@ const PIECE: usize = LONGEST + 1;
 /// Lines of hexadecimal digits, two for each octet of a record.
 #[derive(Drop)]
 pub(crate) struct HexLines {
-    /// Room for the digits of a line that has blanks.
+    /// A buffer for the digits of a line that has blanks.
     digits: Vec<u8>,
 }
 
 impl HexLines {
-    /// Creates the form, with no room yet.
+    /// Creates the form, which has no memory yet.
     pub(crate) fn new(alloc: Global) -> HexLines {
         HexLines {
             digits: Vec::new(alloc),

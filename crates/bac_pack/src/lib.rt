@@ -1,7 +1,7 @@
 //! Texts of lines, as files of records.
 //!
 //! A line ends with LF (0A). Octets after the last LF are a line, if there are any. [`run_lines`] makes one record of each
-//! line. What the lines stand for is told by a [`LineForm`].
+//! line. A [`LineForm`] says what the lines mean.
 //!
 //! [`run_pack`] does so for lines of hexadecimal digits. One CR (0D) at a line's end is dropped, and then all blanks
 //! (20). What is left is hexadecimal digits, in upper or lower case, two for each octet. A record is two octets of
@@ -12,7 +12,7 @@
 //!
 //! [`run_lines`] works as `run` of bac_record does, with a window of the longest line with its LF: 200,001 octets for
 //! hexadecimal digits. It packs every line that is whole in the window (`packers.rt`). The form of the digits appends two
-//! octets of length, and room into which the crate hex decodes the digits (`packing.rt`). Octets in which no LF was found
+//! octets of length, and octets into which the crate hex decodes the digits (`packing.rt`). Octets in which no LF was found
 //! are not searched again.
 #![tactic(auto)]
 

@@ -1,4 +1,4 @@
-//! The records of the lines that lie whole in what a run holds.
+//! The records of the lines that are whole in what a run holds.
 
 ghost use Rattle.std.specs.Prelude.{◌+◌, ◌<◌, ◌^◌, ◌≡◌, ◌≤◌, IfErr, IfOk, MatchOption, MatchResult, OnErr, OnOk, [], drop, length, take, ℕ};
 ghost use Rattle.std.specs.Io.KnownBytes.{Appends};
@@ -60,7 +60,7 @@ impl Packer {
     }
 
     /// Adds the record of the line at the front of the octets. None of the first `passed` octets may be an LF. Returns
-    /// how many octets were taken, or `None` if no whole line lies there.
+    /// how many octets were taken, or `None` if no whole line is there.
     fn add_next<const PIECE: usize, L: LineForm<PIECE>>(
         &mut self,
         form: &mut L,
@@ -93,7 +93,7 @@ impl Packer {
         Ok(Some(end + 1))
     }
 
-    /// Adds the records of the lines that lie whole at the front of the octets. None of the first `passed` octets may
+    /// Adds the records of the lines that are whole at the front of the octets. None of the first `passed` octets may
     /// be an LF. Returns the number of octets of these lines, and the fault of the next one, if there is one.
     pub(crate) fn add_whole<const PIECE: usize, L: LineForm<PIECE>>(
         &mut self,

@@ -14,7 +14,7 @@ use std::alloc::Global;
 
 /// Makes a record of each line, to the end of the text or to a fault.
 ///
-/// It reads once, packs every line that lies whole in what it holds, writes all their records, and only then reads
+/// It reads once, packs every line that is whole in what it holds, writes all their records, and only then reads
 /// again: nothing known is held back while it waits for input.
 fn run_pieces<const PIECE: usize, L: LineForm<PIECE>, R: Input, W: Output>(
     alloc: Global,
@@ -55,12 +55,12 @@ fn run_pieces<const PIECE: usize, L: LineForm<PIECE>, R: Input, W: Output>(
     Ok(packer.lines)
 }
 
-/// Makes one record of each line of a text, in order, to its end or to a fault. Returns the number of lines. What a line
-/// stands for is told by its form.
+/// Makes one record of each line of a text, in order, to its end or to a fault. Returns the number of lines.
+/// The form of a line says what it means.
 ///
 /// A line ends with LF (0A). Octets after the last LF are a line, if there are any.
 ///
-/// It takes memory for the longest line of the form with its LF, and for the records of the lines that lie in so many
+/// It takes memory for the longest line of the form with its LF, and for the records of the lines that are in so many
 /// octets.
 ///
 /// # Errors
@@ -92,7 +92,7 @@ pub fn run_lines<const PIECE: usize, L: LineForm<PIECE>, R: Input, W: Output>(
 /// of them. A record is two octets of length, the most significant first, and then that many octets, at most 65,535. An
 /// empty line is a record of no octets.
 ///
-/// It takes memory for 200,001 octets of input and for the records of the lines that lie in them.
+/// It takes memory for 200,001 octets of input and for the records of the lines that are in them.
 ///
 /// # Errors
 /// As [`PackFault`] says. Reading stops at what comes first: an octet after the 1,000,000th line, the 200,001st octet

@@ -1,1 +1,2 @@
 pub mod LongHeadLemmas
+mod ViableLemmas

@@ -65,8 +65,8 @@ pub fn decode<P: Production>(alloc: Global, octets: &[u8]) -> Result<(P, Option<
     decode_part_by_part(alloc, octets)
 }
 
-/// Returns true if all the octets are found at once to be the canonical ones of a value. False says nothing about the
-/// octets.
+/// Returns true if all the octets are found at once to be the canonical ones of a value. False is
+/// inconclusive.
 pub fn are_canonical<P: Production>(alloc: Global, octets: &[u8]) -> bool
     requires { P.collisions ≡ [] }
     ensures { IsTrue result → IsCanonical P.spells octets.now }

@@ -271,8 +271,7 @@ fn read_field<T: Primitive>(
     }
 }
 
-/// Returns the head of a field at the front of the octets, if it has more than one octet. None says nothing about the
-/// octets.
+/// Returns the head of a field at the front of the octets, if it has more than one octet. None is inconclusive.
 #[inline(always)]
 fn long_head_of<T: Primitive>(octets: &[u8], context: Option<u8>) -> Option<FoundHead>
     requires { IsHeading context T.APP }
@@ -284,7 +283,7 @@ fn long_head_of<T: Primitive>(octets: &[u8], context: Option<u8>) -> Option<Foun
     }
 }
 
-/// Reads a field at the front of the octets, if one is found at once. None says nothing about the octets.
+/// Reads a field at the front of the octets, if one is found at once. None is inconclusive.
 #[inline(always)]
 fn find_field<T: Primitive>(
     alloc: Global,
@@ -321,7 +320,7 @@ fn find_field<T: Primitive>(
 }
 
 /// Returns how many octets the field at the front takes, if they are its canonical ones and it is found at once. None
-/// says nothing about the octets.
+/// is inconclusive.
 fn canonical_field_len<T: Primitive>(
     alloc: Global,
     octets: &[u8],

@@ -17,7 +17,7 @@ use bac_tag::OutOfMemory;
 use bac_tag::layers::joined_marks;
 use std::alloc::Global;
 
-/// How many items a list has room for at first. Most have no more.
+/// The capacity of a list at first, in items. Most lists have no more.
 const ROOM: usize = 8;
 
 /// Records one after the other. The list ends where no further one can be read.

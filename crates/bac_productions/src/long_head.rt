@@ -63,7 +63,7 @@ fn find_head(octets: &[u8], context: bool, number: u8) -> Option<FoundHead>
 
 /// Returns the length in the head with this class and number at the front of the octets, and how many octets the head
 /// takes. The head is looked for only if the first octet leaves the number or the length to the octets after it. None
-/// says nothing about the octets.
+/// is inconclusive.
 #[inline(always)]
 pub(crate) fn long_head(octets: &[u8], context: bool, number: u8) -> Option<FoundHead>
     requires { IsValid (headed context number 0) }

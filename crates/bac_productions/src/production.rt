@@ -39,7 +39,7 @@ pub struct Spelling<T> {
     /// How many octets it takes.
     pub taken: usize,
     /// How many of them are before the first one that differs from the canonical ones. It is all of them if none
-    /// differs. It says nothing if the mark was not wanted.
+    /// differs. It has no meaning if the mark was not wanted.
     pub same: usize,
 }
 
@@ -98,7 +98,7 @@ pub(crate) fn same_octets(taken: usize, mark: Option<usize>) -> usize
 }
 
 /// Returns how many octets of two parts, one after the other, are before the mark of the whole. `first` and `second`
-/// are the same numbers for each part alone, and the first part has `taken` octets.
+/// are the same numbers for each part by itself, and the first part has `taken` octets.
 #[inline(always)]
 pub(crate) fn joined_same(first: usize, taken: usize, second: usize) -> usize
     requires { taken + second < 2 ^ 64 }
@@ -221,14 +221,14 @@ pub trait Production: Drop {
     /// Where the next head does not say what comes next.
     ghost collisions: { List Collision };
 
-    /// Whether it always does: nothing collides.
+    /// Whether the next head always says what comes next: nothing collides.
     ghost is_sound: { Bool };
 
     /// Whether reading may need memory.
     ghost wants_memory: { Bool };
 
-    /// Reads a front of the octets that spells a value, if one is found at once. None says nothing about the octets.
-    /// How many of them are canonical is reported only if `wanted` is true.
+    /// Reads a front of the octets that spells a value, if one is found at once. None is inconclusive. How many of the
+    /// octets are canonical is reported only if `wanted` is true.
     ///
     /// Nothing is kept for a refusal, so this is the fast way if the octets spell a value. [`Production::read`] reports
     /// why they spell none.
@@ -238,8 +238,8 @@ pub trait Production: Drop {
         ensures mark { IfSome result (λ found. IsTrue wanted → HasMark (spells (view found.value)) (take found.taken octets.now) (mark_within found.taken found.same)) }
         ensures same { IfSome result (λ found. found.same ≤ found.taken) };
 
-    /// Returns how many octets at the front are the canonical ones of a value, if that is found at once. None says
-    /// nothing about the octets. What may be long is checked and not kept.
+    /// Returns how many octets at the front are the canonical ones of a value, if that is found at once. None is
+    /// inconclusive. What may be long is checked and not kept.
     fn canonical_len(alloc: Global, octets: &[u8]) -> Option<usize>
         requires { IsTrue is_sound }
         ensures { IfSome result (TakesLeast spells octets.now) };

@@ -12,6 +12,7 @@ pub mod Appended
 pub mod BatchRecords
 pub mod Cuts
 pub mod RunSoFar
+pub mod ReadLemmas
 pub mod Waiting
 pub mod FileEnds
 pub mod FileRuns

@@ -4,7 +4,7 @@ use Rattle.std.specs.List.{AllByRecursion}
 use Rattle.std.specs.Io.KnownBytes.{Consumes, Appends, IsAtEnd}
 use Rattle.std.proofs.KnownBytes.{Consumes-nil, Appends-nil, Consumes-trans, Appends-trans}
 use Rattle.bac_tag.specs.declared.refusals.Refusal.{Refusal}
-use Rattle.bac_record.specs.Records.{joined, record_of, IsRecord, MOST}
+use Rattle.bac_record.specs.Records.{joined, record_of, IsRecord, MOST, HELD}
 use Rattle.bac_record.specs.Outputs.{Outputs, Tally}
 use Rattle.bac_record.specs.Transfers.{TakesFront}
 use Rattle.bac_record.specs.Runs.{Sums, RanThrough, Stopped, IsCause, IsWritten, number_of}
@@ -110,14 +110,17 @@ ends line is_canonical is_refused left left' taken taken' held summary sent run 
 -- The next record is at fault, and nothing was written of it.
 pub stops : (line : ℕ → List ℕ → List ℕ → Type 0) (is_canonical is_refused : List ℕ → Type 0) (stops_run : List ℕ → Refusal → Type 0) (left left' taken taken' : Option (List ℕ)) (held : List ℕ)
     (summary : Summary) (sent : ℕ) (fault : RunFault)
-    → RunSoFar line is_canonical is_refused left left' taken taken' held summary sent → number_of fault ≡ summary.records + 1 → IsCause stops_run summary.records held left' fault
+    → RunSoFar line is_canonical is_refused left left' taken taken' held summary sent → length held ≤ HELD
+    → number_of fault ≡ summary.records + 1 → IsCause stops_run summary.records held left' fault
     → ((list : List (List ℕ)) (output : List ℕ) → Outputs line 1 list output → IsWritten line list held output fault)
     → Stopped line stops_run left left' taken taken' fault
-stops line is_canonical is_refused stops_run left left' taken taken' held summary sent fault run number cause written = record {
+stops line is_canonical is_refused stops_run left left' taken taken' held summary sent fault run room number cause written = record {
   list = run.list;
   rest = held;
   written = run.output;
   each = run.each;
+  few = run.few;
+  held = room;
   read = run.read;
   wrote = run.wrote;
   number = number ∙ ap (λ n. n + 1) run.sums.records;
@@ -128,26 +131,27 @@ stops line is_canonical is_refused stops_run left left' taken taken' held summar
 -- The octets behind the records show the fault.
 pub stops_found : (line : ℕ → List ℕ → List ℕ → Type 0) (is_canonical is_refused : List ℕ → Type 0) (stops_run : List ℕ → Refusal → Type 0) (left left' taken taken' : Option (List ℕ)) (held : List ℕ)
     (summary : Summary) (sent : ℕ) (fault : RunFault)
-    → RunSoFar line is_canonical is_refused left left' taken taken' held summary sent → IsFound stops_run summary.records held fault → Stopped line stops_run left left' taken taken' fault
-stops_found line is_canonical is_refused stops_run left left' taken taken' held summary sent (Stream at TooManyFrames) run found =
-    stops line is_canonical is_refused stops_run left left' taken taken' held summary sent (Stream at TooManyFrames) run found.0 found.1 (λ list output outputs. outputs)
-stops_found line is_canonical is_refused stops_run left left' taken taken' held summary sent (Stream at OutOfMemory) run found =
-    stops line is_canonical is_refused stops_run left left' taken taken' held summary sent (Stream at OutOfMemory) run found.0 (inr found.1) (λ list output outputs. outputs)
-stops_found line is_canonical is_refused stops_run left left' taken taken' held summary sent (Frame at refusal) run found =
-    stops line is_canonical is_refused stops_run left left' taken taken' held summary sent (Frame at refusal) run found.0 found.1 (λ list output outputs. outputs)
-stops_found line is_canonical is_refused stops_run left left' taken taken' held summary sent (Stream at RecordTooLong) run found = absurd found
-stops_found line is_canonical is_refused stops_run left left' taken taken' held summary sent (Stream at Truncated) run found = absurd found
-stops_found line is_canonical is_refused stops_run left left' taken taken' held summary sent (Stream at ReadFault) run found = absurd found
-stops_found line is_canonical is_refused stops_run left left' taken taken' held summary sent (Stream at (WriteFault count)) run found = absurd found
+    → RunSoFar line is_canonical is_refused left left' taken taken' held summary sent → length held ≤ HELD → IsFound stops_run summary.records held fault
+    → Stopped line stops_run left left' taken taken' fault
+stops_found line is_canonical is_refused stops_run left left' taken taken' held summary sent (Stream at TooManyFrames) run room found =
+    stops line is_canonical is_refused stops_run left left' taken taken' held summary sent (Stream at TooManyFrames) run room found.0 found.1 (λ list output outputs. outputs)
+stops_found line is_canonical is_refused stops_run left left' taken taken' held summary sent (Stream at OutOfMemory) run room found =
+    stops line is_canonical is_refused stops_run left left' taken taken' held summary sent (Stream at OutOfMemory) run room found.0 (inr found.1) (λ list output outputs. outputs)
+stops_found line is_canonical is_refused stops_run left left' taken taken' held summary sent (Frame at refusal) run room found =
+    stops line is_canonical is_refused stops_run left left' taken taken' held summary sent (Frame at refusal) run room found.0 found.1 (λ list output outputs. outputs)
+stops_found line is_canonical is_refused stops_run left left' taken taken' held summary sent (Stream at RecordTooLong) run room found = absurd found
+stops_found line is_canonical is_refused stops_run left left' taken taken' held summary sent (Stream at Truncated) run room found = absurd found
+stops_found line is_canonical is_refused stops_run left left' taken taken' held summary sent (Stream at ReadFault) run room found = absurd found
+stops_found line is_canonical is_refused stops_run left left' taken taken' held summary sent (Stream at (WriteFault count)) run room found = absurd found
 
 -- A part of the batch's output was written.
 pub stops_writing : (line : ℕ → List ℕ → List ℕ → Type 0) (is_canonical is_refused : List ℕ → Type 0) (stops_run : List ℕ → Refusal → Type 0) (left left' taken written taken' : Option (List ℕ)) (octets : List ℕ)
     (summary : Summary) (sent taken_octets count index : ℕ) (batch : Batch)
-    → RunSoFar line is_canonical is_refused left left' taken written octets summary sent
+    → RunSoFar line is_canonical is_refused left left' taken written octets summary sent → length octets ≤ HELD
     → Deals line is_canonical is_refused summary.records octets taken_octets batch
     → IsFirstPast batch.ends.items count index → TakesFront written taken' batch.output.items count
     → Stopped line stops_run left left' taken taken' (Stream ((summary.records + index) + 1) (WriteFault (sent + count)))
-stops_writing line is_canonical is_refused stops_run left left' taken written taken' octets summary sent taken_octets count index batch run deals past front =
+stops_writing line is_canonical is_refused stops_run left left' taken written taken' octets summary sent taken_octets count index batch run most deals past front =
     let place : count ≡ 0 + count = omega arith in
     let cut = cut_at line (summary.records + 1) 0 deals.list batch.output.items batch.ends.items count index deals.holds.outputs front.0 (subst (λ n. IsFirstPast batch.ends.items n index) place past) in
     let list = run.list ++ cut.front in
@@ -161,11 +165,16 @@ stops_writing line is_canonical is_refused stops_run left left' taken written ta
     let whole : joined list ++ rest ≡ joined run.list ++ octets =
     rejoined run.list cut.front cut.octets cut.behind deals.list (drop taken_octets octets) octets cut.whole
     (ap (λ l. l ++ drop taken_octets octets) (sym deals.whole) ∙ take-append-drop taken_octets octets) in
+    let long_front : length (joined list) ≡ length (joined run.list) + length (joined cut.front) =
+    ap (length {A = ℕ}) (joined-append run.list cut.front) ∙ length-append (joined run.list) (joined cut.front) in
+    let same_length = ap (length {A = ℕ}) whole in
     record {
       list = list;
       rest = rest;
       written = run.output ++ take count batch.output.items;
       each = AllByRecursion-append IsRecord run.list cut.front run.each (front_all IsRecord cut.front (cut.octets ∷ cut.behind) each);
+      few = omega (arith, room);
+      held = omega (arith, most, same_length, long_front, length-append (joined list) rest, length-append (joined run.list) octets);
       read = subst (Consumes left left') (sym whole) run.read;
       wrote = Appends-trans taken written taken' run.output (take count batch.output.items) run.wrote front.1;
       number = omega (arith, long);

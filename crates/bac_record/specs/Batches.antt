@@ -1,4 +1,5 @@
--- What lies whole in the octets that a run holds, and what it made of it.
+-- What is whole in the octets that a run holds, and what it made of it. Public contracts use only IsPartial and IsFront. The
+-- others say what a run holds between a read and a write.
 use Rattle.std.specs.Prelude.{◌≡◌, ◌⊎◌, ℕ, ◌+◌, ◌<◌, ◌≤◌, List, [], ◌∷◌, ◌++◌, length, take, get_or, ⊤, Option, Some, None}
 use Rattle.std.specs.List.{AllByRecursion}
 use Rattle.bac_tag.specs.declared.refusals.Refusal.{Refusal}
@@ -14,15 +15,15 @@ use Rattle.bac_record.specs.declared.faults.RunFault.TheVariants.{Stream, Frame}
 abbrev pub IsPartial : List ℕ → Type 0
 IsPartial octets = (BeginsRecord octets → ⊥) × (length octets < LONGEST + 2)
 
--- a record at the front
+-- This record is at the front of the octets.
 abbrev pub IsFront : List ℕ → List ℕ → Type 0
 IsFront first octets = (more : List ℕ) × IsRecord first × (octets ≡ record_of first ++ more)
 
--- One record more has P, or not.
+-- The count rises by one if P holds, and else it stays.
 abbrev pub Counts : Type 0 → ℕ → ℕ → Type 0
 Counts P old new = (P × (new ≡ old + 1)) ⊎ ((P → ⊥) × (new ≡ old))
 
--- The batch holds what was made of one record more.
+-- The batch holds what was made of one record more, the one of this number.
 pub record IsAdded (line : ℕ → List ℕ → List ℕ → Type 0) (is_canonical is_refused : List ℕ → Type 0)
     (number : ℕ) (octets : List ℕ) (old new : Batch) : Type 0 where
   pub output : List ℕ
@@ -33,20 +34,21 @@ pub record IsAdded (line : ℕ → List ℕ → List ℕ → Type 0) (is_canonic
   pub canonical : Counts (is_canonical octets) old.summary.canonical new.summary.canonical
   pub refused : Counts (is_refused octets) old.summary.refused new.summary.refused
 
--- nothing was made of the next record
+-- The batch holds the same as before, since nothing was made of the next record.
 pub record IsSame (old new : Batch) : Type 0 where
   pub output : new.output.items ≡ old.output.items
   pub ends : new.ends.items ≡ old.ends.items
   pub summary : new.summary ≡ old.summary
 
--- The batch holds what was made of these records, of which the first has this number.
+-- The batch holds what was made of these records, in order, of which the first has this number.
 pub record Holds (line : ℕ → List ℕ → List ℕ → Type 0) (is_canonical is_refused : List ℕ → Type 0)
     (number : ℕ) (list : List (List ℕ)) (batch : Batch) : Type 0 where
   pub each : AllByRecursion IsRecord list
   pub outputs : OutputsWithEnds line number 0 list batch.output.items batch.ends.items
   pub sums : Sums is_canonical is_refused list batch.summary
 
--- The first so many of the octets are these records, and the batch holds what was made of them.
+-- The first so many of the octets are records, and the batch holds what was made of them. As many records as before says were
+-- dealt with earlier.
 pub record Deals (line : ℕ → List ℕ → List ℕ → Type 0) (is_canonical is_refused : List ℕ → Type 0)
     (before : ℕ) (octets : List ℕ) (count : ℕ) (batch : Batch) : Type 0 where
   pub list : List (List ℕ)
@@ -55,7 +57,7 @@ pub record Deals (line : ℕ → List ℕ → List ℕ → Type 0) (is_canonical
   pub few : before + length list ≤ MOST
   pub holds : Holds line is_canonical is_refused (before + 1) list batch
 
--- The fault is one that the octets behind so many records show.
+-- The fault is one that the octets after so many records show.
 abbrev pub IsFound : (List ℕ → Refusal → Type 0) → ℕ → List ℕ → RunFault → Type 0
 IsFound stops count rest (Stream at TooManyFrames) = (at ≡ count + 1) × HasEnd count rest TooMany
 IsFound stops count rest (Stream at OutOfMemory) = (at ≡ count + 1) × NextRecord count rest (λ octets. ⊤)
@@ -65,18 +67,18 @@ IsFound stops count rest (Stream at Truncated) = ⊥
 IsFound stops count rest (Stream at ReadFault) = ⊥
 IsFound stops count rest (Stream at (WriteFault written)) = ⊥
 
--- The record of this number was not dealt with.
+-- The fault is that the record of this number was not dealt with: memory was refused, or it has a refusal that stops the run.
 abbrev pub IsAddFault : (Refusal → Type 0) → ℕ → RunFault → Type 0
 IsAddFault stops number (Stream at OutOfMemory) = at ≡ number
 IsAddFault stops number (Stream at _) = ⊥
 IsAddFault stops number (Frame at refusal) = (at ≡ number) × stops refusal
 
--- why no further record is dealt with behind so many records
+-- Why no further record is dealt with after so many records: a fault that the octets show, or there is less than a record.
 abbrev pub Halts : (List ℕ → Refusal → Type 0) → ℕ → List ℕ → Option RunFault → Type 0
 Halts stops count rest None = Waits count rest × (length rest < LONGEST + 2)
 Halts stops count rest (Some fault) = IsFound stops count rest fault
 
--- the first of the ends that is past this place, or their number
+-- The index is that of the first of the ends that is past this place, or their number if there is none.
 abbrev pub IsFirstPast : List ℕ → ℕ → ℕ → Type 0
 IsFirstPast ends place index =
     (index ≤ length ends) × ((k : ℕ) → k < index → get_or ends k 0 ≤ place) × (index < length ends → place < get_or ends index 0)

@@ -15,11 +15,18 @@ use Rattle.bac_record.specs.declared.summaries.Summary.{Summary}
 abbrev pub Writes : (ℕ → List ℕ → List ℕ → Type 0) → List (List ℕ) → Option (List ℕ) → Option (List ℕ) → Type 0
 Writes line list taken taken' = (output : List ℕ) × Outputs line 1 list output × Appends taken taken' output
 
--- The run dealt with records at the front of the list and wrote their outputs, up to the record of this number.
+-- Only the records before the one of this number were dealt with, and only their outputs were written.
 abbrev pub StopsAfter : (ℕ → List ℕ → List ℕ → Type 0) → List (List ℕ) → Option (List ℕ) → Option (List ℕ) → ℕ → Type 0
 StopsAfter line list taken taken' at = (front more : List (List ℕ)) × (list ≡ front ++ more) × (at ≡ length front + 1) × Writes line front taken taken'
 
 -- What a run answers for a file of these records and this rest, and what it writes.
+-- Ok: the file ends clean, the Summary is that of all records, and all outputs are written.
+-- Truncated, TooManyFrames: the file ends so, and the outputs of all its records are written.
+-- ReadFault: the outputs of some records at its front are written (StopsAfter).
+-- OutOfMemory: the same, and the record that it names is one of the file's, or the first.
+-- WriteFault: that many octets of the outputs were written, which are not all.
+-- Frame, a refused record in normalise: it is the first record that stops the run, and the outputs of those before it are
+-- written.
 abbrev pub RunsOver : (ℕ → List ℕ → List ℕ → Type 0) → (List ℕ → Refusal → Type 0) → (List ℕ → Type 0) → (List ℕ → Type 0)
     → List (List ℕ) → List ℕ → Option (List ℕ) → Option (List ℕ) → Result Summary RunFault → Type 0
 RunsOver line stops is_canonical is_refused list rest taken taken' (Ok summary) =
@@ -38,7 +45,7 @@ RunsOver line stops is_canonical is_refused list rest taken taken' (Err (Stream 
     (front more : List (List ℕ)) × (octets output part unsent : List ℕ) × (list ≡ front ++ octets ∷ more) × (at ≡ length front + 1)
     × Outputs line 1 front output × line at octets (part ++ unsent) × (unsent ≢ [])
     × Appends taken taken' (output ++ part) × (count ≡ length (output ++ part))
--- The first record that stops the run is told, and those before it were dealt with.
+-- The fault names the first record that stops the run, and those before it were dealt with.
 RunsOver line stops is_canonical is_refused list rest taken taken' (Err (Frame at refusal)) =
     (front more : List (List ℕ)) × (octets : List ℕ) × (list ≡ front ++ octets ∷ more) × (at ≡ length front + 1)
     × stops octets refusal × Writes line front taken taken'

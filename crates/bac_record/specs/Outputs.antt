@@ -1,13 +1,15 @@
--- What a run writes for a list of records, and how it counts them.
+-- What a run writes for a list of records, and how it counts them. The output of one record is a relation and not a function of
+-- it, since a line for a refused record may name any refusal that the reader may give. In these definitions line is that
+-- relation.
 use Rattle.std.specs.Prelude.{◌≡◌, ◌⊎◌, ℕ, ◌+◌, List, [], ◌∷◌, ◌++◌, length}
 
--- the outputs of these records one after another, the first with this number
+-- The output is the outputs of these records one after another, the first record with this number.
 abbrev pub Outputs : (ℕ → List ℕ → List ℕ → Type 0) → ℕ → List (List ℕ) → List ℕ → Type 0
 Outputs line number [] output = output ≡ []
 Outputs line number (octets ∷ records) output =
     (first more : List ℕ) × line number octets first × Outputs line (number + 1) records more × (output ≡ first ++ more)
 
--- the same, with the place where each output ends, counted from a place before the first
+-- The output is that of Outputs, with the place where each output ends. The first output begins at the place start.
 abbrev pub OutputsWithEnds : (ℕ → List ℕ → List ℕ → Type 0) → ℕ → ℕ → List (List ℕ) → List ℕ → List ℕ → Type 0
 OutputsWithEnds line number start [] output ends = (output ≡ []) × (ends ≡ [])
 OutputsWithEnds line number start (octets ∷ records) output ends =

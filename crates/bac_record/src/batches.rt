@@ -1,4 +1,4 @@
-//! The records that lie whole in what a run holds.
+//! The records that are whole in what a run holds.
 
 ghost use Rattle.std.specs.Prelude.{◌+◌, ◌<◌, ◌^◌, ◌≡◌, ◌≤◌, IfErr, IfOk, List, MatchOption, MatchResult, OnErr, OnOk, [], drop, length, ℕ};
 ghost use Rattle.std.specs.Io.KnownBytes.{Appends};
@@ -62,7 +62,7 @@ impl Batch {
     }
 
     /// Deals with the record at the front of the octets. The run dealt with `count` records before it. Returns how many
-    /// octets were taken, or `None` if no whole record lies there.
+    /// octets were taken, or `None` if no whole record is there.
     fn deal_next<J: Job>(
         &mut self,
         job: &J,
@@ -127,7 +127,7 @@ impl Batch {
         Ok(())
     }
 
-    /// Deals with each record that lies whole at the front of the octets. The run dealt with `before` records before
+    /// Deals with each record that is whole at the front of the octets. The run dealt with `before` records before
     /// them. Returns the number of octets of these records, and the fault of the next one, if there is one.
     pub(crate) fn deal<J: Job>(
         &mut self,

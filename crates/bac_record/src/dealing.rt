@@ -29,7 +29,7 @@ impl Dealt {
         }
     }
 
-    /// Returns that the record does not count as refused, and that it counts as canonical exactly where it has no mark.
+    /// Returns that the record does not count as refused, and that it counts as canonical exactly if it has no mark.
     #[inline(always)]
     pub fn accepted(mark: Option<usize>) -> Dealt
         ensures canonical { IsTrue result.is_canonical ↔ (mark ≡ None) }

@@ -3,7 +3,7 @@
 ghost use Rattle.std.specs.Prelude.{List, Option, ℕ};
 ghost use Rattle.std.specs.Io.{ReadsAtMost, WritesAtMost};
 ghost use Rattle.std.specs.Io.KnownBytes.{ReadConsumes, WriteAppends};
-ghost use Rattle.bac_record.specs.Devices.{ReadCounts, WriteCounts};
+ghost use Rattle.bac_record.specs.Devices.{ReadCounts, ReadGives, WriteCounts};
 
 use thiserror::Error;
 
@@ -20,17 +20,21 @@ pub trait Input {
     /// The octets that reads will give from here on, if they are known.
     ghost left: { Self → Option (List ℕ) };
 
+    /// How many octets reads have given. It stays at the largest `u64`.
+    ghost given: { Self → ℕ };
+
     /// How often a read has failed. It stays at the largest `u64`.
     ghost failures: { Self → ℕ };
 
     /// Reads octets into the front of the buffer. Returns how many, which may be fewer than there are. It returns 0 at
-    /// the end, or if the buffer has no room.
+    /// the end, or if the buffer has length 0.
     ///
     /// # Errors
     /// `Failed`: no octet was read, and the count of failures rises.
     fn read(&mut self, buffer: &mut [u8]) -> Result<usize, Device>
         ensures bound { ReadsAtMost result buffer.new }
         ensures octets { ReadConsumes (left self.old) (left self.new) result buffer.new }
+        ensures given { ReadGives (given self.old) (given self.new) result }
         ensures counted { ReadCounts (failures self.old) (failures self.new) result };
 }
 

@@ -44,7 +44,7 @@ fn put_pair(room: &mut [u8], at: usize, first: u8, second: u8)
     room[at + 1] = second;
 }
 
-/// Writes a word at a place with room for it, and returns where it ends.
+/// Writes a word at a place with capacity for it, and returns where it ends.
 #[inline(always)]
 pub fn put_word<const N: usize>(room: &mut [u8], at: usize, word: &[u8; N]) -> usize
     requires { at + N ≤ length room.old }
@@ -57,7 +57,7 @@ pub fn put_word<const N: usize>(room: &mut [u8], at: usize, word: &[u8; N]) -> u
     at + N
 }
 
-/// Writes octets at a place with room for them, and returns where they end.
+/// Writes octets at a place with capacity for them, and returns where they end.
 #[inline(always)]
 pub fn put_octets(room: &mut [u8], at: usize, octets: &[u8]) -> usize
     requires { at + length octets.now ≤ length room.old }
@@ -185,8 +185,8 @@ fn put_digits(room: &mut [u8], at: usize, number: u64) -> usize
     behind + 8
 }
 
-/// Writes the decimal digits of a number, without leading zeros, at a place with room for twenty. Returns where they
-/// end. A number below 2^32 has at most ten.
+/// Writes the decimal digits of a number, without leading zeros, at a place with capacity for twenty. Returns where
+/// they end. A number below 2^32 has at most ten.
 #[inline(always)]
 pub fn put_decimal(room: &mut [u8], at: usize, number: u64) -> usize
     requires { at + 20 ≤ length room.old }
@@ -202,8 +202,8 @@ pub fn put_decimal(room: &mut [u8], at: usize, number: u64) -> usize
     put_digits(room, at, number)
 }
 
-/// Writes a minus if the number is negative, and its decimal digits, without leading zeros, at a place with room for
-/// twenty-one octets. Returns where they end.
+/// Writes a minus if the number is negative, and its decimal digits, without leading zeros, at a place with capacity
+/// for twenty-one octets. Returns where they end.
 pub fn put_signed_decimal(room: &mut [u8], at: usize, number: i64) -> usize
     requires { at + 21 ≤ length room.old }
     ensures digits { take result room.new ≡ take at room.old ++ signed_decimal number }
@@ -227,7 +227,8 @@ fn digits_of(octet: u8) -> [u8; 2]
     ]
 }
 
-/// Writes two hexadecimal digits for each octet, in upper case, at a place with room for them. Returns where they end.
+/// Writes two hexadecimal digits for each octet, in upper case, at a place with capacity for them. Returns where they
+/// end.
 #[inline(always)]
 pub fn put_hexadecimal(room: &mut [u8], at: usize, octets: &[u8]) -> usize
     requires room { at + 2 * length octets.now ≤ length room.old }
@@ -273,8 +274,8 @@ fn lengthen(out: &mut Vec<u8>, at: usize, room: usize) -> Result<(), OutOfMemory
 }
 
 /// Makes the vector longer if it has fewer than `room` octets from the place `at` on. The place must be at most the
-/// length of the vector. A text of many parts asks for room part by part, and the vector is made longer only now and
-/// then. The octets from the place on have no meaning: `truncate` cuts them off where the text ends.
+/// length of the vector. A text of many parts asks for capacity part by part, and the vector is made longer only now
+/// and then. The octets from the place on have no meaning: `truncate` cuts them off where the text ends.
 ///
 /// # Errors
 /// `OutOfMemory` if memory is refused. `out` then still has what it had before the place.

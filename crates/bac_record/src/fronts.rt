@@ -3,7 +3,7 @@
 ghost use Rattle.std.specs.Prelude.{MatchOption};
 ghost use Rattle.bac_record.specs.Batches.{IsFront, IsPartial};
 
-/// Returns the octets of the record at the front, without their length, or `None` if no whole record lies there.
+/// Returns the octets of the record at the front, without their length, or `None` if no whole record is there.
 pub fn front_record(octets: &[u8]) -> Option<&[u8]>
     ensures { MatchOption result (IsPartial octets.now) (λ first. IsFront first.now octets.now) }
 {

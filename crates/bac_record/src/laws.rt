@@ -1,4 +1,4 @@
-//! Laws of the definitions alone. The bodies do nothing: the contracts are the laws.
+//! Laws that are only about the definitions. The bodies do nothing: the contracts are the laws.
 
 ghost use Rattle.std.specs.Prelude.{◌≡◌, List, ℕ};
 ghost use Rattle.bac_record.specs.Records.{RecordsUpTo};

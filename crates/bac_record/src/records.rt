@@ -74,7 +74,8 @@ fn next_record<R: Input>(alloc: Global, reader: &mut R) -> Result<Option<Vec<u8>
 
 /// Reads the next record, and no octet after it. Returns its octets, or None if the reader is at its end.
 ///
-/// Octets: two of length, the most significant first, then as many as these two say, at most 65,535.
+/// A record is two octets of length, the most significant first, and then as many octets as these two say, at most
+/// 65,535.
 ///
 /// # Errors
 /// - `Truncated` if the reader ends inside the record.

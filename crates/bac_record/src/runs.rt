@@ -3,7 +3,7 @@
 ghost use Rattle.std.specs.Prelude.{◌≡◌, IfErr, IfOk, List, MatchResult, Some, ℕ};
 ghost use Rattle.bac_record.specs.Files.{RunsOver};
 ghost use Rattle.bac_record.specs.Records.{Records};
-ghost use Rattle.bac_record.specs.Runs.{RanThrough, RunCounts, Stopped};
+ghost use Rattle.bac_record.specs.Runs.{RanThrough, ReadsAtMost, RunCounts, Stopped};
 
 use crate::batches::Batch;
 use crate::dealing::Job;
@@ -20,7 +20,7 @@ pub const MOST: u32 = 1_000_000;
 
 /// Deals with each record to the end of the file, or to a fault.
 ///
-/// It reads once, deals with every record that lies whole in what it holds, writes all their output, and only then
+/// It reads once, deals with every record that is whole in what it holds, writes all their output, and only then
 /// reads again: nothing known is held back while it waits for input.
 fn run_pieces<J: Job, R: Input, W: Output>(
     alloc: Global,
@@ -32,6 +32,7 @@ fn run_pieces<J: Job, R: Input, W: Output>(
         (R.left reader.old) (R.left reader.new) (W.taken writer.old) (W.taken writer.new)) }
     ensures stopped { IfErr result (Stopped (J.line job.now) (J.stops job.now)
         (R.left reader.old) (R.left reader.new) (W.taken writer.old) (W.taken writer.new)) }
+    ensures bounded { ReadsAtMost (R.given reader.old) (R.given reader.new) }
     ensures counted { MatchResult result
         (λ _. (R.failures reader.new ≡ R.failures reader.old) × (W.failures writer.new ≡ W.failures writer.old))
         (RunCounts (R.failures reader.old) (R.failures reader.new) (W.failures writer.old) (W.failures writer.new)) }
@@ -73,7 +74,8 @@ fn run_pieces<J: Job, R: Input, W: Output>(
 
 /// Deals with each record of a file, in order, to its end or to a fault, and writes what the job makes of it.
 ///
-/// It takes memory for 65,537 octets of input and for the outputs of the records that lie in them.
+/// It takes memory for 65,537 octets of input and for the outputs of the records that are in them. From a reader that
+/// never ends it reads no more than 1,000,000 records and 65,537 octets.
 ///
 /// # Errors
 /// As [`RunFault`] says.
@@ -92,6 +94,7 @@ pub fn run<J: Job, R: Input, W: Output>(
     ensures files { (list : List (List ℕ)) (rest file : List ℕ) → R.left reader.old ≡ Some file → Records list rest file
         → RunsOver (J.line job.now) (J.stops job.now) (J.is_canonical job.now) (J.is_refused job.now) list rest
         (W.taken writer.old) (W.taken writer.new) result }
+    ensures bounded { ReadsAtMost (R.given reader.old) (R.given reader.new) }
     ensures counted { MatchResult result
         (λ _. (R.failures reader.new ≡ R.failures reader.old) × (W.failures writer.new ≡ W.failures writer.old))
         (RunCounts (R.failures reader.old) (R.failures reader.new) (W.failures writer.old) (W.failures writer.new)) }

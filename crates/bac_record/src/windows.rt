@@ -2,7 +2,7 @@
 
 ghost use Rattle.std.specs.Prelude.{◌++◌, ◌<◌, ◌≡◌, ◌≤◌, IfOk, List, MatchResult, OnErr, [], drop, length, take, vec_len, ℕ};
 ghost use Rattle.std.specs.Io.KnownBytes.{Consumes, IsAtEnd, Keeps};
-ghost use Rattle.bac_record.specs.Devices.{HasRisen};
+ghost use Rattle.bac_record.specs.Devices.{HasRisen, ReadGives};
 
 use crate::{Device, Input};
 use std::alloc::{AllocError, Global};
@@ -44,7 +44,7 @@ impl<const SIZE: usize> Window<SIZE> {
         &self.buffer[..self.held]
     }
 
-    /// Reads once, and appends what was read to the octets that it holds. There must be room for at least one octet.
+    /// Reads once, and appends what was read to the octets that it holds. It must have capacity for at least one more.
     /// Returns how many octets were read: 0 only at the reader's end.
     ///
     /// # Errors
@@ -56,6 +56,7 @@ impl<const SIZE: usize> Window<SIZE> {
         ensures end { IfOk result (λ count. count ≡ 0 → IsAtEnd (R.left reader.new)) }
         ensures bound { length self.new ≤ SIZE }
         ensures err { OnErr result ((self.new ≡ self.old) × Keeps (R.left reader.old) (R.left reader.new)) }
+        ensures given { ReadGives (R.given reader.old) (R.given reader.new) result }
         ensures counted { MatchResult result (λ _. R.failures reader.new ≡ R.failures reader.old) (λ _. HasRisen (R.failures reader.old) (R.failures reader.new)) }
     {
         let count = reader.read(&mut self.buffer[self.held..])?;

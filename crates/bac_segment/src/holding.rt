@@ -14,7 +14,7 @@ use std::alloc::Global;
 /// How many octets are cut at most, and joined at most.
 pub(crate) const MOST_OCTETS: usize = 65_535;
 
-/// How many octets there is room for at first.
+/// The capacity at first, in octets.
 const FIRST_ROOM: usize = 4_096;
 
 /// How many numbers there are.
@@ -64,8 +64,8 @@ fn is_repeat(piece: &[u8], more: bool, segment: &Segment) -> bool
     piece == segment.piece.as_slice() && more == segment.more
 }
 
-/// Makes room for `wanted` octets: for a short message at first, and then for the longest that there is, so that what
-/// is held moves once.
+/// Makes the capacity at least `wanted` octets: enough for a short message at first, and then for the longest that there
+/// is, so that what is held moves once.
 #[inline(never)]
 fn grow(octets: &mut Vec<u8>, wanted: usize) -> Result<(), OutOfMemory>
     ensures { octets.new.items ≡ octets.old.items }

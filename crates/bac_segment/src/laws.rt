@@ -73,6 +73,13 @@ pub fn keys_are_apart()
     ensures { (calls : List DeskCall) (desk : List Reassembled) (key : Key) → DeskRuns [] calls desk → held_of desk key ≡ held (part key calls) }
 {}
 
+/// What a desk holds of a key is what the segments between its opening and its closing give. All its segments that were
+/// answered by what was held give the same: a refused one that did not open the key adds nothing.
+pub fn segments_since_the_opening_are_held()
+    ensures opened { (calls : List DeskCall) (desk : List Reassembled) (key : Key) → DeskRuns [] calls desk → held_of desk key ≡ held (since_opened key calls) }
+    ensures same { (calls : List DeskCall) (desk : List Reassembled) (key : Key) → DeskRuns [] calls desk → held (since_opened key calls) ≡ held (part key calls) }
+{}
+
 /// Calls of a desk after others continue from where those ended.
 pub fn desk_calls_go_on()
     ensures { (old mid new : List Reassembled) (calls more : List DeskCall) → DeskRuns old calls mid → DeskRuns mid more new → DeskRuns old (calls ++ more) new }

@@ -1,4 +1,5 @@
--- What decoding a service of a kind and a choice gives.
+-- What decoding a service of a kind and a choice gives. Each definition has clauses of decode_service_marked in one
+-- word, for the functions below it.
 use Rattle.std.specs.Prelude.{◌≡◌, ◌≢◌, ℕ, true, false, Option, List, Result, Ok, Err}
 use Rattle.bac_tag.specs.declared.refusals.Refusal.{Refusal}
 use Rattle.bac_tag.specs.declared.refusals.Why.TheVariants.{OutOfMemory}
@@ -9,17 +10,20 @@ use Rattle.bac_service.specs.declared.service.Service.{Service}
 use Rattle.bac_service.specs.ServiceTable.{is_small}
 use Rattle.bac_service.specs.Services.{value_of, SpellsService}
 
--- the octets spell the service, and have the mark
+-- The octets spell the service, which has this kind and this choice, and they have the mark.
 pub record IsFound (kind : Kind) (choice : ℕ) (octets : List ℕ) (service : Service) (mark : Option ℕ) : Type 0 where
   pub spelled : SpellsService true 32 kind choice (value_of service) octets
   pub marked : HasMark (SpellsService true 32 kind choice (value_of service)) octets mark
 
--- the octets spell no service, or memory was refused, which is not told of a small service
+-- The octets are refused: they spell no service of this kind and this choice, or memory was refused. If memory was
+-- refused, the place is 0. That is never reported of a small service.
 pub record IsRefused (kind : Kind) (choice : ℕ) (octets : List ℕ) (refusal : Refusal) : Type 0 where
   pub refused : refusal.why ≢ OutOfMemory → IsWholeRefusal (SpellsService true 32 kind choice) octets refusal
   pub memory : refusal.why ≡ OutOfMemory → (refusal.place ≡ 0) × (is_small kind choice ≡ false)
   pub reason : IsServiceReason refusal.why
 
+-- The result of decoding octets as a service of a kind and a choice is a service with its mark or a refusal. The
+-- service is one by IsFound, the refusal one by IsRefused.
 abbrev pub IsDecoded : Kind → ℕ → List ℕ → Result (Service × Option ℕ) Refusal → Type 0
 IsDecoded kind choice octets (Ok found) = IsFound kind choice octets found.0 found.1
 IsDecoded kind choice octets (Err refusal) = IsRefused kind choice octets refusal

@@ -6,12 +6,15 @@ use Rattle.bac_productions.specs.Productions.{IsRecordOf}
 use Rattle.bac_value.specs.declared.types.enumeration.Enumerated.{Enumerated}
 use Rattle.bac_service.specs.declared.service.error_cause.ErrorCause.{ErrorCause}
 
+-- The lists that spell an error: the class and the code.
 abbrev pub SpellsErrorCause : ErrorCause → List ℕ → Type 0
 SpellsErrorCause cause = Joins (ApplicationEnumerated cause.class) (ApplicationEnumerated cause.code)
 
+-- The lists that spell the parts of an error, which are a class and a code.
 abbrev pub CauseParts : Enumerated × Enumerated → List ℕ → Type 0
 CauseParts = Joined ApplicationEnumeratedPart ApplicationEnumeratedPart
 
+-- An error is its fields, and is spelled as they are.
 pub error_cause_parts : IsRecordOf CauseParts SpellsErrorCause
 error_cause_parts = record {
   fields = λ cause. (of_number cause.class, of_number cause.code);

@@ -1,4 +1,5 @@
--- The error of WritePropertyMultiple (clause 21): [0] a group with the class and the code, [1] a group with the reference to the property of an object whose write failed first.
+-- The error of WritePropertyMultiple (clause 21): [0] a group with the class and the code, [1] a group with the
+-- reference to the property of an object whose write failed first.
 use Rattle.std.specs.Prelude.{ℕ, List, refl}
 use Rattle.bac_tag.specs.Spelling.{Joins, Joined}
 use Rattle.bac_productions.specs.Productions.{Grouped, IsRecordOf}
@@ -7,9 +8,12 @@ use Rattle.bac_service.specs.declared.service.write_property_multiple_error.Writ
 use Rattle.bac_service.specs.ErrorCause.{SpellsErrorCause}
 use Rattle.bac_service.specs.ObjectProperty.{SpellsObjectProperty, ObjectPropertyParts}
 
+-- The lists that spell an error of WritePropertyMultiple: a group with the class and the code, and a group with a
+-- reference to a property of an object.
 abbrev pub SpellsWriteError : WritePropertyMultipleError → List ℕ → Type 0
 SpellsWriteError e = Joins (Grouped 0 SpellsErrorCause (record { class = e.class; code = e.code })) (Grouped 1 SpellsObjectProperty (e.object, (e.property, e.index)))
 
+-- An error of WritePropertyMultiple is its fields, and is spelled as they are.
 pub write_error_parts : IsRecordOf (Joined (Grouped 0 SpellsErrorCause) (Grouped 1 ObjectPropertyParts)) SpellsWriteError
 write_error_parts = record {
   fields = λ e. (record { class = e.class; code = e.code }, (e.object, (of_number e.property, e.index)));

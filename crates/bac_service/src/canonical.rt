@@ -11,8 +11,7 @@ use crate::service::{
 use std::alloc::Global;
 
 /// Returns true if the octets are found at once to be the canonical ones of a service (clause 21) of this kind and with
-/// this service choice. False says nothing about the octets: it is always returned for services that need no memory,
-/// which are short.
+/// this service choice. False is inconclusive: it is always returned for services that need no memory, which are short.
 pub fn is_canonical_service(alloc: Global, kind: Kind, choice: u8, octets: &[u8]) -> bool
     ensures { IsTrue result → IsCanonical (SpellsService true 32 kind choice) octets.now }
 {

@@ -31,7 +31,7 @@ pub fn each_choice_has_a_service()
     productions_are_well_spelled();
 }
 
-/// Each service that a program holds is spelled. Nothing is done for it: this is known of a service by its type alone.
+/// Each service that a program holds is spelled. Nothing is done for it: the type of a service is enough to know this.
 #[inline(always)]
 fn held_services_are_spelled(service: &Service)
     ensures { (b : List ℕ) × SpellsService true 32 (value_of service.now).kind (value_of service.now).choice (value_of service.now) b }
@@ -47,7 +47,7 @@ pub fn held_services_have_canonical_octets(service: &Service)
 }
 
 /// Only services are spelled. What is spelled has this kind and this choice, which is an octet, and the production that
-/// these name. If they name none, it is spelled by its own octets alone.
+/// these name. If they name none, it is spelled only by its own octets.
 pub fn only_services_are_spelled()
     ensures placed { (kind : Kind) (choice : ℕ) (v : ServiceValue) (b : List ℕ) → SpellsService true 32 kind choice v b → (v.kind ≡ kind) × (v.choice ≡ choice) × IsPlaced v }
     ensures opaque { (kind : Kind) (choice : ℕ) (v : ServiceValue) (b : List ℕ) → SpellsService true 32 kind choice v b → IsNone v.production → (v ≡ opaque kind choice b) × IsOctets b }

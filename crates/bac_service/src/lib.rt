@@ -12,16 +12,17 @@
 //!
 //! # How it works
 //!
-//! [`decode_service_marked`] finds the production by kind and choice. A service that one kind and one choice name says
-//! in its own file, with `impl Named` for its `Fields`, its kind and choice, and how they become a service; or with
-//! `impl NamedList`, if it is one list, also its items. `decode_named` or `decode_list` (`named.rt`) decodes it.
-//! Notifications and errors of a class and a code have several choices each, and a function of their own.
+//! [`decode_service_marked`] finds the production by kind and choice. A service that one kind and one choice name has
+//! a file of its own. There `impl Named` for its `Fields` gives its kind and choice, and how the fields become a
+//! service. If the service is one list, `impl NamedList` gives these and its items. `decode_named` or `decode_list`
+//! (`named.rt`) decodes it. Notifications and errors of a class and a code have several choices each, and a function
+//! of their own.
 //!
 //! A production is a type made of parts, as bac_productions has them: fields under a tag, open values, groups, lists,
-//! parts that may be absent, and one part or another. A struct of a service is a `Record`. It says its parts (`Parts`),
-//! how it is made of them (`from_parts`), and how they are appended (`write_fields`). bac_productions reads and writes
-//! each part, in its least spelling, so the whole is the least one. If memory is refused, [`append_service`] cuts off
-//! what was appended.
+//! parts that may be absent, and one part or another. A struct of a service is a `Record`, which gives its parts
+//! (`Parts`), how it is made of them (`from_parts`), and how they are appended (`write_fields`). bac_productions
+//! reads and writes each part, in its least spelling, so the whole is the least one. If memory is refused,
+//! [`append_service`] cuts off what was appended.
 //!
 //! Where it is, in `src`, and after the semicolon in `specs`:
 //!

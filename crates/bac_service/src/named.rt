@@ -51,7 +51,7 @@ pub(crate) fn decode_named<S: Named>(alloc: Global, octets: &[u8]) -> Result<Mar
 }
 
 /// Returns true if the octets are found at once to be the canonical ones of the service that has the fields `S`. False
-/// says nothing about the octets.
+/// is inconclusive.
 pub(crate) fn is_canonical_named<S: Named>(alloc: Global, octets: &[u8]) -> bool
     requires { S.collisions ≡ [] }
     ensures { IsTrue result → IsCanonical (SpellsService true 32 S.kind S.choice) octets.now }
@@ -87,8 +87,8 @@ pub(crate) fn decode_list<S: NamedList>(alloc: Global, octets: &[u8]) -> Result<
     Ok((S::into_service(items), mark))
 }
 
-/// Returns true if the octets are found at once to be the canonical ones of a service of type `S`. False says nothing
-/// about the octets.
+/// Returns true if the octets are found at once to be the canonical ones of a service of type `S`. False is
+/// inconclusive.
 pub(crate) fn is_canonical_list<S: NamedList>(alloc: Global, octets: &[u8]) -> bool
     requires { of_list S.Item.Parts.collisions S.Item.Parts.may_be_empty S.Item.Parts.openers S.Item.Parts.continuers ≡ [] }
     ensures { IsTrue result → IsCanonical (SpellsService true 32 S.kind S.choice) octets.now }
@@ -113,8 +113,7 @@ pub(crate) fn decode_notification(
     Ok((Service::CovNotification(notification), mark))
 }
 
-/// Returns true if the octets are found at once to be the canonical ones of a notification. False says nothing about
-/// the octets.
+/// Returns true if the octets are found at once to be the canonical ones of a notification. False is inconclusive.
 pub(crate) fn is_canonical_notification(alloc: Global, confirmed: bool, octets: &[u8]) -> bool
     ensures { IsTrue result → IsCanonical (SpellsService true 32 (notification_kind confirmed) (notification_choice confirmed)) octets.now }
 {

@@ -1,5 +1,5 @@
-//! Services (clause 21), and everything that goes through all of them: a new service has its line in each match here,
-//! and in none elsewhere.
+//! Services (clause 21), and everything in this crate that goes through all of them: a new service has its line in each
+//! match here. Its text, its fields and its line have matches of their own, in the crates for them.
 
 ghost use Rattle.std.specs.Prelude.{◌≡◌, ◌↔◌, true, Some, IsTrue, OnOk};
 ghost use Rattle.std.specs.Map.{keys_of};
@@ -214,8 +214,7 @@ pub(crate) fn decode_failure(alloc: Global, choice: u8, octets: &[u8]) -> Result
     }
 }
 
-/// Returns true if the octets are found at once to be the canonical ones of a confirmed request. False says nothing
-/// about the octets.
+/// Returns true if the octets are found at once to be the canonical ones of a confirmed request. False is inconclusive.
 pub(crate) fn is_canonical_confirmed(alloc: Global, choice: u8, octets: &[u8]) -> bool
     ensures { IsTrue result → IsCanonical (SpellsService true 32 Confirmed choice) octets.now }
 {
@@ -228,8 +227,8 @@ pub(crate) fn is_canonical_confirmed(alloc: Global, choice: u8, octets: &[u8]) -
     }
 }
 
-/// Returns true if the octets are found at once to be the canonical ones of an unconfirmed request. False says nothing
-/// about the octets.
+/// Returns true if the octets are found at once to be the canonical ones of an unconfirmed request. False is
+/// inconclusive.
 pub(crate) fn is_canonical_unconfirmed(alloc: Global, choice: u8, octets: &[u8]) -> bool
     ensures { IsTrue result → IsCanonical (SpellsService true 32 Unconfirmed choice) octets.now }
 {
@@ -239,8 +238,8 @@ pub(crate) fn is_canonical_unconfirmed(alloc: Global, choice: u8, octets: &[u8])
     }
 }
 
-/// Returns true if the octets are found at once to be the canonical ones of an answer with contents. False says nothing
-/// about the octets.
+/// Returns true if the octets are found at once to be the canonical ones of an answer with contents. False is
+/// inconclusive.
 pub(crate) fn is_canonical_complex_ack(alloc: Global, choice: u8, octets: &[u8]) -> bool
     ensures { IsTrue result → IsCanonical (SpellsService true 32 ComplexAck choice) octets.now }
 {

@@ -10,7 +10,7 @@ use bac_tag::OutOfMemory;
 use bac_tag::layers::or_cut_back;
 use std::alloc::Global;
 
-/// How many octets there is room for at first: as many as most services need.
+/// The capacity at first, in octets: as many as most services need.
 const FIRST_ROOM: usize = 64;
 
 /// Appends the canonical octets of a service, the least that spell it, to what is in `out`. Its type lists them in

@@ -6,6 +6,7 @@ use Rattle.bac_tag.specs.declared.refusals.Refusal.{Refusal}
 use Rattle.bac_tag.specs.declared.refusals.Why.TheVariants.{OutOfMemory, NotCanonical}
 use Rattle.bac_record.specs.Records.{Records, MOST, TooMany, end_of}
 use Rattle.bac_record.proofs.Unique.{unique}
+use Rattle.bac_npdu_parts.specs.declared.frame.Frame.{Frame}
 use Rattle.bac_npdu_parts.specs.Frames.{FrameValue, SpellsFrame, value_of}
 use Rattle.bac_stream.specs.Judging.{IsCanonicalFor, Refuses}
 use Rattle.bac_stream.specs.Feeds.{Feed, Fed, Feeds, IsAnswer, taken_in, items_of, where_ok}
@@ -109,8 +110,11 @@ feeds_on old mid new (feed ∷ feeds) more h k = (h.0, h.1, feeds_on h.0 mid new
 -- ---- what an item gives
 
 module _ (frames : (f g : FrameValue) (b : List ℕ) → SpellsFrame f b → SpellsFrame g b → f ≡ g) where
+  pub tolerant_gives_frame : (octets : List ℕ) (frame : Frame) → SpellsFrame (value_of frame) octets → GivesItsValue SpellsFrame octets (Ok frame)
+  tolerant_gives_frame octets frame is = λ value. (λ s. frames value (value_of frame) octets s is, λ e. subst (λ (f : FrameValue). SpellsFrame f octets) (sym e) is)
+
   pub tolerant_gives : (octets : List ℕ) (item : Item) → IsItem Tolerant octets item → GivesItsValue SpellsFrame octets item
-  tolerant_gives octets (Ok frame) is = λ value. (λ s. frames value (value_of frame) octets s is, λ e. subst (λ (f : FrameValue). SpellsFrame f octets) (sym e) is)
+  tolerant_gives octets (Ok frame) is = tolerant_gives_frame octets frame is
   tolerant_gives octets (Err refusal) is = is.0
 
   pub strict_gives : (octets : List ℕ) (item : Item) → IsItem Strict octets item → GivesItsValue IsCanonicalFor octets item

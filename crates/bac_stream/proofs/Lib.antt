@@ -7,4 +7,5 @@ pub mod IntakeLemmas
 mod ItemLemmas
 pub mod FilledLemmas
 pub mod FeedLemmas
+mod HeadlineLemmas
 pub mod JoiningLemmas

@@ -5,36 +5,37 @@ use Rattle.bac_stream.specs.Intakes.{IntakeValue, Item, TakesIn, FeedFails}
 use Rattle.bac_stream.specs.declared.feed_faults.FeedFault.{FeedFault}
 use Rattle.bac_stream.specs.declared.feed_faults.FeedFault.TheVariants.{Truncated, RecordTooLong, TooManyFrames, OutOfMemory}
 
--- a feed: its piece, the items that it appended, and its answer
+-- A feed: its piece, the items that it gave, and its answer.
 pub record Feed : Type 0 where
   pub piece : List ℕ
   pub items : List Item
   pub answer : Result (Unit {0}) FeedFault
 
--- The feed makes the one intake of the other.
+-- The feed makes the new intake of the old one: it was taken in; or it failed, gave no items, and the intake is as it was.
 abbrev pub Fed : IntakeValue → Feed → IntakeValue → Type 0
 Fed old feed new = MatchResult feed.answer (λ _. TakesIn old feed.piece feed.items new)
     (λ fault. FeedFails old feed.piece fault × (feed.items ≡ []) × (new ≡ old))
 
--- These feeds, one after another, make the one intake of the other.
+-- These feeds, one after another, make the new intake of the old one.
 abbrev pub Feeds : IntakeValue → List Feed → IntakeValue → Type 0
 Feeds old [] new = new ≡ old
 Feeds old (feed ∷ feeds) new = (mid : IntakeValue) × Fed old feed mid × Feeds mid feeds new
 
--- the piece where it was answered Ok
+-- The piece if it was answered Ok, else nothing.
 abbrev pub where_ok : Result (Unit {0}) FeedFault → List ℕ → List ℕ
 where_ok (Ok _) piece = piece
 where_ok (Err fault) piece = []
 
--- the pieces that were answered Ok, joined
+-- The pieces that were answered Ok, joined.
 abbrev pub taken_in : List Feed → List ℕ
 taken_in feeds = flat_map (λ feed. where_ok feed.answer feed.piece) feeds
 
--- all the items, in order
+-- All the items of the feeds, in order.
 abbrev pub items_of : List Feed → List Item
 items_of feeds = flat_map (λ feed. feed.items) feeds
 
--- the answer to the piece with which a stream has this end
+-- How the piece with which a stream has this end may be answered: TooManyFrames if it has too many records, Ok if not,
+-- OutOfMemory in both cases.
 abbrev pub IsAnswer : Result (Unit {0}) FeedFault → End → Type 0
 IsAnswer (Ok _) end = end ≢ TooMany
 IsAnswer (Err TooManyFrames) end = end ≡ TooMany

@@ -24,63 +24,64 @@ use Rattle.bac_stream.specs.declared.joined.Joined.TheVariants.{NotSegment, Kept
 use Rattle.bac_stream.specs.declared.joined.JoinFault.{JoinFault}
 use Rattle.bac_stream.specs.declared.joined.JoinFault.TheVariants.{Take, Content}
 
--- the segment that an APDU is
+-- The segment that an APDU is, or none.
 abbrev pub delivered_by : ApduValue → Option Delivery
 delivered_by (segment head seq size more choice piece) =
     Some (record { head = head; window = size; choice = choice; seq = seq; more = more; piece = piece })
 delivered_by _ = None
 
--- the segment that stands behind the head of a frame
+-- The segment that the body of a frame holds, or none.
 abbrev pub delivered_in : BodyValue → Option Delivery
 delivered_in (apdu a) = delivered_by a
 delivered_in _ = None
 
--- the segment that a frame holds
+-- The segment that a frame holds, or none.
 abbrev pub delivered : FrameValue → Option Delivery
 delivered frame = delivered_in frame.body
 
--- the kind of the services of which there are such segments
+-- The kind of the services of which there are segments with this head: Confirmed of a request, else ComplexAck.
 abbrev pub kind_of : SegHead → Kind
 kind_of (Request head) = Confirmed
 kind_of (Ack invoke) = ComplexAck
 
--- The octets spell the service of which this is a segment.
+-- The octets spell the service of which this is a segment, under the kind and the choice of the segment.
 abbrev pub SpellsMessage : Delivery → ServiceValue → List ℕ → Type 0
 SpellsMessage s service octets = SpellsService true 32 (kind_of s.head) s.choice service octets
 
--- The octets spell no service of which this is a segment, and the refusal says where they stop to begin one; or memory
--- was refused, which is not told of a small one.
+-- The octets spell no service of which this is a segment, and the refusal says why and where they stop to begin one, by
+-- IsWholeRefusal; or memory was refused. That has place 0, and is not reported for a small service.
 pub record IsNoMessage (s : Delivery) (octets : List ℕ) (refusal : Refusal) : Type 0 where
   pub refused : refusal.why ≢ OutOfMemory → IsWholeRefusal (SpellsMessage s) octets refusal
   pub memory : refusal.why ≡ OutOfMemory → (refusal.place ≡ 0) × (is_small (kind_of s.head) s.choice ≡ false)
   pub reasons : IsServiceReason refusal.why
 
--- the answer where the message of this segment is whole: its service, or why it is none
+-- The answer if the message of this segment is whole: its service, or why it is none.
 abbrev pub IsFromMessage : Delivery → List ℕ → Result Joined JoinFault → Type 0
 IsFromMessage s octets (Ok (Message service)) = SpellsMessage s (service_of service) octets
 IsFromMessage s octets (Err (Content refusal)) = IsNoMessage s octets refusal
 IsFromMessage s octets _ = ⊥
 
--- The answer by that of the desk, and by the octets that it has then.
+-- What join returns, by the answer of the desk and by the message of the key, if that is whole then.
 abbrev pub IsJoined : Delivery → Answer → Option (List ℕ) → Result Joined JoinFault → Type 0
 IsJoined s (Ok taken.Kept) octets result = result ≡ Ok Kept
 IsJoined s (Ok taken.Repeat) octets result = result ≡ Ok Repeat
 IsJoined s (Ok taken.Complete) octets result = (message : List ℕ) × (octets ≡ Some message) × IsFromMessage s message result
 IsJoined s (Err refused) octets result = result ≡ Err (Take refused)
 
--- What joining answers, and what it leaves of the desk, where the frame holds such a segment or none.
+-- The step of join: what it returns, and what it leaves of the desk. The desk takes the segment; or the frame holds none, the
+-- answer is NotSegment, and nothing changes.
 abbrev pub DeskJoins : List Reassembled → ℕ → Option Delivery → Result Joined JoinFault → List Reassembled → Type 0
 DeskJoins old peer None result new = (result ≡ Ok NotSegment) × (new ≡ old)
 DeskJoins old peer (Some s) result new =
     (answer : Answer) × DeskTakes old peer s answer new × IsJoined s answer (whole (held_of new (key_of peer s))) result
 
--- The segment was taken.
+-- The fault is that of the octets of a whole message, so the segment was taken.
 abbrev pub is_taken : JoinFault → Bool
 is_taken (Take refused) = false
 is_taken (Content refusal) = true
 
--- the answers to a segment of a service's only cut: it is kept, there already, or completes this service, unless memory
--- is refused or eight other keys are open
+-- The answers to a segment of a service's only cut: Kept, Repeat, this service, OutOfMemory or DeskFull. The segment is kept,
+-- is there already, or completes this service, unless memory is refused or eight other keys are open.
 abbrev pub IsGoodJoin : ServiceValue → Result Joined JoinFault → Type 0
 IsGoodJoin service (Ok Kept) = ⊤
 IsGoodJoin service (Ok Repeat) = ⊤
@@ -91,8 +92,8 @@ IsGoodJoin service (Err (Take fault.DeskFull)) = ⊤
 IsGoodJoin service (Err (Take _)) = ⊥
 IsGoodJoin service (Err (Content refusal)) = refusal.why ≡ OutOfMemory
 
--- the answers to the last missing one of such segments: it completes this service, unless memory is refused or eight other
--- keys are open
+-- The answers to the last missing segment of a service's only cut: this service, OutOfMemory or DeskFull. The segment completes
+-- this service, unless memory is refused or eight other keys are open.
 abbrev pub IsLastJoin : ServiceValue → Result Joined JoinFault → Type 0
 IsLastJoin service (Ok (Message found)) = service_of found ≡ service
 IsLastJoin service (Ok _) = ⊥

@@ -3,3 +3,4 @@ pub mod Lines
 pub mod Intakes
 pub mod Feeds
 pub mod Joining
+pub mod Headline

@@ -17,42 +17,43 @@ use Rattle.bac_stream.specs.declared.modes.Mode.TheVariants.{Tolerant}
 use Rattle.bac_stream.specs.declared.lines.Line.{Line}
 use Rattle.bac_stream.specs.declared.lines.Line.TheVariants as line
 
--- what is said of a record
+-- What is said of a record: ok, tolerated at a place, refused with a refusal, or shown as a frame.
 pub data Said : Type 0 where
   ok : Said
   tolerated : ℕ → Said
   refused : Refusal → Said
   shown : FrameValue → Said
 
--- what a line says
+-- What a Line of the program says.
 abbrev pub said_by : Line → Said
 said_by line.Canonical = ok
 said_by (line.Tolerated place) = tolerated place
 said_by (line.Refused refusal) = refused refusal
 said_by (line.Shown head body) = shown (frame_with head.now (body_value body.now))
 
+-- The text of what is said: ok, tolerated at P, refused WHY at P, or the text of the frame.
 abbrev pub said_text : Said → List ℕ
 said_text ok = codes "ok"
 said_text (tolerated place) = codes "tolerated at " ++ decimal place
 said_text (refused refusal) = codes "refused " ++ name_of refusal.why ++ codes " at " ++ decimal refusal.place
 said_text (shown frame) = text frame
 
--- what check says of accepted octets, by their mark
+-- What check says of accepted octets, by their mark.
 abbrev pub said_of : Option ℕ → Said
 said_of None = ok
 said_of (Some place) = tolerated place
 
--- a text behind the number of its record, as a line
+-- A text as a line with the number of its record: the number, a blank, the text, a line end.
 abbrev pub numbered : ℕ → List ℕ → List ℕ
 numbered number text = decimal number ++ codes " " ++ text ++ codes "\n"
 
--- what show says of octets: the frame as which they are accepted, or a refusal
+-- What show may say of octets in a mode: the frame as which they are accepted, or a refusal.
 abbrev pub IsShown : Mode → List ℕ → Said → Type 0
 IsShown mode octets (shown frame) = Accepts mode frame octets
 IsShown mode octets (refused refusal) = Refuses mode octets refusal
 IsShown mode octets _ = ⊥
 
--- what check says of octets: that they are canonical, tolerated (in mode Tolerant alone), or refused
+-- What check may say of octets in a mode: that they are canonical, tolerated (only in mode Tolerant), or refused.
 abbrev pub IsChecked : Mode → List ℕ → Said → Type 0
 IsChecked mode octets ok = IsCanonical octets
 IsChecked mode octets (tolerated place) = (mode ≡ Tolerant) × (frame : FrameValue) × (least : List ℕ)
@@ -60,41 +61,42 @@ IsChecked mode octets (tolerated place) = (mode ≡ Tolerant) × (frame : FrameV
 IsChecked mode octets (refused refusal) = Refuses mode octets refusal
 IsChecked mode octets (shown frame) = ⊥
 
--- the output of a run that says this of octets
+-- The output of a record is a line with what a run says of the record.
 abbrev pub ReportsAs : (Mode → List ℕ → Said → Type 0) → Mode → ℕ → List ℕ → List ℕ → Type 0
 ReportsAs says mode number octets output = (said : Said) × says mode octets said × (output ≡ numbered number (said_text said))
 
--- the output of show
+-- The output of a record is a line with what show says of it.
 abbrev pub ShowsAs : Mode → ℕ → List ℕ → List ℕ → Type 0
 ShowsAs = ReportsAs IsShown
 
--- the output of check
+-- The output of a record is a line with what check says of it.
 abbrev pub ChecksAs : Mode → ℕ → List ℕ → List ℕ → Type 0
 ChecksAs = ReportsAs IsChecked
 
--- Behind the old octets stands a line with what is said of any octets that are accepted as the frame, with this mark.
+-- A line was appended with what is said of any octets that are accepted as the frame with this mark.
 pub record IsReported (says : Mode → List ℕ → Said → Type 0) (number : ℕ) (frame : FrameValue) (mark : Option ℕ) (old new : List ℕ) : Type 0 where
   pub said : Said
   pub is_said : (mode : Mode) (octets : List ℕ) → Accepts mode frame octets → HasMark (SpellsFrame frame) octets mark → says mode octets said
   pub appended : new ≡ old ++ numbered number (said_text said)
 
--- the output of normalise: the canonical octets of the frame, as a record
+-- The octets are accepted as a frame in the mode, and the output is the record of its canonical octets.
 abbrev pub NormalisesTo : Mode → ℕ → List ℕ → List ℕ → Type 0
 NormalisesTo mode number octets output =
     (frame : FrameValue) × (least : List ℕ) × Accepts mode frame octets × IsCanonicalFor frame least × (output ≡ record_of least)
 
--- behind the old octets stand the canonical ones of the frame, as a record
+-- The canonical octets of the frame were appended, as a record.
 pub record AppendsRecord (frame : FrameValue) (old new : List ℕ) : Type 0 where
   pub canonical : List ℕ
   pub is_canonical : IsCanonicalFor frame canonical
   pub new_is : new ≡ old ++ record_of canonical
 
--- what normalise writes for a frame where it was decoded: the canonical octets, if the octets were others, and if those fit in a record
+-- What normalise appends for a frame that was decoded: nothing if the octets have no mark, else the canonical ones as a record,
+-- if these fit in one.
 abbrev pub IsRewritten : FrameValue → Option ℕ → List ℕ → List ℕ → Type 0
 IsRewritten frame None old new = new ≡ old
 IsRewritten frame (Some place) old new = ((canonical : List ℕ) → IsCanonicalFor frame canonical → IsRecord canonical) → AppendsRecord frame old new
 
--- The octets are so many records, and in each mode what normalise writes of these are the octets, and nothing else.
+-- The file is so many records, and in each mode what normalise may write of these is the file, and nothing else.
 pub record IsKept (records : ℕ) (file : List ℕ) : Type 0 where
   pub list : List (List ℕ)
   pub count : length list ≡ records

@@ -4,7 +4,7 @@ ghost use Rattle.std.specs.Prelude.{◌≡◌, IfErr, IfOk, MatchResult, List, �
 ghost use Rattle.bac_stream.specs.Judging.{IsCanonical, IsRefused};
 ghost use Rattle.bac_stream.specs.Lines.{ChecksAs};
 ghost use Rattle.bac_record.specs.Records.{Records};
-ghost use Rattle.bac_record.specs.Runs.{RanThrough, RunCounts, Stopped};
+ghost use Rattle.bac_record.specs.Runs.{RanThrough, ReadsAtMost, RunCounts, Stopped};
 ghost use Rattle.bac_record.specs.Files.{RunsOver};
 
 use crate::lines::Line;
@@ -73,6 +73,7 @@ pub fn run_check<R: Input, W: Output>(
     ensures files { (list : List (List ℕ)) (rest file : List ℕ) → R.left reader.old ≡ Some file → Records list rest file
         → RunsOver (ChecksAs mode) (λ _ _. ⊥) IsCanonical (IsRefused mode) list rest
         (W.taken writer.old) (W.taken writer.new) result }
+    ensures bounded { ReadsAtMost (R.given reader.old) (R.given reader.new) }
     ensures counted { MatchResult result
         (λ _. (R.failures reader.new ≡ R.failures reader.old) × (W.failures writer.new ≡ W.failures writer.old))
         (RunCounts (R.failures reader.old) (R.failures reader.new) (W.failures writer.old) (W.failures writer.new)) }

@@ -21,7 +21,7 @@ pub struct Intake {
     alloc: Global,
     mode: Mode,
     records: u32,
-    /// Less than a record, with room for the longest.
+    /// Less than a record, with capacity for the longest.
     rest: Vec<u8>,
 }
 
@@ -122,7 +122,7 @@ fn push_joined<'a>(
 }
 
 impl Intake {
-    /// Creates an intake that was given no octets, with room for the rest of any record.
+    /// Creates an intake that was given no octets, with capacity for the rest of any record.
     ///
     /// # Errors
     /// `OutOfMemory` if memory is refused.

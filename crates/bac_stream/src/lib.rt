@@ -16,7 +16,7 @@
 //! neither put together nor moved. `show` and `check` are one job (`reporting.rt`), and each adds only what its lines
 //! say. `normalise` is a job of its own: it copies a record without a mark, and writes any other from head and body.
 //!
-//! An [`Intake`] holds the mode, the number of records so far, and less than a record, with room for the longest.
+//! An [`Intake`] holds the mode, the number of records so far, and less than a record, with capacity for the longest.
 //! `feed` first completes a record that is held in part, reads every further one from the piece itself, and holds what
 //! is left. Each record gives an item (`items.rt`). If anything fails, items and octets are cut back. The laws over
 //! every list of pieces (`specs/Feeds.antt`) use the step that `feed` names in its contract (`TakesIn`).

@@ -11,7 +11,7 @@ use bac_tag::{Refusal, Why};
 pub enum Mode {
     /// Every tolerated frame.
     Tolerant,
-    /// Canonical frames alone.
+    /// Only canonical frames.
     Strict,
 }
 

@@ -7,7 +7,7 @@ ghost use Rattle.bac_npdu_parts.specs.Frames.{body_value};
 ghost use Rattle.bac_stream.specs.Judging.{IsCanonicalFor, IsCanonical, IsRefused, Refuses};
 ghost use Rattle.bac_stream.specs.Lines.{AppendsRecord, NormalisesTo};
 ghost use Rattle.bac_record.specs.Records.{Records, IsRecord, LONGEST};
-ghost use Rattle.bac_record.specs.Runs.{RanThrough, RunCounts, Stopped};
+ghost use Rattle.bac_record.specs.Runs.{RanThrough, ReadsAtMost, RunCounts, Stopped};
 ghost use Rattle.bac_record.specs.Files.{RunsOver};
 
 use crate::judging::{Appending, discard, judge};
@@ -146,6 +146,7 @@ pub fn run_normalise<R: Input, W: Output>(
     ensures files { (list : List (List ℕ)) (rest file : List ℕ) → R.left reader.old ≡ Some file → Records list rest file
         → RunsOver (NormalisesTo mode) (Refuses mode) IsCanonical (IsRefused mode) list rest
         (W.taken writer.old) (W.taken writer.new) result }
+    ensures bounded { ReadsAtMost (R.given reader.old) (R.given reader.new) }
     ensures counted { MatchResult result
         (λ _. (R.failures reader.new ≡ R.failures reader.old) × (W.failures writer.new ≡ W.failures writer.old))
         (RunCounts (R.failures reader.old) (R.failures reader.new) (W.failures writer.old) (W.failures writer.new)) }

@@ -14,6 +14,7 @@ pub(crate) struct Feed<'a> {
     pub(crate) size: usize,
     /// How many calls succeed.
     pub(crate) calls: usize,
+    pub(crate) given: u64,
     pub(crate) failures: u64,
 }
 
@@ -24,6 +25,7 @@ impl<'a> Feed<'a> {
             octets,
             size,
             calls: usize::MAX,
+            given: 0,
             failures: 0,
         }
     }
@@ -31,6 +33,8 @@ impl<'a> Feed<'a> {
 
 impl<'a> Input for Feed<'a> {
     ghost left = { λ _. None };
+
+    ghost given = { λ feed. feed.given };
 
     ghost failures = { λ feed. feed.failures };
 
@@ -43,6 +47,7 @@ impl<'a> Input for Feed<'a> {
         let count = self.octets.len().min(self.size).min(buffer.len());
         buffer[..count].copy_from_slice(&self.octets[..count]);
         self.octets = &self.octets[count..];
+        self.given = self.given.saturating_add(count as u64);
         Ok(count)
     }
 }
@@ -51,19 +56,25 @@ impl<'a> Input for Feed<'a> {
 #[derive(Drop)]
 pub(crate) struct Unending {
     pub(crate) octets: [u8; 3],
+    pub(crate) given: u64,
 }
 
 impl Input for Unending {
     ghost left = { λ _. None };
 
+    ghost given = { λ reader. reader.given };
+
     ghost failures = { λ _. 0 };
 
     fn read(&mut self, buffer: &mut [u8]) -> Result<usize, Device> {
+        let mut octets = self.octets;
         for octet in buffer.iter_mut() {
-            let [first, second, third] = self.octets;
+            let [first, second, third] = octets;
             *octet = first;
-            self.octets = [second, third, first];
+            octets = [second, third, first];
         }
+        self.octets = octets;
+        self.given = self.given.saturating_add(buffer.len() as u64);
         Ok(buffer.len())
     }
 }

@@ -4,6 +4,7 @@ ghost use Rattle.std.specs.Prelude.{◌≤◌};
 
 use crate::expectations::{assert_holds, assert_same, assert_same_of, assert_shown};
 use crate::fakes::{CopyOctets, Drain, Feed, Interrupted, Troubled, Unending};
+use bac_lines::LineFault;
 use bac_record::layers::{
     front_record, make_room, put_decimal, put_hexadecimal, put_signed_decimal, write_whole,
 };
@@ -127,7 +128,7 @@ fn a_failed_write_counts_what_was_taken(rt: HostRuntime) {
 
 /// A reader that gives these octets again and again has too many records, when so many octets are written.
 fn is_unending(rt: &impl Abort, alloc: Global, octets: [u8; 3], count: usize) {
-    let (got, written) = copied(alloc, &mut Unending { octets });
+    let (got, written) = copied(alloc, &mut Unending { octets, given: 0 });
     let want = stream(1_000_001, StreamFault::TooManyFrames);
     assert_same_of(rt, got, want, octets);
     assert_same_of(rt, written.len(), count, octets);
@@ -310,6 +311,32 @@ fn faults_of_jobs_and_devices_are_told(rt: HostRuntime) {
     assert_shown(&rt, alloc, fault, "refused Tag at 3");
     assert_shown(&rt, alloc, DealFault::Memory, "out of memory");
     assert_shown(&rt, alloc, Device::Failed, "the device failed");
+}
+
+/// The fault of a stream is shown so, and that of a run with the number of its record before it.
+fn is_told(rt: &impl Abort, alloc: Global, fault: StreamFault, text: &str) {
+    assert_shown(rt, alloc, fault, text);
+    let of_run = format!(in alloc; "record 3: {text}").expect(rt, "memory");
+    assert_shown(rt, alloc, RunFault::Stream { at: 3, fault }, &of_run);
+}
+
+// The texts are those of section 9 of docs/FORMATS.md, but "too long" and the number before some that it leaves out.
+#[test]
+fn faults_of_streams_runs_and_lines_are_told(rt: HostRuntime) {
+    let alloc = rt.alloc();
+    is_told(&rt, alloc, StreamFault::Truncated, "truncated");
+    is_told(&rt, alloc, StreamFault::RecordTooLong, "too long");
+    is_told(&rt, alloc, StreamFault::ReadFault, "read fault");
+    let fault = StreamFault::WriteFault(20);
+    is_told(&rt, alloc, fault, "write fault after 20 octets");
+    let text = "more than 1000000 records";
+    is_told(&rt, alloc, StreamFault::TooManyFrames, text);
+    is_told(&rt, alloc, StreamFault::OutOfMemory, "out of memory");
+    let (at, refusal) = (3, Why::Short.at(0));
+    let fault = RunFault::Frame { at, refusal };
+    assert_shown(&rt, alloc, fault, "record 3: refused Short at 0");
+    assert_shown(&rt, alloc, LineFault::Stop(7), "unreadable at 7");
+    assert_shown(&rt, alloc, LineFault::OutOfMemory, "out of memory");
 }
 
 /// The record at the front of the octets has these octets, or there is none.

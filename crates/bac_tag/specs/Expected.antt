@@ -1,4 +1,5 @@
--- Heads that a reader goes on with.
+-- Expected heads. A reader that knows what may come expects some heads and no others: a class, a number or any number, lengths
+-- from a least to a most one, an opening or a closing.
 use Rattle.std.specs.Prelude.{◌≡◌, ◌≢◌, ℕ, ◌^◌, ◌<◌, ◌≤◌, Option, None, Some, IfSome, List, [], ◌∷◌, ◌⊎◌}
 use Rattle.bac_tag.specs.declared.heads.TagHead.{TagHead}
 use Rattle.bac_tag.specs.declared.heads.TagHead.TheVariants.{App, AppBool, Ctx, Open, Close}
@@ -6,12 +7,12 @@ use Rattle.bac_tag.specs.declared.expecting.Expected.{Expected}
 use Rattle.bac_tag.specs.declared.expecting.Expected.TheVariants as expected
 use Rattle.bac_tag.specs.Heads.{Heads}
 
--- the number that is named, or any where none is
+-- The number is the one that is named, or none is named.
 abbrev pub HasNumber : Option ℕ → ℕ → Type 0
 HasNumber None number = Unit {0}
 HasNumber (Some named) number = number ≡ named
 
--- the head is among those expected
+-- The head is among those expected.
 abbrev pub Fits : Expected → TagHead → Type 0
 Fits expected.AnyHead head = Unit {0}
 Fits (expected.App named least most) (App number len) = (number ≡ named) × (least ≤ len) × (len ≤ most)
@@ -21,7 +22,8 @@ Fits (expected.Open named) (Open number) = HasNumber named number
 Fits (expected.Close named) (Close number) = HasNumber named number
 Fits _ _ = ⊥
 
--- Some valid head is among those expected: the number is one that the class uses, and the lengths are a range.
+-- Some valid head is among those expected: the number is one that the class uses, and the lengths are a range below 2 ^ 32.
+-- Readers require it.
 abbrev pub IsSound : Expected → Type 0
 IsSound expected.AnyHead = Unit {0}
 IsSound (expected.App named least most) = (named ≤ 12) × (named ≢ 1) × (least ≤ most) × (most < 2 ^ 32)
@@ -30,17 +32,17 @@ IsSound (expected.Ctx named least most) = IfSome named (λ number. number ≤ 25
 IsSound (expected.Open named) = IfSome named (λ number. number ≤ 254)
 IsSound (expected.Close named) = IfSome named (λ number. number ≤ 254)
 
--- the lists that spell an expected head
+-- The list spells the head, which is among those expected.
 pub record ExpectedHeads (expected : Expected) (head : TagHead) (b : List ℕ) : Type 0 where
   pub fits : Fits expected head
   pub spelled : Heads head b
 
--- one of several expectations has the head
+-- The head fits one of several expectations. No public contract uses this by itself.
 abbrev pub FitsOne : List Expected → TagHead → Type 0
 FitsOne [] head = ⊥
 FitsOne (expected ∷ others) head = Fits expected head ⊎ FitsOne others head
 
--- the lists that spell such a head
+-- The list spells the head, which fits one of several expectations.
 pub record HeadsOfOne (several : List Expected) (head : TagHead) (b : List ℕ) : Type 0 where
   pub fits : FitsOne several head
   pub spelled : Heads head b

@@ -8,8 +8,8 @@ use crate::writing::first_octet;
 use crate::{OutOfMemory, TagHead, head_len, write_head};
 
 /// Appends the canonical octets of the head (clause 20.2.1), those that [`write_head`] returns. They are 1 to 7: the
-/// initial octet; the number octet, if the initial octet has no room for the number; the octets of the length, if it
-/// has no room for the length. The head must be valid.
+/// initial octet; the number octet, if the number does not fit in the initial octet; the octets of the length, if the
+/// length does not fit in it. The head must be valid.
 ///
 /// # Errors
 /// `OutOfMemory` if memory is refused. `out` then stays as it was.
@@ -38,8 +38,8 @@ fn append_several(head: TagHead, out: &mut Vec<u8>) -> Result<(), OutOfMemory>
     Ok(())
 }
 
-/// Returns what appending gave. If that is an error, cuts `out` back to the `start` octets that it had before, so that it
-/// is as it was.
+/// Returns `appended`, the result of appending. If that is an error, cuts `out` back to the `start` octets that it had
+/// before, so that it is as it was.
 #[inline(always)]
 pub fn or_cut_back<E: Drop>(
     appended: Result<(), E>,

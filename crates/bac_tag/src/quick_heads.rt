@@ -84,7 +84,7 @@ pub fn begins_long(octets: &[u8], context: bool, number: u8) -> bool
 }
 
 /// Returns the length in the head with this class and number at the front of the octets (clause 20.2.1), in any
-/// tolerated spelling, and how many octets the head takes. None says nothing about the octets.
+/// tolerated spelling, and how many octets the head takes. None is inconclusive.
 ///
 /// The number must be one that the class uses: 0 to 254 if `context` is true, else 0 or 2 to 12. [`begins_long`] must
 /// return true for the octets.
@@ -113,7 +113,7 @@ pub fn long_length(octets: &[u8], _context: bool, number: u8) -> Option<(u32, us
 }
 
 /// Returns the head at the front of the octets (clause 20.2.1), in any tolerated spelling, and how many octets it
-/// takes. None says nothing about the octets: heads with longer lengths, and those of Booleans, are left to
+/// takes. None is inconclusive: heads with longer lengths, and those of Booleans, are left to
 /// [`read_head`](crate::read_head).
 ///
 /// Nothing is kept for a refusal, so this is the fast way if the octets begin with a head.

@@ -270,7 +270,7 @@ fn refusal_of_all(octets: &[u8], expected: &[Expected]) -> Refusal
 /// Reads a head that one of several expectations has, in any tolerated spelling. Returns it, and how many octets
 /// it takes; more may follow.
 ///
-/// There must be at least one expectation, and each must be sound, as [`read_expected`] says.
+/// There must be at least one expectation, and each must be sound, as [`read_expected`] requires.
 ///
 /// # Errors
 /// The place is that of the first octet with which a head of none of the expectations begins, and the reason is `Tag`

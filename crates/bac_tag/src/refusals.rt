@@ -13,7 +13,7 @@ use std::fmt::Display;
 pub enum Why {
     /// The input ends where more must come.
     Short = 1,
-    /// Octets follow a whole value.
+    /// The octets before the place are a whole value, and the octet there continues no value.
     Trailing,
     /// The version octet is not 1 (clause 6.2.1).
     Version,

@@ -8,7 +8,7 @@ ghost use Rattle.bac_tag.specs.Short.{headed, BeginsShort, BeginsWith};
 use crate::reading::initial_parts;
 use crate::writing::initial_octet;
 
-/// Returns the length, 0 to 4, in the head whose canonical spelling is the first octet alone, if that head has this
+/// Returns the length, 0 to 4, in the head whose canonical spelling is only the first octet, if that head has this
 /// class and number. Else it returns None.
 ///
 /// The number must be one that the class uses: 0 to 254 if `context` is true, else 0 or 2 to 12.
@@ -34,8 +34,8 @@ pub fn short_len(octets: &[u8], context: bool, number: u8) -> Option<usize>
     }
 }
 
-/// Returns the value of the application Boolean (clause 20.2.3) if the first octet alone is the canonical spelling of
-/// one. Else it returns None.
+/// Returns the value of the application Boolean (clause 20.2.3) whose canonical spelling is only the first octet. If
+/// there is none, it returns None.
 #[inline(always)]
 pub fn short_boolean(octets: &[u8]) -> Option<bool>
     ensures some { IfSome result (λ value. BeginsShort (AppBool value) octets.now) }
@@ -48,8 +48,8 @@ pub fn short_boolean(octets: &[u8]) -> Option<bool>
     }
 }
 
-/// Returns true if the first octet alone is the canonical spelling of the opening tag with this number, which must be
-/// at most 254.
+/// Returns true if the first octet by itself is the canonical spelling of the opening tag with this number, which must
+/// be at most 254.
 #[inline(always)]
 pub fn is_short_opening(octets: &[u8], number: u8) -> bool
     requires { IsValid (Open number) }
@@ -58,8 +58,8 @@ pub fn is_short_opening(octets: &[u8], number: u8) -> bool
     begins_tag(octets, number, 6)
 }
 
-/// Returns true if the first octet alone is the canonical spelling of the closing tag with this number, which must be
-/// at most 254.
+/// Returns true if the first octet by itself is the canonical spelling of the closing tag with this number, which must
+/// be at most 254.
 #[inline(always)]
 pub fn is_short_closing(octets: &[u8], number: u8) -> bool
     requires { IsValid (Close number) }

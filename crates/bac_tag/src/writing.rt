@@ -18,7 +18,7 @@ pub(crate) fn initial_octet(nibble: u8, context: bool, lvt: u8) -> u8
     (nibble << 4) | (u8::from(context) << 3) | lvt
 }
 
-/// Returns the initial octet, and the number octet if the nibble has no room for the number.
+/// Returns the initial octet, and the number octet if the number does not fit in the nibble.
 #[inline(always)]
 fn opening(context: bool, number: u8, lvt: u8) -> ArrayVec<u8, 7>
     requires number { number < 255 }
@@ -96,8 +96,8 @@ pub fn write_head(head: TagHead) -> ArrayVec<u8, 7>
     }
 }
 
-/// Returns how many octets the initial octet and the number octet are together (clause 20.2.1.2): 2 if the nibble has
-/// no room for the number, else 1.
+/// Returns how many octets the initial octet and the number octet are together (clause 20.2.1.2): 2 if the number does
+/// not fit in the nibble, else 1.
 #[inline(always)]
 fn opening_len(number: u8) -> usize
     ensures { result ≡ 1 + length (number_octets (number_form number) number) }

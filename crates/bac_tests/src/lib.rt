@@ -9,7 +9,7 @@
 //! that are refused, devices that fail, traits, texts of faults, segments that are taken one after the other, and the
 //! examples of doc comments. The tests of bac_service are in bac_service_tests; those of bac_apdu, bac_segment,
 //! bac_npdu and bac_text in bac_frame_tests; those of bac_record, bac_stream and bac_pack in bac_stream_tests; those of
-//! the program in bac_tool.
+//! the program in bac_tool_tests.
 //!
 //! Each test crate compares by the functions of its `expectations.rt`: `assert_same`, `assert_same_of` with the case
 //! beside it, and `assert_holds`. A function is proved once, but an `assert_eq!` wherever it is written, which takes

@@ -1,10 +1,11 @@
--- The text of an APDU.
+-- The text of APDUs.
 use Rattle.std.specs.Prelude.{ℕ, List}
 use Rattle.bac_apdu.specs.Apdus.{ApduValue, confirmed_request, unconfirmed_request, simple_ack, complex_ack, segment_ack, error, reject, abort, segment}
 use Rattle.bac_text.specs.RequestText.{confirmed_request_text, unconfirmed_request_text}
 use Rattle.bac_text.specs.AnswerText.{simple_ack_text, complex_ack_text, error_text, reject_text, abort_text}
 use Rattle.bac_text.specs.SegmentText.{segment_ack_text, segment_text}
 
+-- The text of an APDU, which for each of the nine is in RequestText.antt, AnswerText.antt or SegmentText.antt.
 abbrev pub apdu_text : ApduValue → List ℕ
 apdu_text (confirmed_request head service) = confirmed_request_text head service
 apdu_text (unconfirmed_request service) = unconfirmed_request_text service

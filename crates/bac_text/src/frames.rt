@@ -86,8 +86,8 @@ impl HasText for Body {
 }
 
 /// Writes the text of the frame with this head and this body, which [`append_text`] describes, at the place `at` of the
-/// vector, which must be at most its length. Returns where the text ends. The vector is made longer if it has too
-/// little room. After the end of the text the vector may hold anything.
+/// vector, which must be at most its length. Returns where the text ends. The vector is made longer if it is too
+/// short. After the end of the text the vector may hold anything.
 ///
 /// # Errors
 /// `OutOfMemory` if memory is refused. `out` may then hold some of the text.

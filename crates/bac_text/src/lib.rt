@@ -12,17 +12,18 @@
 //! `write_text_of` (`frames.rt`) writes the text of a head and a body at a place of a vector, and returns where it
 //! ends. Each part is written in this way: whatever has a text implements the private trait `HasText` (`texts.rt`),
 //! with its text as a list of octets, and a function that writes exactly that at the place where the part before it
-//! ended. A name with a part after it, an optional part and a list are functions over any such type. If there is too
-//! little room, the vector is made longer (`make_room` of bac_record), by more than is needed, so that this is rare.
-//! What is left after the last part is cut off once.
+//! ended. A name with a part after it, an optional part and a list are functions over any such type. If the vector is
+//! too short, it is made longer (`make_room` of bac_record), by more than is needed, so that this is rare. What is
+//! left after the last part is cut off once.
 //!
-//! Parts of few octets, such as numbers and objects, implement `HasShortText`. They are written into one room without
-//! asking for more, so each says how many octets its text has at most (`most`): the letters of all its words, with
-//! their blanks, and the `most` of each part. For `Who-Is low=N high=N` these are 6 + 5 + 10 + 6 + 10 = 37.
+//! Parts of few octets, such as numbers and objects, implement `HasShortText`. Several of them are written after the
+//! vector was made long enough once, so each states how many octets its text has at most (`most`): the letters of all
+//! its words, with their blanks, and the `most` of each part. For `Who-Is low=N high=N` these are
+//! 6 + 5 + 10 + 6 + 10 = 37.
 //!
 //! A text is defined as a function from the value to octets, in a file of `specs` with the name of the type, so a line
 //! of section 8 of docs/FORMATS.md can be held against it. An open value is shown by a walk over its events, and
-//! `WalkText.antt` says what each event adds; the definition that contracts cite goes by its elements.
+//! `WalkText.antt` defines what each event adds; the definition that contracts cite goes by its elements.
 //!
 //! If memory is refused, what was before the place is still there, and the caller of the first call cuts off the rest.
 #![tactic(auto)]

@@ -14,8 +14,8 @@ pub(crate) trait HasText: Drop {
     /// Its text.
     ghost text: { Self → List ℕ };
 
-    /// Writes the text at the place `at` of the vector, which is made longer if it has too little room. Returns where
-    /// the text ends. If memory is refused, `out` may hold some of the text.
+    /// Writes the text at the place `at` of the vector, which is made longer if it is too short. Returns where the text
+    /// ends. If memory is refused, `out` may hold some of the text.
     fn write_text(&self, out: &mut Vec<u8>, at: usize) -> Result<usize, OutOfMemory>
         requires { at ≤ length out.old.items }
         ensures text { IfOk result (λ end. take end out.new.items ≡ take at out.old.items ++ text self.now) }

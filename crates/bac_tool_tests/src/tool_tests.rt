@@ -1,9 +1,9 @@
 //! The program over readers and writers in memory: worked examples of docs/EXAMPLES.md.
 
-use bac_command::layers::tell_fault;
-use bac_command::{Job, JobFault, PackFault, job, run_tool};
 use bac_stream::{Counted, Input, Mode, Output, RunFault, StreamFault};
 use bac_tag::{Refusal, Why};
+use bac_tool::layers::tell_fault;
+use bac_tool::{Job, JobFault, PackFault, job, run_tool};
 use clap::error;
 use std::alloc::Global;
 use std::fmt::Debug;
@@ -699,7 +699,7 @@ fn text_of(rt: &impl Abort, alloc: Global, line: &str) -> Vec<u8> {
 fn the_version_is_written(rt: HostRuntime) {
     for line in ["bactool|--version", "bactool|-V"] {
         let text = text_of(&rt, rt.alloc(), line);
-        assert_same(&rt, text.as_slice(), b"bactool 0.2.0\n", line);
+        assert_same(&rt, text.as_slice(), b"bactool 0.3.0\n", line);
     }
 }
 

@@ -2,10 +2,10 @@
 use Rattle.std.specs.Prelude.{ℕ, ◌≤◌, List, length}
 use Rattle.bac_tag.specs.Octets.{IsOctets}
 
--- octets, no more than a value may have
+-- The list is octets, at most the 1,048,576 that a value may have.
 abbrev pub IsOctetString : List ℕ → Type 0
 IsOctetString octets = IsOctets octets × (length octets ≤ 1048576)
 
--- the contents are the value
+-- The contents of an octet string are the octets themselves, as they are.
 abbrev pub octets_themselves : List ℕ → List ℕ
 octets_themselves octets = octets

@@ -1,4 +1,5 @@
--- A value of any of the thirteen primitive types (clauses 20.2.2 to 20.2.14).
+-- A value of any of the thirteen primitive types (clauses 20.2.2 to 20.2.14). It is a Prim, here by the name of its declaration
+-- PrimitiveValue: a variant for each type. The first four of these definitions have a line for each type.
 use Rattle.std.specs.Prelude.{◌≡◌, ℕ, ◌<◌, ◌≤◌, ◌^◌, ◌-◌, List, FitsSigned}
 use Rattle.std.specs.Int.{w64}
 use Rattle.bac_value.specs.declared.prim.PrimitiveValue.{PrimitiveValue}
@@ -17,7 +18,7 @@ use Rattle.bac_value.specs.DateContents.{IsDate, date_octets}
 use Rattle.bac_value.specs.TimeContents.{IsTime, time_octets}
 use Rattle.bac_value.specs.Identifier.{IsIdentifier, identifier_octets}
 
--- the number of the application tag of its type
+-- The number of the application tag of the value's type, 0 to 12.
 abbrev pub application_number : PrimitiveValue → ℕ
 application_number (Null value) = 0
 application_number (Boolean value) = 1
@@ -33,7 +34,7 @@ application_number (Date value) = 10
 application_number (Time value) = 11
 application_number (ObjectId value) = 12
 
--- each number lies in its range, each limit is kept
+-- Each number of the value is in its range, and each limit is kept.
 abbrev pub IsPrim : PrimitiveValue → Type 0
 IsPrim (Null value) = IsNull value
 IsPrim (Boolean value) = IsBoolean value
@@ -49,7 +50,7 @@ IsPrim (Date value) = IsDate value
 IsPrim (Time value) = IsTime value
 IsPrim (ObjectId value) = IsIdentifier value
 
--- the octets are contents of the value, by the definition of its type
+-- The octets are contents of the value, by the definition of its type.
 abbrev pub PrimContents : PrimitiveValue → List ℕ → Type 0
 PrimContents (Null value) octets = IsTheList IsNull null_octets value octets
 PrimContents (Boolean value) octets = IsTheList IsBoolean boolean_octets value octets
@@ -65,7 +66,7 @@ PrimContents (Date value) octets = IsTheList IsDate date_octets value octets
 PrimContents (Time value) octets = IsTheList IsTime time_octets value octets
 PrimContents (ObjectId value) octets = IsTheList IsIdentifier identifier_octets value octets
 
--- the contents that are written, by the definition of its type
+-- The contents that are written of the value, by the definition of its type.
 abbrev pub prim_written : PrimitiveValue → List ℕ
 prim_written (Null value) = null_octets value
 prim_written (Boolean value) = boolean_octets value
@@ -81,14 +82,15 @@ prim_written (Date value) = date_octets value
 prim_written (Time value) = time_octets value
 prim_written (ObjectId value) = identifier_octets value
 
--- contents of a value of the type with that application number
+-- The value is of the type with that application number, and the octets are contents of it.
 abbrev pub ContentsOf : ℕ → PrimitiveValue → List ℕ → Type 0
 ContentsOf number prim octets = (application_number prim ≡ number) × PrimContents prim octets
 
--- what is written of a value of the type with that application number
+-- The octets are what is written of some value of the type with that application number, by IsWritten.
 abbrev pub IsWrittenOf : ℕ → List ℕ → Type 0
 IsWrittenOf number = IsWritten (ContentsOf number) prim_written
 
--- reading contents of the type with that application number may want memory: those of the three strings
+-- Reading contents of the type with that application number may need memory. The number is 6, 7 or 8, that of one of the three
+-- strings. Only reading the contents of these may need memory.
 abbrev pub MayWantMemory : ℕ → Type 0
 MayWantMemory number = (6 ≤ number) × (number ≤ 8)

@@ -9,11 +9,11 @@ use Rattle.bac_numbers.specs.SignedContents.{signed_number}
 use Rattle.bac_value.specs.BitsContents.{bits_of}
 use Rattle.bac_value.specs.Identifier.{Identifier}
 
--- 10 bits of kind, 22 bits of instance
+-- The identifier of four octets: 10 bits of kind, then 22 bits of instance.
 abbrev pub identifier_of : List ℕ → Identifier
 identifier_of octets = record { kind = from_be_bytes w32 octets / 2 ^ 22; instance = from_be_bytes w32 octets % 2 ^ 22 }
 
--- one line for each application number, from 0 on
+-- The values of the thirteen types that the octets would spell, a line for each application number, from 0 on.
 abbrev pub values_of_contents : List ℕ → List PrimitiveValue
 values_of_contents octets =
     Null (record {})
@@ -31,5 +31,7 @@ values_of_contents octets =
     ∷ ObjectId (identifier_of octets)
     ∷ []
 
+-- The value of the type with that application number, computed from the octets. If the octets are contents of a value of the
+-- type, it is that value (bac_value::laws::contents_tell_the_value). For other octets it has no meaning.
 abbrev pub prim_of_contents : ℕ → List ℕ → PrimitiveValue
 prim_of_contents n octets = slice_index_or (values_of_contents octets) n (Null (record {}))

@@ -5,7 +5,7 @@ use Rattle.bac_value.specs.declared.prim_ref.PrimRef.{PrimRef}
 use Rattle.bac_value.specs.declared.prim_ref.PrimRef.TheVariants.{Null, Boolean, Unsigned, Signed, RealBits, DoubleBits, Octets, Text, Bits, Enumerated, Date, Time, ObjectId}
 use Rattle.bac_value.specs.BitsContents.{bits_in, IsPacked}
 
--- the value that is borrowed
+-- The value that a PrimRef borrows.
 abbrev pub prim_of : PrimRef → PrimitiveValue
 prim_of (Null value) = prim.Null value
 prim_of (Boolean value) = prim.Boolean value
@@ -21,7 +21,7 @@ prim_of (Date value) = prim.Date value
 prim_of (Time value) = prim.Time value
 prim_of (ObjectId value) = prim.ObjectId value
 
--- the octets of a bit string hold its bits and nothing else
+-- If the PrimRef is a bit string, its octets hold its bits and nothing else, by IsPacked.
 abbrev pub IsPackedRef : PrimRef → Type 0
 IsPackedRef (Bits count packed) = IsPacked count packed.now
 IsPackedRef _ = Unit {0}

@@ -1,7 +1,7 @@
 //! Laws of the values of any primitive type. Those of one type are in the trait `Primitive`.
 
-ghost use Rattle.std.specs.Prelude.{◌≡◌, ◌≤◌, ℕ, List, length};
-ghost use Rattle.bac_tag.specs.Spelling.{IsLeast};
+ghost use Rattle.std.specs.Prelude.{◌≡◌, ◌↔◌, ◌≤◌, ℕ, List, length};
+ghost use Rattle.bac_tag.specs.Spelling.{IsLeast, IsViable};
 ghost use Rattle.bac_value.specs.declared.prim.PrimitiveValue.{PrimitiveValue};
 ghost use Rattle.bac_value.specs.PrimContents.{IsPrim, PrimContents, prim_written, ContentsOf};
 ghost use Rattle.bac_value.specs.PrimOfContents.{prim_of_contents};
@@ -29,4 +29,9 @@ pub fn contents_keep_the_limit()
 /// Contents and an application number determine the value.
 pub fn contents_tell_the_value()
     ensures { (number : ℕ) (prim : PrimitiveValue) (octets : List ℕ) → ContentsOf number prim octets → prim_of_contents number octets ≡ prim }
+{}
+
+/// A list begins contents exactly where it begins contents of one of the thirteen types, by its application number.
+pub fn contents_are_viable_in_a_type()
+    ensures { (b : List ℕ) → IsViable PrimContents b ↔ ((number : ℕ) × IsViable (ContentsOf number) b) }
 {}

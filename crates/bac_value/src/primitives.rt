@@ -57,7 +57,7 @@ pub trait Primitive: Sized + Drop {
         ensures length { IfErr result (λ refusal. refusal.why ≡ Why.Length → (refusal.place ≡ 0) × (IsBegun contents [] (length octets.now) → ⊥)) }
         ensures content { IfErr result (λ refusal. refusal.why ≡ Why.Content → IsHopelessAt contents octets.now (length octets.now) refusal.place) };
 
-    /// Returns the value whose contents the first `size` octets are, or None. None says nothing about them: call
+    /// Returns the value whose contents the first `size` octets are, or None. None is inconclusive: call
     /// [`Primitive::read`] then. Octets after the first `size` do not change the value. They make it possible to read
     /// four octets of a number without a branch for each `size`.
     #[inline(always)]

@@ -78,9 +78,8 @@ impl Change {
             Change::Front => refusal == at(FieldWhy::Short, index),
             Change::Without | Change::Later => refusal.index >= index,
             Change::Twice => refusal.index > index,
-            Change::Number => !has_any_number(field.name)
-                && is_at(refusal, FieldWhy::Number, index),
-            Change::Place => has_contents(field.name) && is_at(refusal, FieldWhy::Contents, index),
+            Change::Number => !has_any_number(field.name) && refusal == at(FieldWhy::Number, index),
+            Change::Place => has_contents(field.name) && refusal == at(FieldWhy::Contents, index),
         }
     }
 
@@ -95,11 +94,6 @@ impl Change {
             Change::Place => "with no octets at",
         }
     }
-}
-
-/// Returns true if a refusal is at this field, for this reason or since the fields before it are all of a frame.
-fn is_at(refusal: FieldRefusal, why: FieldWhy, index: usize) -> bool {
-    refusal == at(why, index) || refusal == at(FieldWhy::Trailing, index)
 }
 
 /// Returns a refusal.

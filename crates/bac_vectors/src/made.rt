@@ -136,8 +136,8 @@ fn dissenting(
     Ok((found != Some(refusal)).then_some("append_octets of the fields up to there"))
 }
 
-/// Returns true if the fields before the index are those of a frame where the reason is Trailing, and else are refused as
-/// Short at their end.
+/// Returns true if the fields before the index are all of a frame where the reason is Trailing, and are too few where it is
+/// Name. Where it is Number or Contents, they may be either.
 fn is_whole_if(
     alloc: Global,
     fields: &[Field],
@@ -152,7 +152,8 @@ fn is_whole_if(
     let found = why_refused(alloc, fields.get(..index).unwrap_or(fields), octets)?;
     Ok(match refusal.why {
         FieldWhy::Trailing => found.is_none(),
-        _ => found == Some(short),
+        FieldWhy::Name => found == Some(short),
+        _ => found.is_none() || found == Some(short),
     })
 }
 

@@ -2,9 +2,31 @@
 
 use super::{appended, decoded};
 use crate::expectations::{assert_joined, assert_same};
+use bac_npdu::{decode_frame, encode_frame};
 use bac_tables::octets_of;
 use std::alloc::Global;
 use std::process::Abort;
+
+/// Stops the test unless these octets are decoded, and written again. If memory is refused, that is the error it shows.
+fn is_written(rt: &impl Abort, alloc: Global, text: &str) {
+    let octets = octets_of(text).expect(rt, "octets");
+    let frame = decode_frame(alloc, &octets).expect(rt, "a frame");
+    let written = encode_frame(alloc, &frame).expect(rt, "memory");
+    assert_same(rt, written.as_slice(), octets.as_slice());
+}
+
+// Of examples 18 and 20 of docs/EXAMPLES.md.
+#[test]
+fn lists_and_values_are_decoded_and_encoded(rt: HostRuntime) {
+    let alloc = rt.alloc();
+    is_written(&rt, alloc, "01 04 00 02 F1 0E 0C 00 00 00 21 1E 09 55 1F");
+    let answer =
+        "01 00 30 F1 0E 0C 00 00 00 21 1E 29 55 4E 44 42 90 99 9A 4F 29 67 5E 91 02 91 20 5F 1F";
+    is_written(&rt, alloc, answer);
+    let notification =
+        "01 00 10 02 09 12 1C 02 00 00 04 2C 00 00 00 0A 39 00 4E 09 55 2E 44 42 82 00 00 2F 09 6F 2E 82 04 00 2F 4F";
+    is_written(&rt, alloc, notification);
+}
 
 /// Stops the test unless the canonical octets of the frame are written after others, which stay.
 fn is_appended(rt: &impl Abort, alloc: Global, text: &str) {

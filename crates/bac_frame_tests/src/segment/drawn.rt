@@ -1,9 +1,9 @@
-//! Messages whose lengths, pieces and orders are drawn, the same ones each time.
+//! Messages whose lengths, pieces and orders are drawn, by the word after the name of the test, if there is one.
 
 ghost use Rattle.std.specs.Prelude.{◌<◌};
 
 use super::{KEY, answers, desk, is_joined, opened, plan, segments_of, take_at};
-use crate::expectations::assert_same_of;
+use crate::expectations::{assert_same_of, drawn, word};
 use bac_apdu::Segment;
 use bac_segment::{Desk, Reassembly};
 use bac_tables::mixed;
@@ -59,19 +59,20 @@ fn draw_comes_back(rt: &impl Abort, alloc: Global, octets: &[u8], draw: &[u8]) {
     let [high, low, pieces, first, step] = *draw else {
         panic!(rt; "{draw:?}")
     };
-    let length = usize::from(u16::from_be_bytes([high, low]));
+    let length = usize::from(u16::from_be_bytes([high, low]) >> (first % 16));
     let message = octets.get(..length).expect(rt, "so many octets");
     let size = length.div_ceil(usize::from(pieces) + 1).max(1);
     comes_back(rt, alloc, message, size, Order { first, step });
 }
 
-// Of each message its length, the most pieces that it is cut into, of 1 to 256, and their order are drawn.
+// Of each message its length, the most pieces that it is cut into, of 1 to 256, and their order are drawn. Each number of
+// binary digits of a length is as frequent as another.
 #[test]
 fn drawn_messages_come_back(rt: HostRuntime) {
     let alloc = rt.alloc();
     let octets = mixed(alloc, 65_535).expect(&rt, "memory");
-    let drawn = mixed(alloc, 5 * MESSAGES).expect(&rt, "memory");
-    for draw in drawn.chunks_exact(5) {
+    let word = word(&rt).expect(&rt, "the words");
+    for draw in drawn(&rt, alloc, word, 5 * MESSAGES).chunks_exact(5) {
         draw_comes_back(&rt, alloc, &octets, draw);
     }
 }

@@ -29,7 +29,7 @@ pub(crate) fn digit_at(line: &[u8], place: usize) -> Option<u64>
     }
 }
 
-/// Returns the number with one digit more, or None if it has no room.
+/// Returns the number with one digit more, or None if it does not fit.
 #[inline(always)]
 pub(crate) fn with_digit(number: u64, base: u64, digit: u64) -> Option<u64>
     ensures some { IfSome result (λ next. (next ≡ number * base + digit) × (next < 2 ^ 64)) }
@@ -39,7 +39,7 @@ pub(crate) fn with_digit(number: u64, base: u64, digit: u64) -> Option<u64>
 }
 
 /// Returns the decimal number with which the line begins, and how many digits it has. None if there is no digit, the number
-/// has no room, or it has a digit 0 before others.
+/// does not fit, or it has a digit 0 before others.
 pub(crate) fn find_number(line: &[u8]) -> Option<(u64, usize)>
     ensures found { Finds (λ n. n < 2 ^ 64) number is_decimal line.now result }
     ensures sound { IsFound (λ n. n < 2 ^ 64) number line.now result }

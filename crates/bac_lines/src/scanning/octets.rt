@@ -26,7 +26,7 @@ pub(crate) fn value_at(line: &[u8], place: usize) -> Option<u8>
 }
 
 /// Returns the number of at most eight octets whose hexadecimal digits the line begins with, the most significant first, and
-/// how many digits they have. None if there is half an octet, or the number has no room.
+/// how many digits they have. None if there is half an octet, or the number does not fit.
 pub(crate) fn find_bits(line: &[u8]) -> Option<(u64, usize)>
     ensures found { (octets more : List ℕ) → length octets ≤ 8 → IsOctets octets → IsTrue (clear is_hex more) → line.now ≡ hexadecimal octets ++ more → result ≡ Some (number_after 0 octets, length (hexadecimal octets)) }
     ensures sound { IfSome result (λ found. (octets : List ℕ) × (IsOctets octets × ((found.0 ≡ number_after 0 octets) × (take found.1 line.now ≡ hexadecimal octets)))) }

@@ -46,10 +46,22 @@ fn values_are_compared_by_what_they_say(rt: HostRuntime) {
     assert_same(&rt, clone, value);
 }
 
+/// The fault has this number, and is shown so.
+fn is_shown(rt: &impl Abort, alloc: Global, fault: BuildFault, number: u8, text: &str) {
+    assert_same_of(rt, fault as u8, number, text);
+    assert_shown(rt, alloc, fault, text);
+}
+
+// In the order of their enum, from 1 on.
 #[test]
 fn faults_are_shown(rt: HostRuntime) {
-    let fault = BuildFault::Number;
-    assert_shown(&rt, rt.alloc(), fault, "255 is no tag number");
-    assert_same(&rt, fault as u8, 1);
-    assert_same(&rt, BuildFault::TooLong as u8, 6);
+    let alloc = rt.alloc();
+    is_shown(&rt, alloc, BuildFault::Number, 1, "255 is no tag number");
+    is_shown(&rt, alloc, BuildFault::Depth, 2, "32 groups are open");
+    is_shown(&rt, alloc, BuildFault::NothingOpen, 3, "no group is open");
+    let text = "a group is still open";
+    is_shown(&rt, alloc, BuildFault::StillOpen, 4, text);
+    is_shown(&rt, alloc, BuildFault::OutOfMemory, 5, "out of memory");
+    let text = "the contents have more than 1048576 octets";
+    is_shown(&rt, alloc, BuildFault::TooLong, 6, text);
 }

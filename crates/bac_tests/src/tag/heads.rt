@@ -8,7 +8,7 @@ use bac_tag::layers::{
     Expected, append_head, first_difference, first_hopeless, number_of, number_within,
     read_expected, read_one_of,
 };
-use bac_tag::{OutOfMemory, Refusal, TagHead, Why, laws};
+use bac_tag::{OutOfMemory, Refusal, TagHead, Why, laws, mark_head, read_head};
 use std::alloc::{AllocError, Global};
 use std::process::Abort;
 use std::test::Fail;
@@ -177,6 +177,19 @@ fn names_reasons(rt: HostRuntime) {
 /// Whether the head is one that is expected.
 fn tells_fit(rt: &impl Abort, expected: Expected, head: TagHead, fits: bool) {
     assert_same_of(rt, expected.fits(head), fits, (head, expected));
+}
+
+// Example 62: octets that spell a head with another length.
+#[test]
+fn marks_octets_of_another_head(rt: HostRuntime) {
+    let octets = [0x1A];
+    let wanted = TagHead::Ctx { number: 1, len: 1 };
+    match read_head(&octets) {
+        Ok((_, taken)) if taken == octets.len() => {
+            assert_same(&rt, mark_head(&octets, wanted), Some(0));
+        }
+        found => panic!(rt; "{found:?}"),
+    }
 }
 
 #[test]

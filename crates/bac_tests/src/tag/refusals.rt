@@ -1,7 +1,9 @@
 //! Refusals as they are shown, and the laws.
 
-use crate::expectations::assert_shown;
+use crate::expectations::{assert_same_of, assert_shown};
 use bac_tag::{OutOfMemory, Refusal, Why, laws};
+use std::alloc::Global;
+use std::process::Abort;
 
 // The names are those of section 10 of docs/FORMATS.md.
 #[test]
@@ -12,8 +14,31 @@ fn a_refusal_is_shown_with_its_place(rt: HostRuntime) {
     };
     let alloc = rt.alloc();
     assert_shown(&rt, alloc, refusal, "Tag at 3");
-    assert_shown(&rt, alloc, Why::NotCanonical, "NotCanonical");
     assert_shown(&rt, alloc, OutOfMemory, "out of memory");
+}
+
+/// The reason has this number, and is shown by its name.
+fn is_named(rt: &impl Abort, alloc: Global, why: Why, number: u8, name: &str) {
+    assert_same_of(rt, why as u8, number, name);
+    assert_shown(rt, alloc, why, name);
+}
+
+// In the order of their enum, from 1 on. The names are those of section 10 of docs/FORMATS.md.
+#[test]
+fn reasons_have_numbers_and_names(rt: HostRuntime) {
+    let alloc = rt.alloc();
+    is_named(&rt, alloc, Why::Short, 1, "Short");
+    is_named(&rt, alloc, Why::Trailing, 2, "Trailing");
+    is_named(&rt, alloc, Why::Version, 3, "Version");
+    is_named(&rt, alloc, Why::Address, 4, "Address");
+    is_named(&rt, alloc, Why::PduType, 5, "PduType");
+    is_named(&rt, alloc, Why::Window, 6, "Window");
+    is_named(&rt, alloc, Why::Tag, 7, "Tag");
+    is_named(&rt, alloc, Why::Length, 8, "Length");
+    is_named(&rt, alloc, Why::Content, 9, "Content");
+    is_named(&rt, alloc, Why::Depth, 10, "Depth");
+    is_named(&rt, alloc, Why::NotCanonical, 11, "NotCanonical");
+    is_named(&rt, alloc, Why::OutOfMemory, 12, "OutOfMemory");
 }
 
 /// Values that are octets, each spelled by itself.

@@ -144,4 +144,6 @@ fn faults_are_shown(rt: HostRuntime) {
     let text = "the contents would have more than 1048576 octets";
     assert_shown(&rt, rt.alloc(), fault, text);
     assert_same(&rt, fault as u8, 1);
+    assert_shown(&rt, rt.alloc(), ValueFault::OutOfMemory, "out of memory");
+    assert_same(&rt, ValueFault::OutOfMemory as u8, 2);
 }

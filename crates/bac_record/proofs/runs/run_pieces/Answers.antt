@@ -6,13 +6,15 @@ use Rattle.bac_record.specs.declared.summaries.Summary.{Summary}
 use Rattle.bac_record.specs.Batches.{Deals, Halts}
 use Rattle.bac_record.proofs.Appended.{ends_length, output_room, Tally-few}
 use Rattle.bac_record.proofs.Waiting.{held_some, truncated}
+use Rattle.bac_record.specs.Records.{HELD}
+use Rattle.bac_record.proofs.ReadLemmas.{drop_within, given_so_far}
 use Rattle.bac_record.proofs.RunSoFar.{begun, reads, goes_on, stops, stops_found, stops_writing}
 use Rattle.bac_record.proofs.runs.run_pieces.Goals as goal
 
 pub returns-in_default-clause-stopped : goal.returns-in_default-clause-stopped
 returns-in_default-clause-stopped g c =
     let job = c.args.job.now in
-    stops _ _ _ _ _ _ _ _ _ _ _ _ (begun (g.J.Job.line job) (g.J.Job.is_canonical job) (g.J.Job.is_refused job) _ _) refl (inl (refl, refl)) (λ list output outputs. outputs)
+    stops _ _ _ _ _ _ _ _ _ _ _ _ (begun (g.J.Job.line job) (g.J.Job.is_canonical job) (g.J.Job.is_refused job) _ _) (omega arith) refl (inl (refl, refl)) (λ list output outputs. outputs)
 
 pub returns-in-Ok-eq0-clause-stopped : goal.returns-in-Ok-eq0-clause-stopped
 returns-in-Ok-eq0-clause-stopped g c =
@@ -20,7 +22,7 @@ returns-in-Ok-eq0-clause-stopped g c =
     let none : read.0 ≡ [] = nil_from_length read.0 (omega (arith, read.1)) in
     let same : c.fill.new.self ≡ c.pieces.window = read.2 ∙ ap (λ l. c.pieces.window ++ l) none ∙ append-nil c.pieces.window in
     let some : 0 < length c.pieces.window = subst (λ (l : List ℕ). 0 < length l) (c.octets.ensures.value ∙ same) (held_some c.octets.result.now _ c.is_empty.ensures c.if-is_empty.false) in
-    stops _ _ _ _ _ _ _ _ _ _ _ _ (reads _ _ _ _ _ _ _ _ _ _ _ _ _ c.pieces.invariant.done read.3 read.2) refl
+    stops _ _ _ _ _ _ _ _ _ _ _ _ (reads _ _ _ _ _ _ _ _ _ _ _ _ _ c.pieces.invariant.done read.3 read.2) c.in-Ok-eq0.ensures.bound refl
     (subst (λ l. HasEnd c.pieces.summary.records l _) (sym same) (truncated _ _ c.pieces.invariant.waits some), c.in-Ok-eq0.ensures.end (omega arith)) (λ list output outputs. outputs)
 
 pub hand_over-requires-clause-few : goal.hand_over-requires-clause-few
@@ -36,7 +38,7 @@ returns-in_err-hand_over-clause-stopped g c =
     let fault = c.in_err-hand_over.ensures.fault in
     let p = err_from_is_err_and c.from_residual.result c.from_residual.ensures.1 in
     rw (p.1, p.2, fault.3)
-    (stops_writing _ _ _ _ _ _ _ _ _ _ _ _ _ _ _ _ (reads _ _ _ _ _ _ _ _ _ _ _ _ _ c.pieces.invariant.done read.3 read.2) deals fault.2 fault.4)
+    (stops_writing _ _ _ _ _ _ _ _ _ _ _ _ _ _ _ _ (reads _ _ _ _ _ _ _ _ _ _ _ _ _ c.pieces.invariant.done read.3 read.2) c.in-Ok-fill.ensures.bound deals fault.2 fault.4)
 
 pub returns-in-Some-clause-stopped : goal.returns-in-Some-clause-stopped
 returns-in-Some-clause-stopped g c =
@@ -53,7 +55,7 @@ returns-in-Some-clause-stopped g c =
     let halted = subst (λ l. Halts (g.J.Job.stops job) (old.records + batch.summary.records) (drop c.deal-taken.result.0 l) c.deal-taken.result.1) c.octets-in-pieces.ensures.value c.deal-taken.ensures.halted in
     let found = rw c.in-Some.is at halted in
     stops_found _ _ _ _ _ _ _ _ _ new _ _
-    (goes_on _ _ _ _ _ _ _ _ _ old new _ _ batch (reads _ _ _ _ _ _ _ _ _ _ _ _ _ c.pieces.invariant.done read.3 read.2) deals c.in_ok-hand_over.ensures.ok refl refl refl) found
+    (goes_on _ _ _ _ _ _ _ _ _ old new _ _ batch (reads _ _ _ _ _ _ _ _ _ _ _ _ _ c.pieces.invariant.done read.3 read.2) deals c.in_ok-hand_over.ensures.ok refl refl refl) (drop_within c.deal-taken.result.0 _ HELD c.in-Ok-fill.ensures.bound) found
 
 pub join-requires-clause-canonical : goal.join-requires-clause-canonical
 join-requires-clause-canonical g c =
@@ -84,6 +86,8 @@ pieces-preserved g c =
       done = rw (c.advance.ensures, ← sent) done;
       waits = rw (c.advance.ensures, c.join.ensures.records) waiting.0;
       short = rw c.advance.ensures waiting.1;
+      given = rw (c.advance.ensures, c.join.ensures.records, deals.holds.sums.records)
+          (given_so_far _ _ _ _ _ _ _ read.0 _ deals.list c.in-Ok-fill.ensures.given c.pieces.invariant.given read.1 read.2 deals.within deals.whole deals.holds.each);
       reads = c.in-Ok-fill.ensures.counted ∙ c.pieces.invariant.reads;
       writes = c.in_ok-hand_over.ensures.counted ∙ c.pieces.invariant.writes;
       room = omega (arith, c.pieces.invariant.room, c.join.ensures.records, deals.holds.sums.records, sent, output_room (g.J.Job.line job) (old.records + 1) 0 deals.list batch.output.items batch.ends.items deals.holds.outputs fits);

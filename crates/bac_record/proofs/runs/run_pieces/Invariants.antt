@@ -1,6 +1,6 @@
 -- Each record that was dealt with is written, and less than a record is held.
 use Rattle.std.proofs.Common.{◌≡◌, ◌≤◌, ◌<◌, ◌+◌, ◌-◌, ◌*◌, ◌^◌, length}
-use Rattle.bac_record.specs.Records.{LONGEST, MOST}
+use Rattle.bac_record.specs.Records.{HELD, LONGEST, MOST}
 use Rattle.bac_record.specs.Runs.{Waits}
 use Rattle.bac_record.specs.declared.runs.TheConstants.{PIECE}
 use Rattle.bac_record.proofs.RunSoFar.{RunSoFar}
@@ -12,6 +12,7 @@ invariant-pieces g l = record {
       (g.W.Output.taken l.initial.writer) (g.W.Output.taken l.writer) l.window l.summary l.sent;
   waits : Waits l.summary.records l.window;
   short : length l.window < LONGEST + 2;
+  given : g.R.Input.given l.reader ≤ g.R.Input.given l.initial.reader + (l.summary.records * HELD + length l.window);
   reads : g.R.Input.failures l.reader ≡ g.R.Input.failures l.initial.reader;
   writes : g.W.Output.failures l.writer ≡ g.W.Output.failures l.initial.writer;
   room : l.sent ≤ l.summary.records * 2 ^ 64;

@@ -1,3 +1,0 @@
-pub mod Named
-pub mod Answering
-pub mod ErrorLemmas

@@ -1,0 +1,5 @@
+mod AlikeLemmas
+mod NpciLemmas
+mod ApduLemmas
+mod MessageLemmas
+mod FrameLemmas

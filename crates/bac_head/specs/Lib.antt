@@ -1,0 +1,4 @@
+pub mod Saying
+pub mod Reach
+pub mod Known
+pub mod Numbers

@@ -1,0 +1,4 @@
+pub mod Messages
+pub mod CutFrames
+pub mod JoinedFrames
+pub mod FrameCuts

@@ -1,0 +1,34 @@
+//! Messages that are sent in segments (clauses 5.2 and 5.4), as frames. [`cut_frame`] cuts a frame in one piece into
+//! the frames of its segments, and [`join_frames`] joins such frames to the frame in one piece.
+//!
+//! In the examples `rt` is the program's `HostRuntime`.
+//!
+//! # How it works
+//!
+//! [`cut_frame`] encodes the service of a frame, lets bac_segment cut the octets, and puts each segment into a frame
+//! with the head of the whole one.
+//!
+//! [`join_frames`] goes through the frames in the order in which they are given. Each must have the heads of the first,
+//! and a reassembly of bac_segment must take its segment. Once all are taken, the service is decoded from the joined
+//! octets, and put into a frame with the heads of the first.
+//!
+//! Where it is, in `src`, and after the semicolon in `specs`:
+//!
+//! - the heads and the body of a frame: `parts.rt`; `Messages.antt`
+//! - cutting: `cutting.rt`; `CutFrames.antt`
+//! - joining: `joining.rt`, `heads.rt`, `missing.rt`; `JoinedFrames.antt`
+//! - faults: `faults.rt`
+//! - laws: `laws.rt`
+#![tactic(auto)]
+
+mod cutting;
+mod faults;
+mod heads;
+mod joining;
+pub mod laws;
+mod missing;
+mod parts;
+
+pub use cutting::cut_frame;
+pub use faults::{FrameCutFault, FrameJoinFault};
+pub use joining::join_frames;

@@ -1,0 +1,43 @@
+//! The examples of the doc comments of bac_message, with the same lines.
+
+use bac_message::{FrameJoinFault, cut_frame, join_frames};
+use bac_npdu::{decode_frame, encode_frame};
+use std::test::Fail;
+
+// Of `bac_message::cut_frame`.
+#[test]
+fn a_frame_is_cut(rt: HostRuntime) -> Result<(), Fail> {
+    // An answer to ReadProperty (12): analog input 5, present value 100.0.
+    let octets = [
+        0x01, 0x00, 0x30, 0x01, 0x0C, 0x0C, 0x00, 0x00, 0x00, 0x05, 0x19, 0x55, 0x3E, 0x44, 0x42,
+        0xC8, 0x00, 0x00, 0x3F,
+    ];
+    let frame = decode_frame(rt.alloc(), &octets)?;
+    let frames = cut_frame(rt.alloc(), &frame, 10, 4)?;
+    assert_eq!(rt; frames.len(), 2);
+    // The last one: the head of the frame, and segment 1 with what is left of the service.
+    let last = encode_frame(rt.alloc(), frames.last().ok_or("no frame")?)?;
+    let wanted = [
+        0x01, 0x00, 0x38, 0x01, 0x01, 0x04, 0x0C, 0xC8, 0x00, 0x00, 0x3F,
+    ];
+    assert_eq!(rt; last.as_slice(), wanted.as_slice());
+    Ok(())
+}
+
+// Of `bac_message::join_frames`.
+#[test]
+fn frames_are_joined(rt: HostRuntime) -> Result<(), Fail> {
+    // An answer to ReadProperty (12): analog input 5, present value 100.0.
+    let octets = [
+        0x01, 0x00, 0x30, 0x01, 0x0C, 0x0C, 0x00, 0x00, 0x00, 0x05, 0x19, 0x55, 0x3E, 0x44, 0x42,
+        0xC8, 0x00, 0x00, 0x3F,
+    ];
+    let frame = decode_frame(rt.alloc(), &octets)?;
+    let mut frames = cut_frame(rt.alloc(), &frame, 6, 4)?;
+    assert_eq!(rt; frames.len(), 3);
+    frames.reverse();
+    assert_eq!(rt; join_frames(rt.alloc(), &frames)?, frame);
+    let found = join_frames(rt.alloc(), &frames[..2]);
+    assert_eq!(rt; found.err(), Some(FrameJoinFault::Incomplete(0)));
+    Ok(())
+}

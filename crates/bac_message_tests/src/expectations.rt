@@ -1,0 +1,39 @@
+//! What a test expects. Each is a function, which is proved once for all tests; what they compare by is proved in bac_tables.
+
+use bac_npdu::{Frame, decode_frame};
+use bac_tables::{octets_of, same_of};
+use std::alloc::Global;
+use std::fmt::{Debug, Display};
+use std::process::Abort;
+
+/// Stops the test unless what it found is what it wanted. A failure shows the case.
+pub fn assert_same_of<T: PartialEq + Debug + Drop, C: Debug + Drop>(
+    rt: &impl Abort,
+    found: T,
+    wanted: T,
+    case: C,
+) {
+    same_of(found, wanted, case).expect(rt, "another value is wanted");
+}
+
+/// Stops the test unless there is a fault, and this is how it is shown.
+pub fn assert_fault<T: Drop, F: Display + Drop, C: Debug + Drop>(
+    rt: &impl Abort,
+    alloc: Global,
+    found: Result<T, F>,
+    wanted: &str,
+    case: C,
+) {
+    let shown = match found {
+        Ok(_) => format!(in alloc; "no fault"),
+        Err(fault) => fault.to_string(alloc),
+    };
+    let text = shown.expect(rt, "memory");
+    assert_same_of(rt, text.as_str(), wanted, case);
+}
+
+/// The frame that these octets spell.
+pub fn frame_of(rt: &impl Abort, alloc: Global, text: &str) -> Frame {
+    let octets = octets_of(text).expect(rt, "octets");
+    decode_frame(alloc, &octets).expect(rt, "a frame")
+}

@@ -1,0 +1,4 @@
+mod Aliases
+pub mod Named
+pub mod Answering
+pub mod ErrorLemmas

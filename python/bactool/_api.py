@@ -1,0 +1,166 @@
+# SPDX-License-Identifier: Apache-2.0 OR MIT
+"""The calls of one library on frames. What each does is said at the functions of the package."""
+
+from __future__ import annotations
+
+from typing import Any, Callable, Dict, List, Optional, TypeVar, Union
+
+from . import _decode, _encode, _heads, _library
+from ._library import Desk, Library, Outcome, StrPath
+from ._refusals import Fault, Refused, RefusedField
+
+# Whatever has octets in memory.
+Octets = Union[bytes, bytearray, memoryview]
+
+Kept = TypeVar("Kept")
+
+SIDES = {_library.LEFT_REFUSED: "left", _library.RIGHT_REFUSED: "right"}
+
+
+class Bactool:
+    """The calls of the library at `path`, or of the one that is found; they are those of the package. Any of them may run
+    in any threads at the same time. Raises OSError if there is no library."""
+
+    def __init__(self, path: Optional[StrPath] = None) -> None:
+        self._library = Library(path)
+        self._steps = _decode.steps_of(self._library.words)
+        self._grammar = _encode.Grammar(self._library.words)
+        # What calls write into, while no call has it: so that no two calls share one, whatever runs them.
+        self._desks: List[Desk] = []
+        self._outcomes: List[Outcome] = []
+
+    def check(self, octets: Octets, strict: bool = False) -> Optional[int]:
+        """Returns None if the octets are canonical, and else the first place where they differ from canonical ones."""
+        if type(octets) is not bytes:
+            octets = octets_of(octets)
+        outcome = taken(self._outcomes, Outcome)
+        code = self._library.check(octets, len(octets), strict, outcome)
+        if code == _library.OK:
+            place = None
+        elif code == _library.TOLERATED:
+            place = outcome.place
+        else:
+            raise self._refusal(code, outcome)
+        self._outcomes.append(outcome)
+        return place
+
+    def head(self, octets: Octets) -> _heads.Head:
+        """Returns what is known of the frame, also if it is refused."""
+        octets = octets_of(octets)
+        head, outcome = _heads.HeadOfC(), Outcome()
+        code = self._library.head(octets, len(octets), head, outcome)
+        if code == _library.OK:
+            return _heads.head_of(octets, head, None)
+        if code != _library.REFUSED:
+            raise self._refusal(code, outcome)
+        return _heads.head_of(octets, head, Refused(self._library.reasons[outcome.why], outcome.place))
+
+    def normalise(self, octets: Octets) -> bytes:
+        """Returns the canonical octets of the frame."""
+        return self._written(self._library.normalise, octets_of(octets))
+
+    def show(self, octets: Octets) -> str:
+        """Returns the text of the frame."""
+        return self._written(self._library.show, octets_of(octets)).decode()
+
+    def read(self, text: Union[str, Octets]) -> bytes:
+        """Returns the canonical octets of the frame with this text."""
+        octets = text.encode(errors="surrogatepass") if isinstance(text, str) else octets_of(text)
+        return self._written(self._library.read, octets)
+
+    def same_meaning(self, left: Octets, right: Octets) -> bool:
+        """Returns whether both inputs encode the same frame."""
+        left, right, outcome = octets_of(left), octets_of(right), Outcome()
+        code = self._library.same_meaning(left, len(left), right, len(right), outcome)
+        if code not in (_library.OK, _library.DIFFERENT):
+            raise self._refusal(code, outcome)
+        return bool(code == _library.OK)
+
+    def decode(self, octets: Octets) -> Dict[str, Any]:
+        """Returns the frame as a dict."""
+        if type(octets) is not bytes:
+            octets = octets_of(octets)
+        desk = kept = taken(self._desks, Desk)
+        while True:
+            code = self._library.decode(
+                octets, len(octets), desk.out, desk.room, desk.fields, desk.most, desk.outcome
+            )
+            if code == _library.OK:
+                break
+            desk = self._larger(code, desk.outcome)
+        frame = _decode.frame_of(self._steps, desk, desk.outcome.fields)
+        self._desks.append(kept)
+        return frame
+
+    def encode(self, frame: Dict[str, Any]) -> bytes:
+        """Returns the canonical octets of the frame that a dict says."""
+        said, fault = _encode.said_of(self._grammar, frame)
+        octets, count = bytes(said.octets), len(said.pieces)
+        desk = kept = taken(self._desks, Desk)
+        if count > desk.most:
+            desk = Desk(desk.room, count)
+        fields = b"".join(said.pieces)
+        desk.field_octets[: len(fields)] = fields
+        out = desk
+        while True:
+            code = self._library.encode(desk.fields, count, octets, len(octets), out.out, out.room, out.outcome)
+            if code != _library.NO_ROOM:
+                break
+            out = Desk(out.outcome.count, 0)
+        if code != _library.OK or fault is not None:
+            raise self._refused_field(code, out.outcome, frame, said, fault)
+        written = bytes(out.octets[: out.outcome.count])
+        self._desks.append(kept)
+        return written
+
+    def reasons(self) -> Dict[int, str]:
+        """Returns the names of all reasons by their numbers."""
+        return dict(self._library.reasons)
+
+    def _written(self, call: Callable[..., int], octets: bytes) -> bytes:
+        """Returns what a call writes."""
+        desk = kept = taken(self._desks, Desk)
+        while True:
+            code = call(octets, len(octets), desk.out, desk.room, desk.outcome)
+            if code == _library.OK:
+                break
+            desk = self._larger(code, desk.outcome)
+        written = bytes(desk.octets[: desk.outcome.count])
+        self._desks.append(kept)
+        return written
+
+    def _larger(self, code: int, outcome: Outcome) -> Desk:
+        """Returns a desk with the room that was wanted, or raises what the code says."""
+        if code != _library.NO_ROOM:
+            raise self._refusal(code, outcome)
+        return Desk(outcome.count, outcome.fields)
+
+    def _refusal(self, code: int, outcome: Outcome) -> Exception:
+        """Returns what a code says that is not a success."""
+        if code == _library.NO_MEMORY:
+            return MemoryError()
+        return Refused(self._library.reasons[outcome.why], outcome.place, SIDES.get(code))
+
+    def _refused_field(
+        self, code: int, outcome: Outcome, frame: Any, said: _encode.Said, fault: Optional[Fault]
+    ) -> Exception:
+        """Returns the refusal of a dict at its first part that is at fault: the one that no field can say, or one before
+        it, at which the library stops."""
+        if code == _library.NO_MEMORY:
+            return MemoryError()
+        if fault is None or code == _library.REFUSED and outcome.place < len(said.pieces):
+            fault = _encode.fault_at(self._grammar, frame, outcome.place, self._library.reasons[outcome.why])
+        return RefusedField(fault.why, fault.path())
+
+
+def octets_of(octets: Octets) -> bytes:
+    """Returns what has octets in memory as bytes. Raises TypeError if it has none, as a number or a text."""
+    return octets if isinstance(octets, bytes) else bytes(memoryview(octets))
+
+
+def taken(kept: List[Kept], new: Callable[[], Kept]) -> Kept:
+    """Takes one of what is kept, or a new one."""
+    try:
+        return kept.pop()
+    except IndexError:
+        return new()

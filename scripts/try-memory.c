@@ -1,0 +1,413 @@
+/* SPDX-License-Identifier: Apache-2.0 OR MIT */
+/*
+ * Use of libbactool where memory is refused, and where it is not, for scripts/try-memory: `try-memory SEED DRAWS`.
+ *
+ * First, on worked examples of docs/EXAMPLES.md, each allocation of each call is refused in turn: a call ends as the
+ * example says, or reports that memory was refused and writes nothing. Then each call is made with DRAWS frames of drawn
+ * lengths and counts, and with lines and fields of drawn lengths: no call reports that memory was refused, since none was.
+ * It prints a line for each thing that is wrong, and one at the end.
+ *
+ * It is linked with --wrap for malloc and realloc.
+ */
+#include "drawn-frames.h"
+#include "line-of-fields.h"
+#include "refused-memory.h"
+#include <bactool.h>
+#include <stdio.h>
+#include <stdlib.h>
+#include <string.h>
+
+static unsigned long faults, tried;
+
+/* What is tried, for a line of a fault. */
+static const char *trying = "";
+
+#define EXPECT(holds)                                                                                          \
+    do {                                                                                                       \
+        if (!(holds) && faults++ < 20)                                                                         \
+            printf("try-memory: line %d, %s %lu: %s\n", __LINE__, trying, tried, #holds);                      \
+    } while (0)
+
+/* An outcome before a call, which fills in the whole of it. */
+#define UNTOLD {77, 77, 77, 77}
+
+static bool tells(struct bactool_outcome told, uint32_t why, size_t place, size_t count, size_t fields)
+{
+    return told.why == why && told.place == place && told.count == count && told.fields == fields;
+}
+
+/* The seven calls that may report that memory was refused. */
+enum call { CHECK, NORMALISE, DECODE, ENCODE, SHOW, READ, SAME, CALLS };
+
+/* ---- refused allocations */
+
+/* A worked example: octets, their canonical octets if they have others, and their line, or why they are refused at 0. */
+static const struct example {
+    unsigned long number;
+    const char *octets, *canonical, *line;
+    uint32_t why;
+} examples[] = {
+    {18, "01040002F10E0C000000211E09551F", NULL,
+     "prio=0 reply=1 conf id=241 sa=0 segs=0 resp=2 ReadPropertyMultiple specs=((object=0:33 properties=((property=85))))", 0},
+    {18, "010030F10E0C000000211E29554E444290999A4F29675E910291205F1F", NULL,
+     "prio=0 reply=0 ack id=241 ReadPropertyMultiple results=((object=0:33 results=((property=85 value={r:4290999A}) "
+     "(property=103 error=(class=2 code=32)))))", 0},
+    {20, "0100100209121C020000042C0000000A39004E09552E44428200002F096F2E8204002F4F", NULL,
+     "prio=0 reply=0 unconf UnconfirmedCOVNotification process=18 device=8:4 object=0:10 remaining=0 values=((property=85 "
+     "value={r:42820000}) (property=111 value={b:0000}))", 0},
+    {24, "01003C0100040C0C0000000519", NULL,
+     "prio=0 reply=0 ack-seg id=1 seq=0 win=4 more=1 choice=12 octets=0C0000000519", 0},
+    {24, "01003C0101040C553E44429099", NULL,
+     "prio=0 reply=0 ack-seg id=1 seq=1 win=4 more=1 choice=12 octets=553E44429099", 0},
+    {24, "0100380102040C9A3F", NULL, "prio=0 reply=0 ack-seg id=1 seq=2 win=4 more=0 choice=12 octets=9A3F", 0},
+    {27, "010030010C0C0000000519553E444290999A3F", NULL,
+     "prio=0 reply=0 ack id=1 ReadProperty object=0:5 property=85 value={r:4290999A}", 0},
+    {28, "01540185010C0C000000051A0055", "01040005010C0C000000051955",
+     "prio=0 reply=1 conf id=1 sa=0 segs=0 resp=5 ReadProperty object=0:5 property=85", 0},
+    {28, "01040005010C0C000000051955", NULL,
+     "prio=0 reply=1 conf id=1 sa=0 segs=0 resp=5 ReadProperty object=0:5 property=85", 0},
+    {28, "", NULL, NULL, BACTOOL_SHORT},
+    {74, "0104000502100C004000011E09552E4442C800002F39081F", NULL,
+     "prio=0 reply=1 conf id=2 sa=0 segs=0 resp=5 WritePropertyMultiple specs=((object=1:1 values=((property=85 "
+     "value={r:42C80000} priority=8))))", 0},
+};
+
+enum { EXAMPLES = sizeof examples / sizeof *examples, LONGEST = 64, LINE = 256, FIELDS = 64, KEPT = 0xA5 };
+
+/* The octets of an example, which is not written to; its canonical octets, and its fields. */
+struct said {
+    const struct example *example;
+    uint8_t octets[LONGEST], canonical[LONGEST];
+    size_t length, count, fields;
+    struct bactool_field known[FIELDS];
+};
+
+/* Where the calls write. */
+static uint8_t out[LINE];
+static struct bactool_field fields[FIELDS];
+
+static size_t octets_of(const char *digits, uint8_t *octets)
+{
+    size_t count = 0;
+    for (unsigned octet; sscanf(digits + 2 * count, "%2x", &octet) == 1; count++)
+        octets[count] = (uint8_t)octet;
+    return count;
+}
+
+static bool all_kept(const void *octets, size_t count)
+{
+    for (size_t k = 0; k < count; k++)
+        if (((const uint8_t *)octets)[k] != KEPT)
+            return false;
+    return true;
+}
+
+/* These fields make this line. */
+static bool has_line(const uint8_t *octets, const struct bactool_field *said, size_t count, const char *line)
+{
+    char made[LINE];
+    size_t length = line_of_fields(octets, said, count, made);
+    return length == strlen(line) && memcmp(made, line, length) == 0;
+}
+
+/* The example as the calls want it. Its fields are those that the library decodes, if the line that they make is the
+   example's. */
+static struct said said_by(const struct example *example)
+{
+    struct said said = {.example = example};
+    struct bactool_outcome told = UNTOLD;
+    said.length = octets_of(example->octets, said.octets);
+    said.count = octets_of(example->canonical != NULL ? example->canonical : example->octets, said.canonical);
+    if (example->line == NULL)
+        return said;
+    EXPECT(bactool_decode(said.octets, said.length, out, sizeof out, said.known, FIELDS, &told) == BACTOOL_OK);
+    said.fields = told.fields;
+    EXPECT(has_line(said.canonical, said.known, said.fields, example->line));
+    return said;
+}
+
+/* Makes a call on an example, or on two for SAME. */
+static uint32_t made(enum call call, const struct said *said, const struct said *other, struct bactool_outcome *told)
+{
+    const char *line = said->example->line != NULL ? said->example->line : "";
+    memset(out, KEPT, sizeof out);
+    memset(fields, KEPT, sizeof fields);
+    switch (call) {
+    case CHECK:
+        return bactool_check(said->octets, said->length, false, told);
+    case NORMALISE:
+        return bactool_normalise(said->octets, said->length, out, sizeof out, told);
+    case DECODE:
+        return bactool_decode(said->octets, said->length, out, sizeof out, fields, FIELDS, told);
+    case ENCODE:
+        return bactool_encode(said->known, said->fields, said->canonical, said->count, out, sizeof out, told);
+    case SHOW:
+        return bactool_show(said->octets, said->length, (char *)out, sizeof out, told);
+    case READ:
+        return bactool_read(line, strlen(line), out, sizeof out, told);
+    default:
+        return bactool_same_meaning(said->octets, said->length, other->octets, other->length, told);
+    }
+}
+
+/* These octets are written, and what follows them is kept. */
+static bool is_written(const void *octets, size_t count)
+{
+    return memcmp(out, octets, count) == 0 && all_kept(out + count, sizeof out - count);
+}
+
+/* Both frames have the same canonical octets. */
+static bool are_same(const struct said *said, const struct said *other)
+{
+    return said->count == other->count && memcmp(said->canonical, other->canonical, said->count) == 0;
+}
+
+/* The call answered as the example says. All examples that are tolerated differ at 1, and those that are refused are so
+   at 0. */
+static bool is_answered(enum call call, const struct said *said, const struct said *other, uint32_t code,
+                        struct bactool_outcome told)
+{
+    const struct example *example = said->example;
+    bool is_tolerated = example->canonical != NULL, is_right = example->why == 0;
+    size_t length = example->line != NULL ? strlen(example->line) : 0;
+    if (call == SAME && is_right && other->example->why == 0)
+        return code == (are_same(said, other) ? BACTOOL_OK : BACTOOL_DIFFERENT) && tells(told, 0, 0, 0, 0);
+    if (call == SAME)
+        return code == (is_right ? BACTOOL_RIGHT_REFUSED : BACTOOL_LEFT_REFUSED)
+            && tells(told, is_right ? other->example->why : example->why, 0, 0, 0);
+    if (!is_right)
+        return code == BACTOOL_REFUSED && tells(told, example->why, 0, 0, 0) && all_kept(out, sizeof out);
+    if (call == CHECK)
+        return code == (is_tolerated ? BACTOOL_TOLERATED : BACTOOL_OK) && tells(told, 0, is_tolerated, 0, 0);
+    if (code != BACTOOL_OK)
+        return false;
+    if (call == SHOW)
+        return tells(told, 0, 0, length, 0) && is_written(example->line, length);
+    if (!is_written(said->canonical, said->count))
+        return false;
+    if (call != DECODE)
+        return tells(told, 0, 0, said->count, 0);
+    return tells(told, 0, 0, said->count, said->fields) && has_line(out, fields, said->fields, example->line)
+        && all_kept(fields + said->fields, (FIELDS - said->fields) * sizeof *fields);
+}
+
+/* How many allocations of each call were refused. */
+static unsigned long refusals[CALLS];
+
+/* Each allocation refused in turn, till none is left. Until then the call reports it and writes nothing; where others are
+   granted it may also do without it. */
+static void try_refused(enum call call, const struct said *said, const struct said *other)
+{
+    was_refused = true;
+    for (long refused = 0; was_refused; refused++) {
+        struct bactool_outcome told = UNTOLD;
+        was_refused = false;
+        left = refused;
+        uint32_t code = made(call, said, other, &told);
+        left = -1;
+        refusals[call] += was_refused;
+        if (was_refused && (!alone || code == BACTOOL_NO_MEMORY)) {
+            EXPECT(code == BACTOOL_NO_MEMORY && tells(told, BACTOOL_OUT_OF_MEMORY, 0, 0, 0));
+            EXPECT(all_kept(out, sizeof out) && all_kept(fields, sizeof fields));
+        } else {
+            EXPECT(is_answered(call, said, other, code, told));
+        }
+    }
+}
+
+static void try_examples(void)
+{
+    static struct said said[EXAMPLES];
+    trying = "example";
+    for (size_t k = 0; k < EXAMPLES; k++) {
+        tried = examples[k].number;
+        said[k] = said_by(&examples[k]);
+    }
+    for (int round = 0; round < 2; round++) {
+        alone = round == 1;
+        for (size_t k = 0; k < EXAMPLES; k++) {
+            tried = examples[k].number;
+            for (enum call call = CHECK; call < SAME; call++)
+                try_refused(call, &said[k], NULL);
+            for (size_t other = 0; other < EXAMPLES; other++)
+                try_refused(SAME, &said[k], &said[other]);
+        }
+    }
+    for (enum call call = CHECK; call < CALLS; call++)
+        EXPECT(refusals[call] > 0);
+}
+
+/* ---- drawn sizes */
+
+/* How often each call was made with drawn sizes. */
+static unsigned long draws[CALLS];
+
+/* No memory was refused, so no call may say so. */
+static uint32_t granted(enum call call, uint32_t code, const struct bactool_outcome *told)
+{
+    draws[call]++;
+    EXPECT(code != BACTOOL_NO_MEMORY && told->why != BACTOOL_OUT_OF_MEMORY);
+    return code;
+}
+
+/* Memory for so many octets, which is there. */
+static void *taken(size_t size)
+{
+    void *memory = malloc(size + 1);
+    if (memory == NULL) {
+        puts("try-memory: the machine has too little memory");
+        exit(2);
+    }
+    return memory;
+}
+
+/* A number below `count`, or 0 if a call gave no count. */
+static size_t number_below(uint64_t *state, size_t count)
+{
+    return count == 0 ? 0 : (size_t)(drawn(state) % count);
+}
+
+/* The first so many octets of a line are those of a line, or begin one. */
+static void try_front(const char *line, size_t length)
+{
+    struct bactool_outcome told = UNTOLD;
+    uint32_t code = granted(READ, bactool_read(line, length, NULL, 0, &told), &told);
+    EXPECT(code == BACTOOL_NO_ROOM || (code == BACTOOL_REFUSED && tells(told, BACTOOL_SHORT, length, 0, 0)));
+}
+
+/* Reads the line of a frame with these canonical octets, a front of it, and the line with a line feed in it, which is in no
+   line. */
+static void try_line(uint64_t *state, const struct frame *frame, const uint8_t *canonical, size_t count)
+{
+    struct bactool_outcome told = UNTOLD;
+    EXPECT(granted(SHOW, bactool_show(frame->octets, frame->length, NULL, 0, &told), &told) == BACTOOL_NO_ROOM);
+    size_t length = told.count, place = number_below(state, length);
+    char *line = taken(length);
+    uint8_t *read = taken(count);
+    EXPECT(granted(SHOW, bactool_show(frame->octets, frame->length, line, length, &told), &told) == BACTOOL_OK);
+    EXPECT(granted(READ, bactool_read(line, length, read, count, &told), &told) == BACTOOL_OK);
+    EXPECT(tells(told, 0, 0, count, 0) && memcmp(read, canonical, count) == 0);
+    try_front(line, place);
+    line[place] = '\n';
+    EXPECT(granted(READ, bactool_read(line, length, read, count, &told), &told) == BACTOOL_REFUSED);
+    EXPECT(tells(told, BACTOOL_BAD_TEXT, place, 0, 0));
+    free(read);
+    free(line);
+}
+
+/* Decodes a frame with these canonical octets into its fields, and makes the octets of them, and of a front of them. */
+static void try_fields(uint64_t *state, const struct frame *frame, const uint8_t *canonical, size_t count)
+{
+    struct bactool_outcome told = UNTOLD;
+    EXPECT(granted(DECODE, bactool_decode(frame->octets, frame->length, NULL, 0, NULL, 0, &told), &told) == BACTOOL_NO_ROOM);
+    size_t most = told.fields, front = number_below(state, most);
+    struct bactool_field *said = taken(most * sizeof *said);
+    uint8_t *octets = taken(count), *made = taken(count);
+    EXPECT(granted(DECODE, bactool_decode(frame->octets, frame->length, octets, count, said, most, &told), &told) == BACTOOL_OK);
+    EXPECT(tells(told, 0, 0, count, most) && memcmp(octets, canonical, count) == 0);
+    EXPECT(granted(ENCODE, bactool_encode(said, most, octets, count, made, count, &told), &told) == BACTOOL_OK);
+    EXPECT(tells(told, 0, 0, count, 0) && memcmp(made, canonical, count) == 0);
+    uint32_t code = granted(ENCODE, bactool_encode(said, front, octets, count, NULL, 0, &told), &told);
+    EXPECT(code == BACTOOL_NO_ROOM || (code == BACTOOL_REFUSED && tells(told, BACTOOL_SHORT, front, 0, 0)));
+    free(made);
+    free(octets);
+    free(said);
+}
+
+/* The calls on a frame that is accepted. */
+static void try_accepted(uint64_t *state, const struct frame *frame)
+{
+    struct bactool_outcome told = UNTOLD;
+    uint8_t *canonical = taken(frame->length);
+    const uint8_t *octets = frame->octets;
+    EXPECT(granted(NORMALISE, bactool_normalise(octets, frame->length, canonical, frame->length, &told), &told) == BACTOOL_OK);
+    size_t count = told.count, front = number_below(state, count);
+    EXPECT(frame->verdict != CANONICAL || (count == frame->length && memcmp(canonical, octets, count) == 0));
+    EXPECT(granted(SAME, bactool_same_meaning(octets, frame->length, canonical, count, &told), &told) == BACTOOL_OK);
+    uint32_t code = granted(SAME, bactool_same_meaning(octets, frame->length, canonical, front, &told), &told);
+    EXPECT(code == BACTOOL_DIFFERENT || code == BACTOOL_RIGHT_REFUSED);
+    try_fields(state, frame, canonical, count);
+    try_line(state, frame, canonical, count);
+    free(canonical);
+}
+
+/* A line and fields of drawn lengths, each but a front: octets without a layout, of which the last digit is left out, and
+   networks in a list that does not end. */
+static void try_fronts(uint64_t *state)
+{
+    static const char head[] = "prio=0 reply=0 unconf opaque choice=9 octets=";
+    size_t length = sizeof head - 1 + 2 * drawn_size(state, CONTENTS), most = 4 + drawn_size(state, ITEMS);
+    char *line = taken(length);
+    memset(line, '0', length);
+    memcpy(line, head, sizeof head - 1);
+    try_front(line, length - 1);
+    free(line);
+
+    struct bactool_outcome told = UNTOLD;
+    struct bactool_field *said = taken(most * sizeof *said);
+    for (size_t k = 0; k < most; k++)
+        said[k] = (struct bactool_field){BACTOOL_FIELD_LISTED_NETWORK, 5, 0, 0, 0};
+    said[0].name = BACTOOL_FIELD_NETWORK_PRIORITY, said[0].number = 0;
+    said[1].name = BACTOOL_FIELD_REPLY_EXPECTED, said[1].number = 0;
+    said[2].name = BACTOOL_FIELD_NETWORK_MESSAGE, said[2].number = 1;
+    said[3].name = BACTOOL_FIELD_NETWORKS, said[3].number = 0;
+    EXPECT(granted(ENCODE, bactool_encode(said, most, NULL, 0, NULL, 0, &told), &told) == BACTOOL_REFUSED);
+    EXPECT(tells(told, BACTOOL_SHORT, most, 0, 0));
+    free(said);
+}
+
+/* The calls on octets that are refused so. */
+static void try_stopped(uint64_t *state, const struct frame *frame, struct bactool_outcome found)
+{
+    struct bactool_outcome told = UNTOLD;
+    const uint8_t *octets = frame->octets;
+    size_t length = frame->length;
+    uint8_t *room = taken(length);
+    EXPECT(granted(NORMALISE, bactool_normalise(octets, length, room, length, &told), &told) == BACTOOL_REFUSED);
+    EXPECT(tells(told, found.why, found.place, 0, 0));
+    EXPECT(granted(DECODE, bactool_decode(octets, length, room, length, NULL, 0, &told), &told) == BACTOOL_REFUSED);
+    EXPECT(tells(told, found.why, found.place, 0, 0));
+    EXPECT(granted(SHOW, bactool_show(octets, length, (char *)room, length, &told), &told) == BACTOOL_REFUSED);
+    EXPECT(tells(told, found.why, found.place, 0, 0));
+    EXPECT(granted(SAME, bactool_same_meaning(octets, length, octets, length, &told), &told) == BACTOOL_LEFT_REFUSED);
+    EXPECT(tells(told, found.why, found.place, 0, 0));
+    free(room);
+    try_fronts(state);
+}
+
+/* Makes each call with a drawn frame, or with what is drawn in its place. */
+static void try_drawn(struct frame *frame)
+{
+    struct bactool_outcome told = UNTOLD;
+    draw_frame(frame, 2 * CONTENTS);
+    uint32_t code = granted(CHECK, bactool_check(frame->octets, frame->length, false, &told), &told);
+    bool is_canonical = code == BACTOOL_OK, is_tolerated = code == BACTOOL_TOLERATED;
+    EXPECT(is_canonical || is_tolerated || code == BACTOOL_REFUSED);
+    EXPECT(frame->verdict == UNKNOWN || is_canonical == (frame->verdict == CANONICAL));
+    EXPECT(frame->verdict == UNKNOWN || is_tolerated == (frame->verdict == TOLERATED));
+    if (is_canonical || is_tolerated)
+        try_accepted(frame->state, frame);
+    else
+        try_stopped(frame->state, frame, told);
+}
+
+int main(int count, char **words)
+{
+    uint64_t state = count > 1 ? strtoull(words[1], NULL, 10) : 0;
+    unsigned long most = count > 2 ? strtoul(words[2], NULL, 10) : 0, all = 0;
+    if (state == 0)
+        return 2;
+    setvbuf(stdout, NULL, _IOLBF, BUFSIZ); /* so that what is wrong is printed even if a call ends the program */
+    try_examples();
+    struct frame frame = {.octets = taken(ROOM), .state = &state};
+    trying = "draw";
+    for (tried = 1; tried <= most; tried++)
+        try_drawn(&frame);
+    free(frame.octets);
+    for (enum call call = CHECK; call < CALLS; call++) {
+        EXPECT(draws[call] >= most);
+        all += refusals[call];
+    }
+    printf("try-memory: %lu refused allocations, and %lu draws of the sizes of each call: %lu faults\n", all, most, faults);
+    return faults != 0;
+}
