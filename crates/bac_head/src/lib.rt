@@ -12,7 +12,7 @@
 //! begin, as the clauses of [`read_known`] say. The octets from the place on are no part of any frame, so a caller cuts
 //! them off before it asks.
 //!
-//! [`read_head`] tells the same as numbers (`numbers.rt`), for the calls from other languages.
+//! [`read_head`] returns the same as numbers (`numbers.rt`), for the calls from other languages.
 //!
 //! Where it is, in `src`, and after the semicolon in `specs`:
 //!

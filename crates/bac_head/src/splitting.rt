@@ -22,9 +22,9 @@ fn split_address(octets: &[u8]) -> Option<(Addressed<'_>, &[u8])>
     if rest.len() < count {
         return None;
     }
-    let (address, behind) = rest.split_at(count);
+    let (address, after) = rest.split_at(count);
     let network = number_of(*high, *low);
-    Some((Addressed { network, address }, behind))
+    Some((Addressed { network, address }, after))
 }
 
 /// Splits off a network, a length and an address if `there` is true. Returns None if the octets end before the address
@@ -38,8 +38,8 @@ pub(crate) fn split_where(there: bool, octets: &[u8]) -> Option<(Option<Addresse
     if !there {
         return Some((None, octets));
     }
-    let (address, behind) = split_address(octets)?;
-    Some((Some(address), behind))
+    let (address, after) = split_address(octets)?;
+    Some((Some(address), after))
 }
 
 /// Splits off the hop count if there is a destination. Returns None if the octets end before the hop count.
@@ -55,7 +55,7 @@ pub(crate) fn split_hops<'a>(
     let Some(to) = goes_to else {
         return Some((None, octets));
     };
-    let [hops, behind @ ..] = octets else {
+    let [hops, after @ ..] = octets else {
         return None;
     };
     let destination = DestRef {
@@ -63,7 +63,7 @@ pub(crate) fn split_hops<'a>(
         hops: *hops,
         address: to.address,
     };
-    Some((Some(destination), behind))
+    Some((Some(destination), after))
 }
 
 /// Returns true if the length of an address is there and is 0.

@@ -65,7 +65,7 @@ fn frames_that_do_not_belong_are_told(rt: HostRuntime) {
     let why = "frame 1: the segment contradicts what is held";
     let other = "01 00 3C 01 00 04 0C 0C 00 00 00 06 19";
     are_not_joined(&rt, alloc, &[first, other], why);
-    let why = "frame 2: the segment stands behind the last one";
+    let why = "frame 2: the segment is after the last one";
     let behind = "01 00 3C 01 03 04 0C 55";
     are_not_joined(&rt, alloc, &[first, last, behind, second], why);
     // Example 72: its only segment.

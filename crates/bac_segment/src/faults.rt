@@ -38,7 +38,7 @@ impl Display for TakeFault {
         formatter.write_str(match self {
             TakeFault::OtherKey => "the segment is of another message",
             TakeFault::Conflict => "the segment contradicts what is held",
-            TakeFault::PastEnd => "the segment stands behind the last one",
+            TakeFault::PastEnd => "the segment is after the last one",
             TakeFault::TooLarge => "the message has more than 65535 octets",
             TakeFault::OutOfMemory => "out of memory",
             TakeFault::DeskFull => "eight other keys are open",

@@ -13,7 +13,7 @@
 //! let value = Unsigned::read(rt.alloc(), &[0x00, 0x55])?;
 //! assert_eq!(rt; value, Unsigned(85));
 //! assert_eq!(rt; value.mark(&[0x00, 0x55]), Some(0));
-//! // What is written is canonical, and stands behind what stood there.
+//! // What is written is canonical, and comes after what was there.
 //! let mut out = Vec::new(rt.alloc());
 //! value.write(&mut out)?;
 //! let name = Text::new(rt.alloc(), 0, b"AI")?;

@@ -10,7 +10,7 @@ fn faults_are_told(rt: HostRuntime) {
     assert_shown(&rt, alloc, TakeFault::OtherKey, text);
     let text = "the segment contradicts what is held";
     assert_shown(&rt, alloc, TakeFault::Conflict, text);
-    let text = "the segment stands behind the last one";
+    let text = "the segment is after the last one";
     assert_shown(&rt, alloc, TakeFault::PastEnd, text);
     let text = "the message has more than 65535 octets";
     assert_shown(&rt, alloc, TakeFault::TooLarge, text);
