@@ -2,3 +2,4 @@ pub mod Outcomes
 pub mod Reading
 pub mod InPlace
 pub mod Encoding
+pub mod Messages

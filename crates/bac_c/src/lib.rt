@@ -30,10 +30,12 @@
 mod checking;
 mod codes;
 mod comparing;
+mod cutting;
 mod decoding;
 mod encoding;
 mod field_names;
 mod in_place;
+mod joining;
 mod knowing;
 mod normalising;
 mod outcomes;
@@ -45,13 +47,18 @@ mod writing;
 
 pub use checking::bactool_check;
 pub use codes::{
-    BACTOOL_DIFFERENT, BACTOOL_LEFT_REFUSED, BACTOOL_NO_MEMORY, BACTOOL_NO_ROOM, BACTOOL_OK,
-    BACTOOL_REFUSED, BACTOOL_RIGHT_REFUSED, BACTOOL_TOLERATED,
+    BACTOOL_BAD_SIZE, BACTOOL_BAD_WINDOW, BACTOOL_CONFLICT, BACTOOL_DIFFERENT, BACTOOL_INCOMPLETE,
+    BACTOOL_LEFT_REFUSED, BACTOOL_NO_MEMORY, BACTOOL_NO_ROOM, BACTOOL_NO_SEGMENT,
+    BACTOOL_NO_SERVICE, BACTOOL_OK, BACTOOL_REFUSED, BACTOOL_RIGHT_REFUSED,
+    BACTOOL_SERVICE_REFUSED, BACTOOL_TOLERATED, BACTOOL_TOO_LONG, BACTOOL_TOO_MANY,
+    BACTOOL_TRUNCATED,
 };
 pub use comparing::bactool_same_meaning;
+pub use cutting::bactool_cut;
 pub use decoding::bactool_decode;
 pub use encoding::bactool_encode;
 pub use field_names::bactool_name;
+pub use joining::bactool_join;
 pub use knowing::bactool_head;
 pub use normalising::bactool_normalise;
 pub use outcomes::Outcome;

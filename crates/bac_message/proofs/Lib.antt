@@ -4,3 +4,4 @@ pub mod FitLemmas
 pub mod MissingLemmas
 pub mod CuttingLemmas
 pub mod JoiningLemmas
+pub mod RecordLemmas

@@ -2,3 +2,4 @@ pub mod Messages
 pub mod CutFrames
 pub mod JoinedFrames
 pub mod FrameCuts
+pub mod FrameRecords

@@ -1,5 +1,6 @@
 //! Messages that are sent in segments (clauses 5.2 and 5.4), as frames. [`cut_frame`] cuts a frame in one piece into
-//! the frames of its segments, and [`join_frames`] joins such frames to the frame in one piece.
+//! the frames of its segments, and [`join_frames`] joins such frames to the frame in one piece. [`cut_records`] and
+//! [`join_records`] do the same for octets: records of frames, as a file has them.
 //!
 //! In the examples `rt` is the program's `HostRuntime`.
 //!
@@ -17,7 +18,8 @@
 //! - the heads and the body of a frame: `parts.rt`; `Messages.antt`
 //! - cutting: `cutting.rt`; `CutFrames.antt`
 //! - joining: `joining.rt`, `heads.rt`, `missing.rt`; `JoinedFrames.antt`
-//! - faults: `faults.rt`
+//! - the same over records: `record_cutting.rt`, `record_joining.rt`; `FrameRecords.antt`
+//! - faults: `faults.rt`, `record_faults.rt`
 //! - laws: `laws.rt`
 #![tactic(auto)]
 
@@ -28,7 +30,13 @@ mod joining;
 pub mod laws;
 mod missing;
 mod parts;
+mod record_cutting;
+mod record_faults;
+mod record_joining;
 
 pub use cutting::cut_frame;
 pub use faults::{FrameCutFault, FrameJoinFault};
 pub use joining::join_frames;
+pub use record_cutting::cut_records;
+pub use record_faults::{RecordCutFault, RecordJoinFault};
+pub use record_joining::join_records;

@@ -1,6 +1,8 @@
 //! The examples of the doc comments of bac_message, with the same lines.
 
-use bac_message::{FrameJoinFault, cut_frame, join_frames};
+use bac_message::{
+    FrameJoinFault, RecordJoinFault, cut_frame, cut_records, join_frames, join_records,
+};
 use bac_npdu::{decode_frame, encode_frame};
 use std::test::Fail;
 
@@ -39,5 +41,42 @@ fn frames_are_joined(rt: HostRuntime) -> Result<(), Fail> {
     assert_eq!(rt; join_frames(rt.alloc(), &frames)?, frame);
     let found = join_frames(rt.alloc(), &frames[..2]);
     assert_eq!(rt; found.err(), Some(FrameJoinFault::Incomplete(0)));
+    Ok(())
+}
+
+// Of `bac_message::cut_records`.
+#[test]
+fn a_frame_is_cut_into_records(rt: HostRuntime) -> Result<(), Fail> {
+    // An answer to ReadProperty (12): analog input 5, present value 100.0.
+    let octets = [
+        0x01, 0x00, 0x30, 0x01, 0x0C, 0x0C, 0x00, 0x00, 0x00, 0x05, 0x19, 0x55, 0x3E, 0x44, 0x42,
+        0xC8, 0x00, 0x00, 0x3F,
+    ];
+    let records = cut_records(rt.alloc(), &octets, 10, 4)?;
+    // The record of segment 0 has 19 octets, and that of segment 1 has 13.
+    assert_eq!(rt; records.len(), 32);
+    let wanted = [
+        0x00, 0x0B, 0x01, 0x00, 0x38, 0x01, 0x01, 0x04, 0x0C, 0xC8, 0x00, 0x00, 0x3F,
+    ];
+    assert_eq!(rt; &records[19..], wanted.as_slice());
+    Ok(())
+}
+
+// Of `bac_message::join_records`.
+#[test]
+fn records_are_joined(rt: HostRuntime) -> Result<(), Fail> {
+    // An answer to ReadProperty (12): analog input 5, present value 100.0.
+    let octets = [
+        0x01, 0x00, 0x30, 0x01, 0x0C, 0x0C, 0x00, 0x00, 0x00, 0x05, 0x19, 0x55, 0x3E, 0x44, 0x42,
+        0xC8, 0x00, 0x00, 0x3F,
+    ];
+    let records = cut_records(rt.alloc(), &octets, 10, 4)?;
+    let whole = join_records(rt.alloc(), &records)?;
+    assert_eq!(rt; whole.as_slice(), octets.as_slice());
+    // The record of segment 0 alone.
+    let first = records.get(..19).ok_or("no record")?;
+    let found = join_records(rt.alloc(), first);
+    let missing = RecordJoinFault::Frames(FrameJoinFault::Incomplete(1));
+    assert_eq!(rt; found.err(), Some(missing));
     Ok(())
 }

@@ -11,3 +11,5 @@ mod examples;
 mod expectations;
 #[cfg(test)]
 mod joining;
+#[cfg(test)]
+mod records;
