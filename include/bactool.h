@@ -30,8 +30,8 @@
  *     0 means no octets. No other pointer may be NULL. Macros of this header replace NULL by an address. A call through
  *     a function pointer, or from another language, does not use them, and must pass some address in place of NULL.
  *   - Frames, fields and texts may have any length: memory is the only limit. The 65,535 octets of a record limit the
- *     files of the program `bactool`, and no call. What is inside a frame has limits: at most 32 groups nest, and the
- *     contents of one element of a value have at most 1,048,576 octets.
+ *     files of the program `bactool`, and the segments of bactool_cut and bactool_join. What is inside a frame has
+ *     limits: at most 32 groups nest, and the contents of one element of a value have at most 1,048,576 octets.
  *   - What a call writes, `out`, `fields` and `outcome`, must not overlap anything else that is passed to it. What it
  *     reads may overlap, and is never written.
  *   - Each call except bactool_reason, bactool_name and bactool_version returns one of the codes below and fills in the
@@ -67,6 +67,8 @@ extern "C" {
 #define BACTOOL_HAS_ENCODE 1
 #define BACTOOL_HAS_READ 1
 #define BACTOOL_HAS_HEAD 1
+#define BACTOOL_HAS_CUT 1
+#define BACTOOL_HAS_JOIN 1
 
 /* A conversion that compilers for C and for C++ take without a warning. */
 #ifdef __cplusplus
@@ -84,7 +86,21 @@ enum bactool_code {
     BACTOOL_LEFT_REFUSED = 4,  /* the left one of two inputs encodes no frame: `why` and `place` */
     BACTOOL_RIGHT_REFUSED = 5, /* the right one encodes none, and the left one does: `why` and `place` */
     BACTOOL_NO_ROOM = 6,       /* a capacity is too small: `count` octets are needed, and `fields` fields */
-    BACTOOL_NO_MEMORY = 7      /* memory was refused: `why` is BACTOOL_OUT_OF_MEMORY */
+    BACTOOL_NO_MEMORY = 7,     /* memory was refused: `why` is BACTOOL_OUT_OF_MEMORY */
+    /* Only from bactool_cut. */
+    BACTOOL_NO_SERVICE = 8,  /* the frame has no service that is cut */
+    BACTOOL_BAD_SIZE = 9,    /* the size of the pieces is 0 */
+    BACTOOL_BAD_WINDOW = 10, /* the window is not 1 to 127 */
+    /* From bactool_cut and bactool_join. */
+    BACTOOL_TOO_LONG = 11, /* a message, or the frame of a segment, has more than 65,535 octets */
+    /* Only from bactool_cut. */
+    BACTOOL_TOO_MANY = 12, /* there would be more than 256 segments */
+    /* Only from bactool_join. */
+    BACTOOL_TRUNCATED = 13,      /* the octets end within a record: `place` */
+    BACTOOL_NO_SEGMENT = 14,     /* a record holds no segment: `place` */
+    BACTOOL_CONFLICT = 15,       /* a record is not of the message of those before it: `place` */
+    BACTOOL_INCOMPLETE = 16,     /* a segment is missing: `place` */
+    BACTOOL_SERVICE_REFUSED = 17 /* the joined octets are no service: `why` and `place` */
 };
 
 /* Why octets, fields or a text are refused. bactool_reason writes the name. */
@@ -115,9 +131,10 @@ enum bactool_why {
 /* What a call reports beside its code. A member that does not apply to the code is 0. */
 struct bactool_outcome {
     uint32_t why;  /* an enum bactool_why: the reason of a refusal */
-    size_t place;  /* where: an offset in the octets or in the text, or the index of a field, counted from 0. Each call
-                      says which */
-    size_t count;  /* the number of octets that are written, or that would be with enough capacity */
+    size_t place;  /* where: an offset in the octets or in the text, the index of a field or of a record, or the number
+                      of a segment, counted from 0. Each call says which */
+    size_t count;  /* the number of octets that are written, or that would be with enough capacity. Where bactool_join
+                      refuses a record, it is the index of the record */
     size_t fields; /* the number of fields that bactool_decode writes, or would write with enough capacity */
 };
 
@@ -518,6 +535,71 @@ uint32_t bactool_show(const uint8_t *octets, size_t length, char *out, size_t ro
 uint32_t bactool_read(const char *text, size_t length, uint8_t *out, size_t room, struct bactool_outcome *outcome);
 
 /*
+ * Cuts a message into segments (clause 5.2). The octets encode a frame with a Confirmed-Request or a ComplexACK in one
+ * piece. Written at the front of `out` are the frames of its segments in their order, each as a record: two octets of
+ * length, the high one first, and the canonical octets of the frame. Each segment has the heads of the whole frame, and
+ * `size` octets of its service; the last one has 1 to `size`, and the one of a service without octets has none. Each
+ * says that `window` segments are sent before a SegmentACK is awaited. To learn how many octets there are, call with
+ * room 0.
+ *
+ *   BACTOOL_OK          they are written: `count` is the number of their octets
+ *   BACTOOL_NO_ROOM     `room` is too small for them: nothing is written, and `count` is the number of their octets
+ *   BACTOOL_REFUSED     no frame: `why`, and `place` is the offset of the first octet that no frame has there, or
+ *                       `length` with BACTOOL_SHORT
+ *   BACTOOL_NO_SERVICE  the frame has a network message, a segment or another APDU
+ *   BACTOOL_BAD_SIZE    `size` is 0
+ *   BACTOOL_BAD_WINDOW  `window` is not 1 to 127
+ *   BACTOOL_TOO_LONG    the service, or the frame of a segment, has more than 65,535 octets
+ *   BACTOOL_TOO_MANY    there would be more than 256 segments
+ *   BACTOOL_NO_MEMORY   memory was refused
+ *
+ * Of several reasons not to cut, the first in this order is returned, but that the frame of a segment is too long comes
+ * after BACTOOL_TOO_MANY.
+ *
+ *     static uint8_t records[1 << 17];
+ *     if (bactool_cut(octets, length, 480, 4, records, sizeof records, &outcome) == BACTOOL_OK)
+ *         for (size_t at = 0; at < outcome.count; at += 2 + ((size_t)records[at] << 8 | records[at + 1]))
+ *             send(socket, records + at + 2, (size_t)records[at] << 8 | records[at + 1], 0);
+ */
+uint32_t bactool_cut(const uint8_t *octets, size_t length, size_t size, uint8_t window, uint8_t *out, size_t room,
+                     struct bactool_outcome *outcome);
+
+/*
+ * Joins the segments of one message (clause 5.2): the way back from bactool_cut. The octets are records of frames, each
+ * two octets of length, the high one first, and as many octets. The frames may be in any encoding and in any order, and
+ * any of them may be there several times. Written at the front of `out` are the canonical octets of the frame in one
+ * piece, which has the heads of the segments. There are fewer of them than octets passed, so a room of `length` is
+ * always enough. The windows of the segments do not matter. To wait for segments, keep the records, and call again when
+ * another one has come, as `examples/c/join.c` does. Records are counted from 0.
+ *
+ *   BACTOOL_OK               they are written: `count` is their number
+ *   BACTOOL_NO_ROOM          `room` is too small for them: nothing is written, and `count` is their number
+ *   BACTOOL_TRUNCATED        the octets end within the record with the index `place`
+ *   BACTOOL_REFUSED          the record with the index `count` is no frame: `why`, and `place` is the offset in its
+ *                            octets of the first one that no frame has there, or their number with BACTOOL_SHORT
+ *   BACTOOL_NO_SEGMENT       the record with the index `place` holds no segment
+ *   BACTOOL_CONFLICT         the record with the index `place` is not of the message of those before it: its heads are
+ *                            others, it has another piece for the same number, or it is after the last segment
+ *   BACTOOL_TOO_LONG         with the piece of the record with the index `place` the service has more than 65,535
+ *                            octets
+ *   BACTOOL_INCOMPLETE       segments are missing: `place` is the first number that is missing, 0 if there is no record
+ *   BACTOOL_SERVICE_REFUSED  the segments are all there, and their joined octets are no service of their kind and
+ *                            choice: `why`, and `place` is the offset in them of the first octet that no such service
+ *                            has there, or their number with BACTOOL_SHORT
+ *   BACTOOL_NO_MEMORY        memory was refused
+ *
+ * The first record that is truncated or refused comes before the others, and then the first one that does not belong.
+ *
+ *     uint32_t code = bactool_join(records, length, whole, sizeof whole, &outcome);
+ *     if (code == BACTOOL_OK)
+ *         handle(whole, outcome.count);
+ *     else if (code == BACTOOL_INCOMPLETE)
+ *         printf("segment %zu is missing\n", outcome.place);
+ */
+uint32_t bactool_join(const uint8_t *records, size_t length, uint8_t *out, size_t room,
+                      struct bactool_outcome *outcome);
+
+/*
  * Compares the frames that two inputs encode, each in any encoding. The inputs may be the same memory.
  *
  *   BACTOOL_OK             both inputs encode the same frame
@@ -637,6 +719,18 @@ static inline uint32_t bactool_read_any(const char *text, size_t length, uint8_t
     return bactool_read(text != NULL ? text : bactool_text(NULL), length, bactool_room(out), room, outcome);
 }
 
+static inline uint32_t bactool_cut_any(const uint8_t *octets, size_t length, size_t size, uint8_t window, uint8_t *out,
+                                       size_t room, struct bactool_outcome *outcome)
+{
+    return bactool_cut(bactool_octets(octets), length, size, window, bactool_room(out), room, outcome);
+}
+
+static inline uint32_t bactool_join_any(const uint8_t *records, size_t length, uint8_t *out, size_t room,
+                                        struct bactool_outcome *outcome)
+{
+    return bactool_join(bactool_octets(records), length, bactool_room(out), room, outcome);
+}
+
 static inline uint32_t bactool_same_meaning_any(const uint8_t *left, size_t left_length, const uint8_t *right,
                                                 size_t right_length, struct bactool_outcome *outcome)
 {
@@ -660,6 +754,8 @@ static inline size_t bactool_name_any(uint32_t name, char *out, size_t room)
 #define bactool_encode(...) bactool_encode_any(__VA_ARGS__)
 #define bactool_show(...) bactool_show_any(__VA_ARGS__)
 #define bactool_read(...) bactool_read_any(__VA_ARGS__)
+#define bactool_cut(...) bactool_cut_any(__VA_ARGS__)
+#define bactool_join(...) bactool_join_any(__VA_ARGS__)
 #define bactool_same_meaning(...) bactool_same_meaning_any(__VA_ARGS__)
 #define bactool_reason(...) bactool_reason_any(__VA_ARGS__)
 #define bactool_name(...) bactool_name_any(__VA_ARGS__)

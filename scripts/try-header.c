@@ -91,6 +91,7 @@ static void try_numbers(void)
     EXPECT(BACTOOL_OBJECT_TYPE(UINT64_C(0x02000004)) == 8 && BACTOOL_OBJECT_INSTANCE(UINT64_C(0x02000004)) == 4);
     EXPECT(BACTOOL_MOST_FIELDS(0) == 2 && BACTOOL_MOST_FIELDS(1497) == 2996);
     EXPECT(bactool_version() == BACTOOL_VERSION && BACTOOL_HAS_ENCODE == 1 && BACTOOL_HAS_READ == 1);
+    EXPECT(BACTOOL_HAS_HEAD == 1 && BACTOOL_HAS_CUT == 1 && BACTOOL_HAS_JOIN == 1);
 }
 
 /* In C++ the names are a type, beside the call bactool_name. */
@@ -111,6 +112,25 @@ static void try_calls(void)
     EXPECT(check(frame.octets, 0, false, &outcome) == BACTOOL_REFUSED && outcome.why == BACTOOL_SHORT);
     EXPECT(bactool_check(NULL, 0, false, &outcome) == BACTOOL_REFUSED && outcome.why == BACTOOL_SHORT);
     EXPECT(word_of(BACTOOL_FIELD_OBJECT, word, sizeof word) == 6 && memcmp(word, "object", 6) == 0);
+}
+
+/* Example 24: a frame is cut into the records of its segments, and they are joined to it. */
+static void try_segments(void)
+{
+    static uint8_t whole[64], wanted[64], records[64], joined[64];
+    struct bactool_outcome outcome;
+    size_t length = octets_of("010030010C 0C00000005 1955 3E 444290999A 3F", whole);
+    size_t count = octets_of("000D 01003C0100040C 0C0000000519 000D 01003C0101040C 553E44429099 0009 0100380102040C 9A3F",
+                             wanted);
+    EXPECT(bactool_cut(whole, length, 6, 4, NULL, 0, &outcome) == BACTOOL_NO_ROOM && outcome.count == count);
+    EXPECT(bactool_cut(whole, length, 6, 4, records, sizeof records, &outcome) == BACTOOL_OK && outcome.count == count);
+    EXPECT(memcmp(records, wanted, count) == 0);
+    EXPECT(bactool_join(records, count, NULL, 0, &outcome) == BACTOOL_NO_ROOM && outcome.count == length);
+    EXPECT(bactool_join(records, count, joined, count, &outcome) == BACTOOL_OK && outcome.count == length);
+    EXPECT(memcmp(joined, whole, length) == 0);
+    EXPECT(bactool_join(records, 15, NULL, 0, &outcome) == BACTOOL_INCOMPLETE && outcome.place == 1);
+    EXPECT(bactool_join(NULL, 0, NULL, 0, &outcome) == BACTOOL_INCOMPLETE && outcome.place == 0);
+    EXPECT(bactool_cut(NULL, 0, 6, 4, NULL, 0, &outcome) == BACTOOL_REFUSED && outcome.why == BACTOOL_SHORT);
 }
 
 /* The lists of the header's comment are those of examples 1, 4 and 18. */
@@ -627,6 +647,7 @@ int main(int count, char **words)
     EXPECT(count == 3 && try_frames(words[1]) == strtoul(words[2], NULL, 10));
     try_numbers();
     try_calls();
+    try_segments();
     try_lists();
     try_long();
     try_long_element();
