@@ -26,12 +26,22 @@ OSError if there is no library, MemoryError if memory is refused, and TypeError 
 from __future__ import annotations
 
 from functools import lru_cache
-from typing import Any, Dict, Optional, Union
+from typing import Any, Dict, Iterable, List, Optional, Union
 
 from ._api import Bactool, Octets
 from ._heads import Address, Head
 from ._records import records
-from ._refusals import CutRecord, Refused, RefusedField
+from ._refusals import (
+    CutRecord,
+    MissingSegment,
+    NotCut,
+    NotJoined,
+    Refused,
+    RefusedField,
+    RefusedFrame,
+    RefusedService,
+    WrongFrame,
+)
 from .names import named
 
 __all__ = [
@@ -39,13 +49,21 @@ __all__ = [
     "Bactool",
     "CutRecord",
     "Head",
+    "MissingSegment",
+    "NotCut",
+    "NotJoined",
     "Octets",
     "Refused",
     "RefusedField",
+    "RefusedFrame",
+    "RefusedService",
+    "WrongFrame",
     "check",
+    "cut",
     "decode",
     "encode",
     "head",
+    "join",
     "named",
     "normalise",
     "read",
@@ -59,6 +77,8 @@ __version__ = "0.3.0"
 
 # Users meet these as parts of the package, in tracebacks too.
 for _part in (Address, Bactool, CutRecord, Head, Refused, RefusedField):
+    _part.__module__ = __name__
+for _part in (MissingSegment, NotCut, NotJoined, RefusedFrame, RefusedService, WrongFrame):
     _part.__module__ = __name__
 
 _found = lru_cache(maxsize=None)(Bactool)
@@ -161,6 +181,39 @@ def encode(frame: Dict[str, Any]) -> bytes:
 
     Raises RefusedField if the dict is that of no frame: why, and the path of the first part that is at fault."""
     return _found().encode(frame)
+
+
+def cut(octets: Octets, size: int, window: int) -> List[bytes]:
+    """Returns the frames of the segments of a frame, in their order (clause 5.2). The frame has a Confirmed-Request or a
+    ComplexACK in one piece. Each segment has the heads of the frame, and `size` octets of its service; the last one has 1
+    to `size`. Each says that `window` segments are sent before a SegmentACK is awaited.
+
+    Raises Refused if the octets encode no frame, and NotCut if the frame is not cut so.
+
+    >>> answer = bytes.fromhex("0100 30010C 0C00000005 1955 3E 444290999A 3F")
+    >>> for frame in cut(answer, size=10, window=4):
+    ...     print(frame.hex())
+    01003c0100040c0c0000000519553e4442
+    0100380101040c90999a3f
+    """
+    return _found().cut(octets, size, window)
+
+
+def join(frames: Iterable[Octets]) -> bytes:
+    """Returns the canonical octets of the frame in one piece that the frames of its segments give: the way back from `cut`.
+    They may come in any order, and any of them several times.
+
+    Raises NotJoined if they give none: MissingSegment if they belong together and segments are missing, WrongFrame or
+    RefusedFrame for a frame that does not belong, and RefusedService if the joined octets are no service.
+
+    >>> last, first = bytes.fromhex("0100 380101040C 90999A3F"), bytes.fromhex("0100 3C0100040C 0C0000000519553E4442")
+    >>> join([last, first]).hex()
+    '010030010c0c0000000519553e444290999a3f'
+    >>> join([last])
+    Traceback (most recent call last):
+    bactool.MissingSegment: segment 0 is missing
+    """
+    return _found().join(frames)
 
 
 def reasons() -> Dict[int, str]:

@@ -3,18 +3,45 @@
 
 from __future__ import annotations
 
-from typing import Any, Callable, Dict, List, Optional, TypeVar, Union
+import operator
+from typing import Any, Callable, Dict, Iterable, List, Optional, TypeVar, Union
 
 from . import _decode, _encode, _heads, _library
 from ._library import Desk, Library, Outcome, StrPath
-from ._refusals import Fault, Refused, RefusedField
+from ._records import LONGEST, apart, record
+from ._refusals import (
+    Fault,
+    MissingSegment,
+    NotCut,
+    Refused,
+    RefusedField,
+    RefusedFrame,
+    RefusedService,
+    WrongFrame,
+)
 
 # Whatever has octets in memory.
 Octets = Union[bytes, bytearray, memoryview]
 
 Kept = TypeVar("Kept")
 
+# What a code says that is not a success, and the outcome with it.
+RefusalOf = Callable[[int, Outcome], Exception]
+
 SIDES = {_library.LEFT_REFUSED: "left", _library.RIGHT_REFUSED: "right"}
+
+UNCUT = {
+    _library.NO_SERVICE: "NoService",
+    _library.BAD_SIZE: "Size",
+    _library.BAD_WINDOW: "Window",
+    _library.TOO_LONG: "TooLong",
+    _library.TOO_MANY: "TooMany",
+}
+
+WRONG = {_library.NO_SEGMENT: "NoSegment", _library.CONFLICT: "Conflict", _library.TOO_LONG: "TooLong"}
+
+# The greatest numbers that C has for a size and for a window.
+MOST_SIZE, MOST_WINDOW = 2**64 - 1, 2**8 - 1
 
 
 class Bactool:
@@ -113,26 +140,44 @@ class Bactool:
         self._desks.append(kept)
         return written
 
+    def cut(self, octets: Octets, size: int, window: int) -> List[bytes]:
+        """Returns the frames of the segments of a frame."""
+        size, window = nearest(size, MOST_SIZE), nearest(window, MOST_WINDOW)
+
+        def call(octets: bytes, length: int, *room: Any) -> int:
+            return self._library.cut(octets, length, size, window, *room)
+
+        return list(apart([self._written(call, octets_of(octets), self._not_cut)]))
+
+    def join(self, frames: Iterable[Octets]) -> bytes:
+        """Returns the frame in one piece that the frames of segments give."""
+        records: List[bytes] = []
+        for index, octets in enumerate(map(octets_of, frames)):
+            if len(octets) > LONGEST:
+                raise WrongFrame(index, WRONG[_library.TOO_LONG])
+            records.append(record(octets))
+        return self._written(self._library.join, b"".join(records), self._not_joined)
+
     def reasons(self) -> Dict[int, str]:
         """Returns the names of all reasons by their numbers."""
         return dict(self._library.reasons)
 
-    def _written(self, call: Callable[..., int], octets: bytes) -> bytes:
-        """Returns what a call writes."""
+    def _written(self, call: Callable[..., int], octets: bytes, refusal: Optional[RefusalOf] = None) -> bytes:
+        """Returns what a call writes, or raises what the refusal makes of its code."""
         desk = kept = taken(self._desks, Desk)
         while True:
             code = call(octets, len(octets), desk.out, desk.room, desk.outcome)
             if code == _library.OK:
                 break
-            desk = self._larger(code, desk.outcome)
+            desk = self._larger(code, desk.outcome, refusal)
         written = bytes(desk.octets[: desk.outcome.count])
         self._desks.append(kept)
         return written
 
-    def _larger(self, code: int, outcome: Outcome) -> Desk:
+    def _larger(self, code: int, outcome: Outcome, refusal: Optional[RefusalOf] = None) -> Desk:
         """Returns a desk with the room that was wanted, or raises what the code says."""
         if code != _library.NO_ROOM:
-            raise self._refusal(code, outcome)
+            raise (refusal or self._refusal)(code, outcome)
         return Desk(outcome.count, outcome.fields)
 
     def _refusal(self, code: int, outcome: Outcome) -> Exception:
@@ -140,6 +185,23 @@ class Bactool:
         if code == _library.NO_MEMORY:
             return MemoryError()
         return Refused(self._library.reasons[outcome.why], outcome.place, SIDES.get(code))
+
+    def _not_cut(self, code: int, outcome: Outcome) -> Exception:
+        """Returns why a frame is not cut."""
+        return NotCut(UNCUT[code]) if code in UNCUT else self._refusal(code, outcome)
+
+    def _not_joined(self, code: int, outcome: Outcome) -> Exception:
+        """Returns why frames are not joined."""
+        if code == _library.INCOMPLETE:
+            return MissingSegment(outcome.place)
+        if code in WRONG:
+            return WrongFrame(outcome.place, WRONG[code])
+        if code == _library.NO_MEMORY:
+            return MemoryError()
+        why = self._library.reasons[outcome.why]
+        if code == _library.SERVICE_REFUSED:
+            return RefusedService(why, outcome.place)
+        return RefusedFrame(outcome.count, why, outcome.place)
 
     def _refused_field(
         self, code: int, outcome: Outcome, frame: Any, said: _encode.Said, fault: Optional[Fault]
@@ -156,6 +218,11 @@ class Bactool:
 def octets_of(octets: Octets) -> bytes:
     """Returns what has octets in memory as bytes. Raises TypeError if it has none, as a number or a text."""
     return octets if isinstance(octets, bytes) else bytes(memoryview(octets))
+
+
+def nearest(number: int, most: int) -> int:
+    """Returns a whole number, or what is next to it from 0 to `most`. Raises TypeError if it is none."""
+    return max(0, min(operator.index(number), most))
 
 
 def taken(kept: List[Kept], new: Callable[[], Kept]) -> Kept:

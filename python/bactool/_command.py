@@ -14,7 +14,7 @@ from contextlib import closing
 from typing import Any, BinaryIO, Callable, Dict, Generator, Iterable, Iterator, List, NoReturn, Optional, Tuple
 
 from ._api import Bactool
-from ._records import cut, pieces, record
+from ._records import apart, pieces, record
 from ._refusals import CutRecord, Refused, RefusedField
 from .names import named
 
@@ -94,7 +94,7 @@ def parser() -> argparse.ArgumentParser:
 def run(asked: argparse.Namespace, source: BinaryIO, target: BinaryIO) -> int:
     """Does a job for all records or lines of a source. Returns the status."""
     tool, of_lines = Bactool(), asked.job in ("encode", "read")
-    items: Iterator[bytes] = iter(source) if of_lines else cut(live(pieces(source), target))
+    items: Iterator[bytes] = iter(source) if of_lines else apart(live(pieces(source), target))
     try:
         with closing(watched(items, 0 if of_lines else 2, size_to_watch(source))) as left:
             status = do(asked, tool, left, target)

@@ -11,6 +11,8 @@ from typing import Any, Callable, Dict, Iterator, List, Optional, Tuple, Union, 
 from . import _fields, _heads
 
 OK, TOLERATED, DIFFERENT, REFUSED, LEFT_REFUSED, RIGHT_REFUSED, NO_ROOM, NO_MEMORY = range(8)
+NO_SERVICE, BAD_SIZE, BAD_WINDOW, TOO_LONG, TOO_MANY = range(8, 13)
+TRUNCATED, NO_SEGMENT, CONFLICT, INCOMPLETE, SERVICE_REFUSED = range(13, 18)
 
 # The name of the shared library, and the variable that says where another one is.
 FILE = "libbactool.so.1"
@@ -75,6 +77,8 @@ class Library:
         self.same_meaning = call_of(library, "same_meaning", [*octets, *octets, *outcome])
         self.decode = call_of(library, "decode", [*octets, *room, *room, *outcome])
         self.encode = call_of(library, "encode", [*room, *octets, *room, *outcome])
+        self.cut = call_of(library, "cut", [*octets, ctypes.c_size_t, ctypes.c_uint8, *room, *outcome])
+        self.join = call_of(library, "join", [*octets, *room, *outcome])
         self._reason = call_of(library, "reason", [ctypes.c_uint32, *room], ctypes.c_size_t)
         self._name = call_of(library, "name", [ctypes.c_uint32, *room], ctypes.c_size_t)
         self.reasons: Dict[int, str] = dict(texts_of(self._reason))

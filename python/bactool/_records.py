@@ -19,10 +19,10 @@ def records(file: BinaryIO) -> Iterator[bytes]:
 
     It reads ahead, but yields what it has before it waits for more. Raises CutRecord where the file ends within a
     record, and whatever a read raises."""
-    return cut(pieces(file))
+    return apart(pieces(file))
 
 
-def cut(pieces_of_file: Iterable[bytes]) -> Iterator[bytes]:
+def apart(pieces_of_file: Iterable[bytes]) -> Iterator[bytes]:
     """Yields the octets of each record of a frame file that comes in pieces."""
     number, rest = 1, b""
     for piece in pieces_of_file:

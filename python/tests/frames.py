@@ -1,7 +1,7 @@
 # SPDX-License-Identifier: Apache-2.0 OR MIT
 """Frames of docs/EXAMPLES.md, with what they are as dicts by docs/FORMATS.md."""
 
-from typing import Any, Dict
+from typing import Any, Dict, List
 
 # Examples 1, 2, 4, 5 and 17.
 F1 = bytes.fromhex("0104 0005010C 0C00000005 1955")
@@ -29,3 +29,16 @@ def answered(*elements: Any) -> Dict[str, Any]:
         "prio": 0, "reply": 0, "ack": True, "id": 1,
         "ReadProperty": True, "object": "0:5", "property": 85, "value": list(elements),
     }
+
+
+def segment(number: int, piece: bytes, more: bool, choice: int = 12, invoke: int = 1, npdu: str = "0100") -> bytes:
+    """Returns the frame of a segment of an answer, with window 4."""
+    head = [0x3C if more else 0x38, invoke, number, 4, choice]
+    return bytes.fromhex(npdu) + bytes(head) + piece
+
+
+def segments(service: bytes, size: int, choice: int = 12, invoke: int = 1, npdu: str = "0100") -> List[bytes]:
+    """Returns the frames of the segments of an answer."""
+    pieces = [service[at : at + size] for at in range(0, len(service), size)]
+    last = len(pieces) - 1
+    return [segment(number, piece, number < last, choice, invoke, npdu) for number, piece in enumerate(pieces)]
