@@ -14,6 +14,7 @@ from contextlib import closing
 from typing import Any, BinaryIO, Callable, Dict, Generator, Iterable, Iterator, List, NoReturn, Optional, Tuple
 
 from ._api import Bactool
+from ._joining import NOWHERE, Ends, Joining
 from ._records import apart, pieces, record
 from ._refusals import CutRecord, Refused, RefusedField
 from .names import named
@@ -39,6 +40,7 @@ JOBS = {
     "show": "a line for each record: what it means, or why it is refused",
     "read": "a record for each line, as show writes it, up to the first line at fault",
     "normalise": "each record in its canonical encoding, up to the first refused one",
+    "join": "each record, with the segments of a message joined to one record",
 }
 
 # A string of JSON.
@@ -88,6 +90,10 @@ def parser() -> argparse.ArgumentParser:
         words = jobs.add_parser(job, help=text, description=f"Writes {text}.")
         if job == "json":
             words.add_argument("--names", action="store_true", help="with names beside numbers, and decimal numbers")
+        if job == "join":
+            words.add_argument(
+                "--where", metavar="FILE", help="tell packets apart by their addresses, in a file of npdus-from-capture"
+            )
     return top
 
 
@@ -114,6 +120,8 @@ def do(asked: argparse.Namespace, tool: Bactool, items: Iterable[bytes], target:
         return make(lambda line: tool.read(without_number(line)), items, target)
     if asked.job == "normalise":
         return normalise(tool, items, target)
+    if asked.job == "join":
+        return join(tool, placed(items, asked.where), target)
     if asked.job == "check":
         return tell(lambda number, octets: f"{number} {judged(tool.check(octets))}", refused_text, items, target)
     if asked.job == "show":
@@ -168,6 +176,39 @@ def normalise(tool: Bactool, items: Iterable[bytes], target: BinaryIO) -> int:
         except Refused as refusal:
             raise Stopped(f"record {number}: refused {refusal}", REFUSED) from None
     return WELL
+
+
+def join(tool: Bactool, items: Iterable[Tuple[bytes, Ends]], target: BinaryIO) -> int:
+    """Writes each record, and in the place of the last segment of a message its frame in one piece. At the end, also if
+    that is a fault, come the segments of messages that are not whole, and a line says how many are not joined."""
+    joining, fault = Joining(tool), None
+    try:
+        for octets, ends in items:
+            target.writelines(map(record, joining.take(octets, ends)))
+    except (Stopped, CutRecord) as found:
+        fault = found
+    target.writelines(map(record, joining.rest()))
+    if joining.unjoined:
+        complain(joining.report())
+    if fault is not None:
+        raise fault
+    return REFUSED if joining.is_refused else WELL
+
+
+def placed(items: Iterable[bytes], where: Optional[str]) -> Iterator[Tuple[bytes, Ends]]:
+    """Yields each record with the source and the destination of its packet, which are the third and the fourth word of
+    its line in a file, if there is one."""
+    if where is None:
+        yield from ((octets, NOWHERE) for octets in items)
+        return
+    with open(where, "rb") as file:
+        for number, octets in enumerate(items, 1):
+            words = file.readline().split()
+            if len(words) not in (4, 5):
+                raise Stopped(f"{where}: line {number} does not say where record {number} is from", FAILED)
+            yield octets, (words[2], words[3])
+        if file.readline():
+            raise Stopped(f"{where}: more lines than there are records", FAILED)
 
 
 def make(octets_of: Callable[[bytes], bytes], lines: Iterable[bytes], target: BinaryIO) -> int:

@@ -104,11 +104,11 @@ class Command(unittest.TestCase):
         self.assert_runs("read", b"\n", 1, "", "line 1: refused Short at 0")
 
     def test_the_words(self) -> None:
-        for words in ("", "pack", "check file", "check --names"):
+        for words in ("", "pack", "check file", "check --names", "join --where"):
             status, written, complaint = run(words, b"")
             self.assertEqual((status, written), (2, b""))
             self.assertTrue(complaint.startswith("usage: "))
-        for words in ("--help", "json --help"):
+        for words in ("--help", "json --help", "join --help"):
             status, written, complaint = run(words, b"")
             self.assertEqual((status, complaint), (0, ""))
             self.assertIn(b"usage: python3 -m bactool", written)
@@ -121,7 +121,7 @@ class Command(unittest.TestCase):
             self.assertEqual(ran.stderr.decode(), f"{NAME}: standard input or output is closed\n")
 
     def test_an_output_that_takes_nothing(self) -> None:
-        for job in ("check", "json", "normalise"):
+        for job in ("check", "json", "normalise", "join"):
             with open("/dev/full", "wb") as full:
                 ran = subprocess.run([*WORDS, job], input=record(F1), stdout=full, stderr=subprocess.PIPE, check=False)
             self.assertEqual(ran.returncode, 2)
