@@ -70,6 +70,16 @@ pub(crate) const TOLERATED: u32 = 1;
 pub(crate) const DIFFERENT: u32 = 2;
 pub(crate) const RIGHT_REFUSED: u32 = 5;
 pub(crate) const NO_ROOM: u32 = 6;
+pub(crate) const NO_MEMORY: u32 = 7;
+pub(crate) const NO_SERVICE: u32 = 8;
+pub(crate) const BAD_SIZE: u32 = 9;
+pub(crate) const BAD_WINDOW: u32 = 10;
+pub(crate) const TOO_LONG: u32 = 11;
+pub(crate) const TOO_MANY: u32 = 12;
+pub(crate) const NO_SEGMENT: u32 = 14;
+pub(crate) const CONFLICT: u32 = 15;
+pub(crate) const INCOMPLETE: u32 = 16;
+pub(crate) const SERVICE_REFUSED: u32 = 17;
 
 /// What a call returns: its code, and the outcome that it filled in.
 pub(crate) type Answer = (u32, Outcome);
@@ -85,6 +95,8 @@ extern "C" {
     fn bactool_show(octets: *const u8, length: usize, out: *mut u8, room: usize, outcome: *mut Outcome) -> u32;
     fn bactool_read(text: *const u8, length: usize, out: *mut u8, room: usize, outcome: *mut Outcome) -> u32;
     fn bactool_same_meaning(left: *const u8, left_length: usize, right: *const u8, right_length: usize, outcome: *mut Outcome) -> u32;
+    fn bactool_cut(octets: *const u8, length: usize, size: usize, window: u8, out: *mut u8, room: usize, outcome: *mut Outcome) -> u32;
+    fn bactool_join(records: *const u8, length: usize, out: *mut u8, room: usize, outcome: *mut Outcome) -> u32;
     fn bactool_reason(why: u32, out: *mut u8, room: usize) -> usize;
     fn bactool_name(name: u32, out: *mut u8, room: usize) -> usize;
     fn bactool_version() -> u32;
@@ -149,6 +161,22 @@ pub(crate) fn same_meaning(left: &[u8], right: &[u8]) -> Answer {
     let mut outcome = Outcome::default();
     // SAFETY: as in `check`, of two slices, which may overlap.
     let code = unsafe { bactool_same_meaning(left.as_ptr(), left.len(), right.as_ptr(), right.len(), &mut outcome) };
+    (code, outcome)
+}
+
+pub(crate) fn cut(octets: &[u8], size: usize, window: u8, out: &mut [u8]) -> Answer {
+    let mut outcome = Outcome::default();
+    let (length, room) = (octets.len(), out.len());
+    let (octets, out) = (octets.as_ptr(), out.as_mut_ptr());
+    // SAFETY: as in `normalise`. The call takes any size and any window.
+    let code = unsafe { bactool_cut(octets, length, size, window, out, room, &mut outcome) };
+    (code, outcome)
+}
+
+pub(crate) fn join(records: &[u8], out: &mut [u8]) -> Answer {
+    let mut outcome = Outcome::default();
+    // SAFETY: as in `normalise`, of the octets of records, which may be any.
+    let code = unsafe { bactool_join(records.as_ptr(), records.len(), out.as_mut_ptr(), out.len(), &mut outcome) };
     (code, outcome)
 }
 

@@ -1,6 +1,6 @@
 // SPDX-License-Identifier: Apache-2.0 OR MIT
 //! The calls on whole frames.
-use crate::ffi::{self, Answer};
+use crate::ffi::{self, Answer, Outcome};
 use crate::{Refusal, Side, SideRefusal};
 use std::fmt;
 
@@ -180,6 +180,15 @@ pub fn version() -> u32 {
 
 /// Returns the octets that a call writes. It is given so much room at first, and then what it needs.
 pub(crate) fn written(room: usize, call: impl Fn(&mut [u8]) -> Answer) -> Result<Vec<u8>, Refusal> {
+    written_or(room, call, |_, outcome| outcome.into())
+}
+
+/// Returns the octets that a call writes, or what its code and its outcome say.
+pub(crate) fn written_or<Fault>(
+    room: usize,
+    call: impl Fn(&mut [u8]) -> Answer,
+    fault: impl Fn(u32, Outcome) -> Fault,
+) -> Result<Vec<u8>, Fault> {
     let mut out = vec![0; room];
     let (mut code, mut outcome) = call(&mut out);
     if code == ffi::NO_ROOM {
@@ -187,7 +196,7 @@ pub(crate) fn written(room: usize, call: impl Fn(&mut [u8]) -> Answer) -> Result
         (code, outcome) = call(&mut out);
     }
     if code != ffi::OK {
-        return Err(outcome.into());
+        return Err(fault(code, outcome));
     }
     out.truncate(outcome.count);
     Ok(out)

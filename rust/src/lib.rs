@@ -1,6 +1,6 @@
 // SPDX-License-Identifier: Apache-2.0 OR MIT
-//! The messages of BACnet (ANSI/ASHRAE 135): checked, normalised, shown, read, compared, decoded and encoded by the
-//! library libbactool, whose eleven calls this crate wraps.
+//! The messages of BACnet (ANSI/ASHRAE 135): checked, normalised, shown, read, compared, decoded, encoded, cut into
+//! segments and joined by the library libbactool, whose thirteen calls this crate wraps.
 //!
 //! A *frame* is one NPDU (clause 6 of the standard), with an APDU or a network message in it. It begins with the version
 //! octet, so the BVLL header of a UDP payload must be removed first. Some frames can be encoded in several ways. One
@@ -28,7 +28,8 @@
 //!
 //! It returns on every input, and panics on none. It has no state, so any threads may call any functions at the same
 //! time. It needs less than 16 KB of stack beside what Rust itself takes. If memory is refused to the library, the
-//! refusal is [`Why::OutOfMemory`]; if it is refused to Rust, Rust ends the process.
+//! refusal is [`Why::OutOfMemory`], and that of [`join`] [`JoinFault::OutOfMemory`]; if it is refused to Rust, Rust ends
+//! the process.
 //!
 //! A number of a newer library that this crate has no name for is [`Name::Unknown`] or [`Why::Unknown`].
 //!
@@ -61,6 +62,7 @@ mod head;
 mod name;
 mod records;
 mod refusal;
+mod segments;
 
 pub use builder::Builder;
 pub use element::{Element, ObjectIdentifier};
@@ -70,3 +72,4 @@ pub use head::{head, Address, Head, Known, Pdu};
 pub use name::Name;
 pub use records::{records, write_record, Records};
 pub use refusal::{Refusal, Side, SideRefusal, Why};
+pub use segments::{cut, join, CutFault, JoinFault};
