@@ -1,10 +1,11 @@
 /* SPDX-License-Identifier: Apache-2.0 OR MIT */
 /*
  * Hostile use of libbactool, for scripts/try-library: `try-library COUNT [few] < FRAMES` tries each record of a file of
- * frames and then COUNT random inputs, in four threads, and for each that is accepted 8 times its fields with random
- * changes. With `few` it is once, and only each eighth octet of a line is changed. All octets that are passed end where
- * a page begins that must not be touched, so a fault of memory ends the program. It prints a line for each thing that is
- * wrong, and one at the end.
+ * frames, messages in segments, and then COUNT random inputs, in four threads: for each that is accepted 8 times its
+ * fields with random changes, and for each sixteenth input a random message in segments. With `few` it is once, only
+ * each eighth octet of a line is changed, and the messages are short. All octets that are passed end where a page begins
+ * that must not be touched, so a fault of memory ends the program. It prints a line for each thing that is wrong, and
+ * one at the end.
  *
  * It is linked with --wrap for malloc and realloc, so that memory can be refused.
  */
@@ -12,6 +13,7 @@
 #include "drawn.h"
 #include "line-of-fields.h"
 #include "refused-memory.h"
+#include "segments.h"
 #include <bactool.h>
 #include <pthread.h>
 #include <stdio.h>
@@ -21,6 +23,9 @@
 #include <unistd.h>
 
 enum { LONGEST = 65535, TEXT = 1 << 20, KEPT = 0xA5, THREADS = 4, BEHIND = 16 };
+
+/* The records of a message, each of them twice, and some more. */
+enum { RECORDS = 1 << 18, MOST_SEGMENTS = 256 };
 
 /* A frame has at most two fields for each of its canonical octets, and two more. There is room for two others before
    them. Where memory is refused, there is room for some. */
@@ -83,19 +88,21 @@ static bool is_kept(struct yard yard, size_t room)
 
 /* Octets that are passed, octets and fields that are written, and what was written at first. */
 struct bench {
-    struct yard left, right, out, fields;
+    struct yard left, right, out, fields, records;
     struct bactool_field *known;
     char *line;
-    uint8_t *shown;
+    uint8_t *shown, *made, *mixed;
 };
 
 static struct bench new_bench(void)
 {
-    struct bench bench = {new_yard(LONGEST), new_yard(LONGEST), new_yard(TEXT),
-                          new_yard(FIELDS * sizeof(struct bactool_field)), NULL, NULL, NULL};
+    struct bench bench = {new_yard(RECORDS), new_yard(LONGEST), new_yard(TEXT),
+                          new_yard(FIELDS * sizeof(struct bactool_field)), new_yard(RECORDS), NULL, NULL, NULL, NULL, NULL};
     bench.known = (struct bactool_field *)new_yard(FIELDS * sizeof(struct bactool_field)).end - FIELDS;
     bench.line = (char *)new_yard(TEXT).end - TEXT;
     bench.shown = new_yard(LONGEST).end - LONGEST;
+    bench.made = new_yard(RECORDS).end - RECORDS;
+    bench.mixed = new_yard(RECORDS).end - RECORDS;
     return bench;
 }
 
@@ -395,6 +402,34 @@ static void try_accepted_head(const uint8_t *octets, size_t length, const uint8_
     EXPECT(memcmp(&head, &same, sizeof head) == 0);
 }
 
+/* Octets that are accepted are cut if they have a Confirmed-Request or a ComplexACK in one piece, and its service is not
+   too long. The records give the canonical octets again. */
+static void try_cut_and_joined(struct bench bench, const uint8_t *octets, size_t length, const uint8_t *canonical,
+                               size_t count)
+{
+    struct bactool_outcome told = UNTOLD;
+    struct bactool_frame_head head = unknown_head();
+    size_t size = 1 + length % 41;
+    EXPECT(bactool_head(canonical, count, &head, &told) == BACTOOL_OK);
+    bool has_service = (head.pdu == BACTOOL_PDU_CONFIRMED || head.pdu == BACTOOL_PDU_COMPLEX_ACK) && head.segmented == 0;
+    size_t service = count - head.contents;
+    uint32_t wanted = !has_service                        ? BACTOOL_NO_SERVICE
+                      : service > LONGEST                 ? BACTOOL_TOO_LONG
+                      : service > size * MOST_SEGMENTS    ? BACTOOL_TOO_MANY
+                                                          : BACTOOL_OK;
+    uint8_t *out = cleared(bench.out, TEXT / 2);
+    uint32_t code = bactool_cut(octets, length, size, 127, out, TEXT / 2, &told);
+    EXPECT(code == wanted && says(told, 0, 0, code == BACTOOL_OK ? told.count : 0));
+    if (code != BACTOOL_OK) {
+        EXPECT(is_kept(bench.out, TEXT / 2));
+        return;
+    }
+    size_t room = told.count;
+    const uint8_t *records = placed(bench.records, out, room);
+    EXPECT(bactool_join(records, room, out, room, &told) == BACTOOL_OK && says(told, 0, 0, count));
+    EXPECT(memcmp(out, canonical, count) == 0);
+}
+
 /* Octets that are refused: every call says so alike, and writes nothing. */
 static void try_refused(struct bench bench, const uint8_t *octets, size_t length, struct bactool_outcome found)
 {
@@ -410,6 +445,7 @@ static void try_refused(struct bench bench, const uint8_t *octets, size_t length
     EXPECT(says(told, found.why, found.place, 0));
     EXPECT(bactool_decode(octets, length, NULL, 0, NULL, 0, &told) == BACTOOL_REFUSED);
     EXPECT(says(told, found.why, found.place, 0));
+    EXPECT(bactool_cut(octets, length, 1, 1, out, length, &told) == BACTOOL_REFUSED && says(told, found.why, found.place, 0));
     EXPECT(is_kept(bench.out, length) && is_kept(bench.fields, 7 * sizeof(struct bactool_field)));
     EXPECT(bactool_same_meaning(octets, length, octets, length, &told) == BACTOOL_LEFT_REFUSED);
     EXPECT(says(told, found.why, found.place, 0));
@@ -438,6 +474,7 @@ static void try_accepted(struct bench bench, const uint8_t *octets, size_t lengt
     EXPECT(bactool_same_meaning(octets, length, canonical, canonical_length, &told) == BACTOOL_OK && says(told, 0, 0, 0));
     EXPECT(bactool_same_meaning(octets, length, octets, length, &told) == BACTOOL_OK && says(told, 0, 0, 0));
     try_accepted_head(octets, length, canonical, canonical_length);
+    try_cut_and_joined(bench, octets, length, canonical, canonical_length);
     try_rooms(bench, normalise, octets, length, canonical_length);
     EXPECT(show(octets, length, out, 0, &told) == BACTOOL_NO_ROOM && told.count > 0 && told.count < TEXT);
     try_rooms(bench, show, octets, length, told.count);
@@ -621,6 +658,8 @@ static void try_edges(struct bench bench)
     EXPECT(bactool_decode(NULL, 0, NULL, 0, NULL, 0, &told) == BACTOOL_REFUSED && says(told, BACTOOL_SHORT, 0, 0));
     EXPECT(bactool_encode(NULL, 0, NULL, 0, NULL, 0, &told) == BACTOOL_REFUSED && says(told, BACTOOL_SHORT, 0, 0));
     EXPECT(bactool_decode(longest, 4, NULL, 0, NULL, 0, &told) == BACTOOL_NO_ROOM && tells(told, 0, 0, 4, 6));
+    EXPECT(bactool_cut(NULL, 0, 0, 0, NULL, 0, &told) == BACTOOL_REFUSED && says(told, BACTOOL_SHORT, 0, 0));
+    EXPECT(bactool_join(NULL, 0, NULL, 0, &told) == BACTOOL_INCOMPLETE && says(told, 0, 0, 0));
     EXPECT(bactool_find(NULL, 0, BACTOOL_FIELD_OBJECT) == NULL);
     EXPECT(bactool_version() == BACTOOL_VERSION);
 }
@@ -913,9 +952,450 @@ static void try_drawn_fields(struct bench bench, uint64_t *state, const uint8_t 
     try_fields(bench, bench.known, most, canonical, count, (size_t)drawn(state));
 }
 
+/* ---- messages in segments */
+
+/* Example 4: its service has 14 octets. */
+static const uint8_t plain[] = {0x01, 0x00};
+static const uint8_t answer_service[] = {0x0C, 0x00, 0x00, 0x00, 0x05, 0x19, 0x55,
+                                         0x3E, 0x44, 0x42, 0x90, 0x99, 0x9A, 0x3F};
+static const struct message answer = {plain, sizeof plain, false, 0, 1, 12, answer_service, sizeof answer_service};
+
+/* An answer of a service that is not decoded, with so many octets. */
+static struct message opaque_answer(size_t length)
+{
+    static uint8_t service[LONGEST + 1];
+    for (size_t k = service[1] == 0 ? 0 : sizeof service; k < sizeof service; k++)
+        service[k] = (uint8_t)(k % 251);
+    return (struct message){plain, sizeof plain, false, 0, 1, 26, service, length};
+}
+
+/* What a call is given beside octets and room. */
+static _Thread_local size_t cut_size;
+static _Thread_local uint8_t cut_window;
+
+static uint32_t cut(const uint8_t *octets, size_t length, uint8_t *out, size_t room, struct bactool_outcome *told)
+{
+    return bactool_cut(octets, length, cut_size, cut_window, room == 0 ? NULL : out, room, told);
+}
+
+static uint32_t join(const uint8_t *octets, size_t length, uint8_t *out, size_t room, struct bactool_outcome *told)
+{
+    return bactool_join(octets, length, room == 0 ? NULL : out, room, told);
+}
+
+/* A call writes these octets in each room that has them, and nothing in a smaller one. */
+static void try_written(struct bench bench, written_by *write, const uint8_t *octets, size_t length, const uint8_t *wanted,
+                        size_t count, bool in_each_room)
+{
+    for (size_t room = 0; room <= count + 2; room += in_each_room || room + 1 >= count ? 1 : count - 1) {
+        struct bactool_outcome told = UNTOLD;
+        uint8_t *out = cleared(bench.out, room);
+        uint32_t code = write(octets, length, out, room, &told);
+        EXPECT(says(told, 0, 0, count));
+        if (room < count) {
+            EXPECT(code == BACTOOL_NO_ROOM && is_kept(bench.out, room));
+        } else {
+            EXPECT(code == BACTOOL_OK && memcmp(out, wanted, count) == 0);
+            EXPECT(all_kept(out - BEHIND, BEHIND) && all_kept(out + count, room - count));
+        }
+    }
+}
+
+/* A call writes nothing, and says this. */
+static void try_unwritten(struct bench bench, written_by *write, const uint8_t *octets, size_t length, uint32_t code,
+                          struct bactool_outcome wanted)
+{
+    for (size_t room = 0; room <= 2 * LONGEST; room += LONGEST) {
+        struct bactool_outcome told = UNTOLD;
+        EXPECT(write(octets, length, cleared(bench.out, room), room, &told) == code);
+        EXPECT(says(told, wanted.why, wanted.place, wanted.count) && is_kept(bench.out, room));
+    }
+}
+
+/* A message is cut into the records that are made by hand. */
+static void try_cut(struct bench bench, const struct message *message, size_t size, uint8_t window, bool in_each_room)
+{
+    const uint8_t *whole = placed(bench.left, bench.made, put_whole(message, bench.made));
+    size_t length = (size_t)(bench.left.end - whole), count = put_segments(message, size, window, bench.made);
+    cut_size = size, cut_window = window;
+    try_written(bench, cut, whole, length, bench.made, count, in_each_room);
+}
+
+/* It is not cut, for this reason. */
+static void try_uncut(struct bench bench, const struct message *message, size_t size, uint8_t window, uint32_t code)
+{
+    const uint8_t *whole = placed(bench.left, bench.made, put_whole(message, bench.made));
+    cut_size = size, cut_window = window;
+    try_unwritten(bench, cut, whole, (size_t)(bench.left.end - whole), code, (struct bactool_outcome){0, 0, 0, 0});
+}
+
+/* Records are joined to a message. */
+static void try_joined(struct bench bench, const uint8_t *records, size_t length, const struct message *message,
+                       bool in_each_room)
+{
+    size_t count = put_whole(message, bench.made);
+    try_written(bench, join, placed(bench.records, records, length), length, bench.made, count, in_each_room);
+}
+
+/* They are not joined: this code, with this outcome, or with this place and nothing else. */
+static void try_unjoined_for(struct bench bench, const uint8_t *records, size_t length, uint32_t code,
+                             struct bactool_outcome wanted)
+{
+    try_unwritten(bench, join, placed(bench.records, records, length), length, code, wanted);
+}
+
+static void try_unjoined(struct bench bench, const uint8_t *records, size_t length, uint32_t code, size_t place)
+{
+    try_unjoined_for(bench, records, length, code, (struct bactool_outcome){0, place, 0, 0});
+}
+
+/* The numbers of some segments, in the order in which they come. */
+struct delivery {
+    size_t count, numbers[2 * MOST_SEGMENTS + 2];
+};
+
+/* Puts the records of these segments. Returns how many octets they have. */
+static size_t put_delivery(const struct message *message, size_t size, const struct delivery *delivery, uint8_t *out)
+{
+    size_t length = 0;
+    for (size_t k = 0; k < delivery->count; k++)
+        length += put_segment(message, size, 4, delivery->numbers[k], out + length);
+    return length;
+}
+
+/* The segments of a message that came are joined, or the first one that is missing is told. */
+static void try_delivery(struct bench bench, const struct message *message, size_t size, const struct delivery *delivery)
+{
+    bool came[MOST_SEGMENTS] = {false};
+    for (size_t k = 0; k < delivery->count; k++)
+        came[delivery->numbers[k]] = true;
+    size_t missing = 0, length = put_delivery(message, size, delivery, bench.mixed);
+    while (missing < segments_of(message, size) && came[missing])
+        missing++;
+    if (missing == segments_of(message, size))
+        try_joined(bench, bench.mixed, length, message, false);
+    else
+        try_unjoined(bench, bench.mixed, length, BACTOOL_INCOMPLETE, missing);
+}
+
+/* Each order of four segments, with each one lost, and with each one doubled at each place. */
+static void try_orders(struct bench bench)
+{
+    for (unsigned order = 0; order < 256; order++) {
+        const size_t numbers[] = {order & 3, order >> 2 & 3, order >> 4 & 3, order >> 6};
+        unsigned there = 0;
+        for (size_t k = 0; k < 4; k++)
+            there |= 1u << numbers[k];
+        if (there != 15)
+            continue;
+        struct delivery all = {4, {numbers[0], numbers[1], numbers[2], numbers[3]}};
+        try_delivery(bench, &answer, 4, &all);
+        for (size_t one = 0; one < 4; one++) {
+            struct delivery lost = {0, {0}};
+            for (size_t k = 0; k < 4; k++)
+                if (numbers[k] != one)
+                    lost.numbers[lost.count++] = numbers[k];
+            try_delivery(bench, &answer, 4, &lost);
+            for (size_t place = 0; place <= 4; place++) {
+                struct delivery doubled = {5, {0}};
+                for (size_t k = 0; k < 5; k++)
+                    doubled.numbers[k] = k == place ? one : numbers[k > place ? k - 1 : k];
+                try_delivery(bench, &answer, 4, &doubled);
+            }
+        }
+    }
+}
+
+/* All 256 segments there can be, backwards, with so many octets each; and with the last one or the first one lost. */
+static void try_backwards(struct bench bench, size_t size, size_t length)
+{
+    struct message message = opaque_answer(length);
+    struct delivery backwards = {MOST_SEGMENTS, {0}};
+    for (size_t k = 0; k < MOST_SEGMENTS; k++)
+        backwards.numbers[k] = MOST_SEGMENTS - 1 - k;
+    EXPECT(segments_of(&message, size) == MOST_SEGMENTS);
+    try_cut(bench, &message, size, 127, false);
+    try_delivery(bench, &message, size, &backwards);
+    backwards.count--;
+    try_delivery(bench, &message, size, &backwards);
+    backwards.count++;
+    backwards.numbers[0] = 0;
+    try_delivery(bench, &message, size, &backwards);
+}
+
+/* What a call to bactool_cut may be given: sizes, windows and lengths at their limits and above. */
+static void try_limits(struct bench bench)
+{
+    for (size_t size = 1; size <= 16; size++)
+        try_cut(bench, &answer, size, (uint8_t)size, size % 5 == 4);
+    try_cut(bench, &answer, SIZE_MAX, 127, true);
+    struct message none = opaque_answer(0), longest = opaque_answer(LONGEST), longer = opaque_answer(LONGEST + 1);
+    struct message many = opaque_answer(MOST_SEGMENTS + 1);
+    try_cut(bench, &none, 1, 1, true);
+    try_cut(bench, &longest, 256, 4, false);
+    try_cut(bench, &longest, LONGEST - 7, 4, false);
+    try_uncut(bench, &longest, LONGEST - 6, 4, BACTOOL_TOO_LONG);
+    try_uncut(bench, &longest, LONGEST, 4, BACTOOL_TOO_LONG);
+    try_uncut(bench, &longest, SIZE_MAX, 4, BACTOOL_TOO_LONG);
+    try_uncut(bench, &longest, 255, 4, BACTOOL_TOO_MANY);
+    try_uncut(bench, &longer, 480, 4, BACTOOL_TOO_LONG);
+    try_uncut(bench, &longer, 1, 4, BACTOOL_TOO_LONG);
+    try_uncut(bench, &many, 1, 4, BACTOOL_TOO_MANY);
+    try_uncut(bench, &answer, 0, 4, BACTOOL_BAD_SIZE);
+    try_uncut(bench, &many, 0, 0, BACTOOL_BAD_SIZE);
+    try_uncut(bench, &answer, 4, 0, BACTOOL_BAD_WINDOW);
+    try_uncut(bench, &many, 1, 128, BACTOOL_BAD_WINDOW);
+    try_uncut(bench, &answer, 4, 255, BACTOOL_BAD_WINDOW);
+    try_backwards(bench, 1, 256);
+    try_backwards(bench, 255, 256 * 255);
+    try_backwards(bench, 256, LONGEST);
+}
+
+/* A request from one network to another, whose head differs in one bit from segment to segment. */
+static void try_differences(struct bench bench)
+{
+    static const uint8_t npdu[] = {0x01, 0x2C, 0x00, 0x05, 0x01, 0x0A, 0x00, 0x07, 0x02, 0x01, 0x02, 0xFF};
+    static const uint8_t service[] = {0xAA, 0xBB, 0xCC};
+    const struct message request = {npdu, sizeof npdu, true, 0x05, 3, 17, service, sizeof service};
+    /* Places in a record, and bits that are changed there: priority, reply expected; network and address of the destination;
+       those of the source; hop count; whether, how many and how long segments are accepted; invoke id; choice. */
+    const uint8_t others[][2] = {{3, 0x01},  {3, 0x04},  {4, 0x01},  {5, 0x01},  {7, 0x01},
+                                 {8, 0x01},  {9, 0x01},  {11, 0x01}, {12, 0x01}, {13, 0x01},
+                                 {14, 0x02}, {15, 0x10}, {15, 0x01}, {16, 0x01}, {19, 0x01}};
+    /* Bits that are ignored, and the window. */
+    const uint8_t same[][2] = {{3, 0x10}, {3, 0x40}, {14, 0x01}, {15, 0x80}, {18, 0x06}};
+    size_t first = put_segment(&request, 1, 4, 0, bench.mixed);
+    size_t length = put_segments(&request, 1, 4, bench.mixed);
+    for (size_t k = 0; k < sizeof others / sizeof *others; k++) {
+        bench.mixed[first + others[k][0]] ^= others[k][1];
+        try_unjoined(bench, bench.mixed, length, BACTOOL_CONFLICT, 1);
+        bench.mixed[first + others[k][0]] ^= others[k][1];
+    }
+    for (size_t k = 0; k < sizeof same / sizeof *same; k++) {
+        bench.mixed[first + same[k][0]] ^= same[k][1];
+        try_joined(bench, bench.mixed, length, &request, false);
+        bench.mixed[first + same[k][0]] ^= same[k][1];
+    }
+    /* The other kind of message, with the same invoke id and choice. */
+    struct message other = request;
+    other.is_request = false;
+    put_segment(&other, 1, 4, 1, bench.mixed + first);
+    try_unjoined(bench, bench.mixed, 2 * first - 1, BACTOOL_CONFLICT, 1);
+}
+
+/* Segments that are of another message, or of none, after those of the example. */
+static void try_misfits(struct bench bench)
+{
+    static const uint8_t other_piece[] = {0x0C, 0x00, 0x00, 0x00, 0x05, 0x19, 0x54, 0x3E, 0x44, 0x42};
+    const struct message two = {plain, sizeof plain, false, 0, 2, 12, answer_service, sizeof answer_service};
+    const struct message other = {plain, sizeof plain, false, 0, 1, 12, other_piece, sizeof other_piece};
+    const struct message shorter = {plain, sizeof plain, false, 0, 1, 12, answer_service, 13};
+    size_t length = put_segments(&answer, 4, 4, bench.mixed);
+    try_joined(bench, bench.mixed, length, &answer, true);
+    /* the same number of another message; another piece; the number after the last one; the last one is another one */
+    try_unjoined(bench, bench.mixed, length + put_segment(&two, 4, 4, 1, bench.mixed + length), BACTOOL_CONFLICT, 4);
+    try_unjoined(bench, bench.mixed, length + put_segment(&other, 4, 4, 1, bench.mixed + length), BACTOOL_CONFLICT, 4);
+    try_unjoined(bench, bench.mixed, length + put_segment(&answer, 2, 4, 4, bench.mixed + length), BACTOOL_CONFLICT, 4);
+    try_unjoined(bench, bench.mixed, length + put_segment(&other, 4, 4, 2, bench.mixed + length), BACTOOL_CONFLICT, 4);
+    try_unjoined(bench, bench.mixed, length + put_segment(&shorter, 4, 4, 3, bench.mixed + length), BACTOOL_CONFLICT, 4);
+    /* two messages, a segment of each in turn */
+    length = 0;
+    for (size_t number = 0; number < 4; number++) {
+        length += put_segment(&answer, 4, 4, number, bench.mixed + length);
+        length += put_segment(&two, 4, 4, number, bench.mixed + length);
+    }
+    try_unjoined(bench, bench.mixed, length, BACTOOL_CONFLICT, 1);
+    /* the last one says that more follow, also number 255 */
+    struct message all = opaque_answer(MOST_SEGMENTS);
+    length = put_segments(&all, 1, 4, bench.mixed);
+    bench.mixed[length - 6] |= 0x04;
+    try_unjoined(bench, bench.mixed, length, BACTOOL_CONFLICT, MOST_SEGMENTS - 1);
+    /* more octets than a message has, and as many */
+    struct message longest = opaque_answer(LONGEST), longer = opaque_answer(LONGEST + 1);
+    length = put_segments(&longer, 40000, 4, bench.mixed);
+    try_unjoined(bench, bench.mixed, length, BACTOOL_TOO_LONG, 1);
+    length = put_segments(&longest, 40000, 4, bench.mixed);
+    try_joined(bench, bench.mixed, length, &longest, false);
+}
+
+/* The octets of all segments are those of no service of choice 12. */
+static void try_no_service(struct bench bench, const uint8_t *service, size_t length, uint32_t why, size_t place)
+{
+    const struct message message = {plain, sizeof plain, false, 0, 1, 12, service, length};
+    size_t count = put_segments(&message, 3, 4, bench.mixed);
+    const struct bactool_outcome wanted = {why, place, 0, 0};
+    try_unjoined_for(bench, bench.mixed, count, BACTOOL_SERVICE_REFUSED, wanted);
+}
+
+/* The records of the example are not joined with another one at this place among them. */
+static void try_with(struct bench bench, size_t at, const uint8_t *record, uint32_t code, struct bactool_outcome wanted)
+{
+    size_t length = put_segments(&answer, 4, 4, bench.mixed), more = 2 + (size_t)record[1];
+    memmove(bench.mixed + at + more, bench.mixed + at, length - at);
+    memcpy(bench.mixed + at, record, more);
+    try_unjoined_for(bench, bench.mixed, length + more, code, wanted);
+}
+
+/* Records that end early, at each octet; and one that is refused, or holds no segment, at each place among the others. */
+static void try_records(struct bench bench)
+{
+    static const uint8_t cut_short[] = {0, 4, 0x01, 0x00, 0x3C, 0x01}, empty[] = {0, 0}, version[] = {0, 1, 0x02};
+    static const uint8_t who_is[] = {0, 4, 0x01, 0x00, 0x10, 0x08}, message[] = {0, 3, 0x01, 0x80, 0x12};
+    size_t ends[5] = {0};
+    for (size_t k = 0; k < 4; k++)
+        ends[k + 1] = ends[k] + put_segment(&answer, 4, 4, k, bench.made);
+    put_segments(&answer, 4, 4, bench.mixed);
+    for (size_t front = 0, index = 0; front < ends[4]; front++) {
+        index += front == ends[index + 1];
+        try_unjoined(bench, bench.mixed, front, front == ends[index] ? BACTOOL_INCOMPLETE : BACTOOL_TRUNCATED, index);
+    }
+    for (size_t k = 0; k <= 4; k++) {
+        try_with(bench, ends[k], cut_short, BACTOOL_REFUSED, (struct bactool_outcome){BACTOOL_SHORT, 4, k, 0});
+        try_with(bench, ends[k], empty, BACTOOL_REFUSED, (struct bactool_outcome){BACTOOL_SHORT, 0, k, 0});
+        try_with(bench, ends[k], version, BACTOOL_REFUSED, (struct bactool_outcome){BACTOOL_BAD_VERSION, 0, k, 0});
+        try_with(bench, ends[k], who_is, BACTOOL_NO_SEGMENT, (struct bactool_outcome){0, k, 0, 0});
+        try_with(bench, ends[k], message, BACTOOL_NO_SEGMENT, (struct bactool_outcome){0, k, 0, 0});
+    }
+    try_no_service(bench, answer_service, 4, BACTOOL_SHORT, 4);
+    try_no_service(bench, answer_service + 5, 9, BACTOOL_TAG, 0);
+}
+
+static void try_segments(struct bench bench)
+{
+    try_limits(bench);
+    try_orders(bench);
+    try_differences(bench);
+    try_misfits(bench);
+    try_records(bench);
+}
+
+/* ---- random records */
+
+/* The records that octets begin with: how many there are, and how many of them are frames, up to the first that is none.
+   Which segments they hold, and where the last record ends. */
+struct walk {
+    size_t count, frames, end;
+    bool is_refused, came[MOST_SEGMENTS];
+    struct bactool_outcome refusal;
+};
+
+static struct walk walked(const uint8_t *records, size_t length)
+{
+    struct walk walk = {0};
+    for (size_t at = 0; at + 2 <= length; at = walk.end) {
+        size_t size = (size_t)records[at] << 8 | records[at + 1];
+        if (size > length - at - 2)
+            break;
+        struct bactool_frame_head head;
+        if (!walk.is_refused && bactool_head(records + at + 2, size, &head, &walk.refusal) == BACTOOL_OK) {
+            walk.frames++;
+            if (head.segmented == 1)
+                walk.came[head.sequence] = true;
+        } else {
+            walk.is_refused = true;
+        }
+        walk.count++;
+        walk.end = at + 2 + size;
+    }
+    return walk;
+}
+
+/* Where the record with this index begins. */
+static size_t place_of(const uint8_t *records, size_t index)
+{
+    size_t at = 0;
+    while (index-- > 0)
+        at += 2 + ((size_t)records[at] << 8 | records[at + 1]);
+    return at;
+}
+
+/* Any octets are joined, or it is told truly why they are not. */
+static void try_any_records(struct bench bench, const uint8_t *octets, size_t length)
+{
+    const uint8_t *records = placed(bench.records, octets, length);
+    struct walk walk = walked(records, length);
+    struct bactool_outcome told = UNTOLD, front = UNTOLD;
+    uint8_t *out = cleared(bench.out, length);
+    uint32_t code = bactool_join(records, length, out, length, &told);
+    EXPECT(code == BACTOOL_OK || is_kept(bench.out, length));
+    EXPECT((code == BACTOOL_REFUSED) == walk.is_refused);
+    EXPECT((code == BACTOOL_TRUNCATED) == (!walk.is_refused && walk.end < length));
+    size_t missing = 0;
+    while (missing < MOST_SEGMENTS && walk.came[missing])
+        missing++;
+    switch (code) {
+    case BACTOOL_OK: {
+        size_t count = told.count;
+        EXPECT(says(told, 0, 0, count) && count < length && all_kept(out + count, length - count));
+        EXPECT(bactool_check(out, count, true, &told) == BACTOOL_OK);
+        EXPECT(bactool_join(records, length, NULL, 0, &told) == BACTOOL_NO_ROOM && says(told, 0, 0, count));
+        break;
+    }
+    case BACTOOL_REFUSED:
+        EXPECT(says(told, walk.refusal.why, walk.refusal.place, walk.frames));
+        break;
+    case BACTOOL_TRUNCATED:
+        EXPECT(says(told, 0, walk.count, 0));
+        break;
+    case BACTOOL_INCOMPLETE:
+        EXPECT(says(told, 0, missing, 0) && missing < MOST_SEGMENTS);
+        break;
+    case BACTOOL_SERVICE_REFUSED:
+        EXPECT(BACTOOL_SHORT <= told.why && told.why <= BACTOOL_DEPTH && missing > 0);
+        EXPECT(says(told, told.why, told.place, 0));
+        break;
+    default:
+        /* The records before it are of one message. */
+        EXPECT(code == BACTOOL_NO_SEGMENT || code == BACTOOL_CONFLICT || code == BACTOOL_TOO_LONG);
+        EXPECT(says(told, 0, told.place, 0) && told.place < walk.count);
+        code = bactool_join(records, place_of(records, told.place), NULL, 0, &front);
+        EXPECT(code == BACTOOL_NO_ROOM || code == BACTOOL_INCOMPLETE || code == BACTOOL_SERVICE_REFUSED);
+    }
+}
+
+/* A message by chance, of at most so many octets, and its segments in an order by chance, some of them lost or doubled;
+   then with an input among them, and with some octets changed. */
+static void try_drawn_message(struct bench bench, uint64_t *state, size_t most, const uint8_t *input, size_t input_length)
+{
+    struct message message = opaque_answer(drawn(state) % 16 == 0 ? 0 : drawn_size(state, most));
+    message.service += drawn(state) % 2 == 0 ? LONGEST - message.length : 0;
+    message.is_request = drawn(state) % 2 == 0;
+    message.accepts = (uint8_t)(drawn(state) & 0x7F);
+    message.invoke = (uint8_t)drawn(state);
+    size_t least = message.length / MOST_SEGMENTS + 1, size = drawn_size(state, LONGEST - 8);
+    size = size < least ? least : size;
+    try_cut(bench, &message, size, (uint8_t)(1 + drawn(state) % 127), false);
+
+    size_t all = segments_of(&message, size), losses = drawn(state) % 3, doubles = drawn(state) % 3;
+    struct delivery delivery = {0, {0}};
+    for (size_t number = 0; number < all; number++)
+        for (size_t times = drawn(state) % 64 < losses ? 0 : drawn(state) % 4 < doubles ? 2 : 1; times > 0; times--)
+            delivery.numbers[delivery.count++] = number;
+    for (size_t k = delivery.count; k > 1; k--) {
+        size_t other = drawn(state) % k, number = delivery.numbers[k - 1];
+        delivery.numbers[k - 1] = delivery.numbers[other];
+        delivery.numbers[other] = number;
+    }
+    try_delivery(bench, &message, size, &delivery);
+
+    size_t length = put_delivery(&message, size, &delivery, bench.mixed);
+    size_t at = place_of(bench.mixed, drawn(state) % (delivery.count + 1));
+    if (2 + input_length <= RECORDS - length) {
+        memmove(bench.mixed + at + 2 + input_length, bench.mixed + at, length - at);
+        bench.mixed[at] = (uint8_t)(input_length >> 8);
+        bench.mixed[at + 1] = (uint8_t)input_length;
+        memcpy(bench.mixed + at + 2, input, input_length);
+        try_any_records(bench, bench.mixed, length + 2 + input_length);
+        memmove(bench.mixed + at, bench.mixed + at + 2 + input_length, length - at);
+    }
+    for (size_t changes = 1 + drawn(state) % 3; changes > 0 && length > 0; changes--)
+        bench.mixed[drawn(state) % (length < 64 ? length : 64)] ^= (uint8_t)(1 << drawn(state) % 8);
+    try_any_records(bench, bench.mixed, length);
+}
+
 struct share {
     uint64_t state;
-    unsigned long count, lists, accepted;
+    unsigned long count, lists, accepted, messages;
 };
 
 static void *try_share(void *given)
@@ -925,6 +1405,10 @@ static void *try_share(void *given)
     uint8_t *input = __real_malloc(LONGEST + 16), *canonical = __real_malloc(LONGEST);
     for (unsigned long tried = 0; tried < share->count; tried++) {
         size_t length = draw(&share->state, input);
+        if (tried % 16 == 0) {
+            try_drawn_message(bench, &share->state, few ? 1024 : LONGEST, input, length);
+            share->messages++;
+        }
         if (!try_input(bench, input, length, false))
             continue;
         share->accepted++;
@@ -950,6 +1434,7 @@ int main(int count_of_words, char **words)
     try_edges(bench);
     try_reasons(bench);
     try_names(bench);
+    try_segments(bench);
     for (size_t k = 0; k < record_count; k++) {
         size_t length = (size_t)file[records[k]] << 8 | file[records[k] + 1];
         EXPECT(try_input(bench, file + records[k] + 2, length, true));
@@ -959,18 +1444,19 @@ int main(int count_of_words, char **words)
         EXPECT(was_seen[k] == (named[k].form != NO_FIELD));
     pthread_t threads[THREADS];
     struct share shares[THREADS];
-    unsigned long accepted = 0;
+    unsigned long accepted = 0, messages = 0;
     for (unsigned k = 0; k < THREADS; k++) {
-        shares[k] = (struct share){0x9E3779B97F4A7C15u * (k + 1), count / THREADS, lists, 0};
+        shares[k] = (struct share){0x9E3779B97F4A7C15u * (k + 1), count / THREADS, lists, 0, 0};
         if (pthread_create(&threads[k], NULL, try_share, &shares[k]) != 0)
             return 2;
     }
     for (unsigned k = 0; k < THREADS; k++) {
         pthread_join(threads[k], NULL);
         accepted += shares[k].accepted;
+        messages += shares[k].messages;
     }
-    printf("try-library: %zu records, %lu refused allocations, %lu random inputs, of which %lu were accepted, and %lu lists of "
-           "fields: %lu faults\n",
-           record_count, refusals, count / THREADS * THREADS, accepted, lists * accepted, faults);
+    printf("try-library: %zu records, %lu refused allocations, %lu random inputs, of which %lu were accepted, %lu lists of "
+           "fields, and %lu messages in segments: %lu faults\n",
+           record_count, refusals, count / THREADS * THREADS, accepted, lists * accepted, messages, faults);
     return faults != 0;
 }
