@@ -21,7 +21,7 @@ struct message {
 
 /* Puts what is before the service of a frame, or of a segment with this number if `more` is not negative. Returns how
    many octets there are. */
-static size_t put_head(const struct message *message, int more, uint8_t number, uint8_t window, uint8_t *out)
+static size_t put_message_head(const struct message *message, int more, uint8_t number, uint8_t window, uint8_t *out)
 {
     size_t count = message->npdu_length;
     memcpy(out, message->npdu, count);
@@ -40,7 +40,7 @@ static size_t put_head(const struct message *message, int more, uint8_t number, 
 /* Puts the frame in one piece. Returns how many octets it has. */
 static size_t put_whole(const struct message *message, uint8_t *out)
 {
-    size_t count = put_head(message, -1, 0, 0, out);
+    size_t count = put_message_head(message, -1, 0, 0, out);
     if (message->length > 0)
         memcpy(out + count, message->service, message->length);
     return count + message->length;
@@ -56,7 +56,7 @@ static size_t segments_of(const struct message *message, size_t size)
 static size_t put_segment(const struct message *message, size_t size, uint8_t window, size_t number, uint8_t *out)
 {
     size_t begin = number * size, rest = message->length - begin, piece = rest < size ? rest : size;
-    size_t length = put_head(message, piece < rest, (uint8_t)number, window, out + 2);
+    size_t length = put_message_head(message, piece < rest, (uint8_t)number, window, out + 2);
     if (piece > 0)
         memcpy(out + 2 + length, message->service + begin, piece);
     length += piece;

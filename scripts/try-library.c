@@ -7,7 +7,7 @@
  * that must not be touched, so a fault of memory ends the program. It prints a line for each thing that is wrong, and
  * one at the end.
  *
- * It is linked with --wrap for malloc and realloc, so that memory can be refused.
+ * It is linked with --wrap for malloc, realloc and free, so that memory can be refused.
  */
 #define _GNU_SOURCE
 #include "drawn.h"

@@ -4,14 +4,16 @@
  *
  * First, on worked examples of docs/EXAMPLES.md, each allocation of each call is refused in turn: a call ends as the
  * example says, or reports that memory was refused and writes nothing. Then each call is made with DRAWS frames of drawn
- * lengths and counts, and with lines and fields of drawn lengths: no call reports that memory was refused, since none was.
- * It prints a line for each thing that is wrong, and one at the end.
+ * lengths and counts, and with lines, fields and messages in segments of drawn lengths: no call reports that memory was
+ * refused, since none was. At last some whole messages are joined, and the most memory that the call held is printed
+ * beside the length of the message. It prints a line for each thing that is wrong, and one at the end.
  *
- * It is linked with --wrap for malloc and realloc.
+ * It is linked with --wrap for malloc, realloc and free.
  */
 #include "drawn-frames.h"
 #include "line-of-fields.h"
 #include "refused-memory.h"
+#include "segments.h"
 #include <bactool.h>
 #include <stdio.h>
 #include <stdlib.h>
@@ -36,8 +38,8 @@ static bool tells(struct bactool_outcome told, uint32_t why, size_t place, size_
     return told.why == why && told.place == place && told.count == count && told.fields == fields;
 }
 
-/* The seven calls that may report that memory was refused. */
-enum call { CHECK, NORMALISE, DECODE, ENCODE, SHOW, READ, SAME, CALLS };
+/* The nine calls that may report that memory was refused; bactool_head does as bactool_check. */
+enum call { CHECK, NORMALISE, DECODE, ENCODE, SHOW, READ, CUT, JOIN, SAME, CALLS };
 
 /* ---- refused allocations */
 
@@ -74,11 +76,13 @@ static const struct example {
 
 enum { EXAMPLES = sizeof examples / sizeof *examples, LONGEST = 64, LINE = 256, FIELDS = 64, KEPT = 0xA5 };
 
-/* The octets of an example, which is not written to; its canonical octets, and its fields. */
+/* The octets of an example, which is not written to; its canonical octets, and its fields. If it is cut, the records of its
+   segments, and otherwise its own. */
 struct said {
     const struct example *example;
-    uint8_t octets[LONGEST], canonical[LONGEST];
-    size_t length, count, fields;
+    uint8_t octets[LONGEST], canonical[LONGEST], records[LINE];
+    size_t length, count, fields, records_length;
+    bool is_cut;
     struct bactool_field known[FIELDS];
 };
 
@@ -110,6 +114,28 @@ static bool has_line(const uint8_t *octets, const struct bactool_field *said, si
     return length == strlen(line) && memcmp(made, line, length) == 0;
 }
 
+/* How the examples are cut. */
+enum { PIECE = 6, WINDOW = 4 };
+
+/* Puts the records of an example. In all examples the APDU begins at 2. */
+static void put_records(struct said *said)
+{
+    const uint8_t *apdu = said->canonical + 2;
+    bool is_request = said->count > 2 && apdu[0] == 0x00, is_answer = said->count > 2 && apdu[0] == 0x30;
+    size_t head = is_request ? 6 : 5;
+    said->is_cut = is_request || is_answer;
+    if (said->is_cut) {
+        const struct message message = {said->canonical, 2, is_request, apdu[1], apdu[is_request ? 2 : 1],
+                                        said->canonical[head - 1], said->canonical + head, said->count - head};
+        said->records_length = put_segments(&message, PIECE, WINDOW, said->records);
+    } else {
+        said->records[0] = 0;
+        said->records[1] = (uint8_t)said->length;
+        memcpy(said->records + 2, said->octets, said->length);
+        said->records_length = 2 + said->length;
+    }
+}
+
 /* The example as the calls want it. Its fields are those that the library decodes, if the line that they make is the
    example's. */
 static struct said said_by(const struct example *example)
@@ -118,6 +144,7 @@ static struct said said_by(const struct example *example)
     struct bactool_outcome told = UNTOLD;
     said.length = octets_of(example->octets, said.octets);
     said.count = octets_of(example->canonical != NULL ? example->canonical : example->octets, said.canonical);
+    put_records(&said);
     if (example->line == NULL)
         return said;
     EXPECT(bactool_decode(said.octets, said.length, out, sizeof out, said.known, FIELDS, &told) == BACTOOL_OK);
@@ -145,6 +172,10 @@ static uint32_t made(enum call call, const struct said *said, const struct said 
         return bactool_show(said->octets, said->length, (char *)out, sizeof out, told);
     case READ:
         return bactool_read(line, strlen(line), out, sizeof out, told);
+    case CUT:
+        return bactool_cut(said->octets, said->length, PIECE, WINDOW, out, sizeof out, told);
+    case JOIN:
+        return bactool_join(said->records, said->records_length, out, sizeof out, told);
     default:
         return bactool_same_meaning(said->octets, said->length, other->octets, other->length, told);
     }
@@ -160,6 +191,13 @@ static bool is_written(const void *octets, size_t count)
 static bool are_same(const struct said *said, const struct said *other)
 {
     return said->count == other->count && memcmp(said->canonical, other->canonical, said->count) == 0;
+}
+
+/* A record that is a segment alone lacks the first other one; what is no segment is told. */
+static bool is_one_record(const struct said *said, uint32_t code, struct bactool_outcome told)
+{
+    bool is_segment = (said->octets[2] & 0xF8) == 0x38, is_first = is_segment && said->octets[4] == 0;
+    return code == (is_segment ? BACTOOL_INCOMPLETE : BACTOOL_NO_SEGMENT) && tells(told, 0, is_first, 0, 0);
 }
 
 /* The call answered as the example says. All examples that are tolerated differ at 1, and those that are refused are so
@@ -179,8 +217,14 @@ static bool is_answered(enum call call, const struct said *said, const struct sa
         return code == BACTOOL_REFUSED && tells(told, example->why, 0, 0, 0) && all_kept(out, sizeof out);
     if (call == CHECK)
         return code == (is_tolerated ? BACTOOL_TOLERATED : BACTOOL_OK) && tells(told, 0, is_tolerated, 0, 0);
+    if (call == CUT && !said->is_cut)
+        return code == BACTOOL_NO_SERVICE && tells(told, 0, 0, 0, 0) && all_kept(out, sizeof out);
+    if (call == JOIN && !said->is_cut)
+        return is_one_record(said, code, told) && all_kept(out, sizeof out);
     if (code != BACTOOL_OK)
         return false;
+    if (call == CUT)
+        return tells(told, 0, 0, said->records_length, 0) && is_written(said->records, said->records_length);
     if (call == SHOW)
         return tells(told, 0, 0, length, 0) && is_written(example->line, length);
     if (!is_written(said->canonical, said->count))
@@ -314,6 +358,15 @@ static void try_fields(uint64_t *state, const struct frame *frame, const uint8_t
     free(said);
 }
 
+/* A frame is cut, unless it has no service, or one that is too long. */
+static void try_cut(const struct frame *frame)
+{
+    struct bactool_outcome told = UNTOLD;
+    uint32_t code = granted(CUT, bactool_cut(frame->octets, frame->length, 256, WINDOW, NULL, 0, &told), &told);
+    EXPECT(code == BACTOOL_NO_ROOM || code == BACTOOL_NO_SERVICE || code == BACTOOL_TOO_LONG);
+    EXPECT(tells(told, 0, 0, told.count, 0) && (told.count > 0) == (code == BACTOOL_NO_ROOM));
+}
+
 /* The calls on a frame that is accepted. */
 static void try_accepted(uint64_t *state, const struct frame *frame)
 {
@@ -328,6 +381,7 @@ static void try_accepted(uint64_t *state, const struct frame *frame)
     EXPECT(code == BACTOOL_DIFFERENT || code == BACTOOL_RIGHT_REFUSED);
     try_fields(state, frame, canonical, count);
     try_line(state, frame, canonical, count);
+    try_cut(frame);
     free(canonical);
 }
 
@@ -375,6 +429,60 @@ static void try_stopped(uint64_t *state, const struct frame *frame, struct bacto
     try_fronts(state);
 }
 
+/* The longest service, and room for the records of its segments, or for them twice. */
+enum { SERVICE = 65535, RECORDS = 1 << 18 };
+
+/* A message of a service that is not decoded: an answer with so many octets. */
+static struct message opaque_answer(size_t length)
+{
+    static const uint8_t npdu[] = {0x01, 0x00};
+    static uint8_t service[SERVICE];
+    for (size_t k = service[1] == 0 ? 0 : sizeof service; k < sizeof service; k++)
+        service[k] = (uint8_t)(k % 251);
+    return (struct message){npdu, sizeof npdu, false, 0, 1, 26, service, length};
+}
+
+/* A message of a drawn length, in segments of a drawn size: it is cut, and its segments are joined, from another one on and
+   then from the first one on. Without the last one they are not. */
+static void try_drawn_message(uint64_t *state)
+{
+    struct bactool_outcome told = UNTOLD;
+    struct message message = opaque_answer(drawn_size(state, SERVICE));
+    size_t least = message.length / 256 + 1, size = least + drawn_size(state, SERVICE / 2);
+    uint8_t *whole = taken(RECORDS), *records = taken(RECORDS), *room = taken(RECORDS);
+    size_t length = put_whole(&message, whole), count = put_segments(&message, size, WINDOW, records), last = 0;
+    EXPECT(granted(CUT, bactool_cut(whole, length, size, WINDOW, room, RECORDS, &told), &told) == BACTOOL_OK);
+    EXPECT(tells(told, 0, 0, count, 0) && memcmp(room, records, count) == 0);
+    for (size_t at = 0; at < count; at += 2 + ((size_t)records[at] << 8 | records[at + 1]))
+        last = at;
+    memcpy(records + count, records, last);
+    EXPECT(granted(JOIN, bactool_join(records + last, count, room, count, &told), &told) == BACTOOL_OK);
+    EXPECT(tells(told, 0, 0, length, 0) && memcmp(room, whole, length) == 0);
+    EXPECT(granted(JOIN, bactool_join(records, count, room, count, &told), &told) == BACTOOL_OK);
+    EXPECT(tells(told, 0, 0, length, 0) && memcmp(room, whole, length) == 0);
+    EXPECT(granted(JOIN, bactool_join(records, last, room, count, &told), &told) == BACTOOL_INCOMPLETE);
+    EXPECT(tells(told, 0, segments_of(&message, size) - 1, 0, 0));
+    free(room);
+    free(records);
+    free(whole);
+}
+
+/* Joins a message of this length in segments of this size, and prints the most memory that the call held. */
+static void measure(size_t length, size_t size)
+{
+    struct bactool_outcome told = UNTOLD;
+    struct message message = opaque_answer(length);
+    uint8_t *records = taken(RECORDS), *room = taken(RECORDS);
+    size_t count = put_segments(&message, size, WINDOW, records);
+    held = most_held = 0;
+    EXPECT(granted(JOIN, bactool_join(records, count, room, RECORDS, &told), &told) == BACTOOL_OK);
+    EXPECT(held == 0);
+    printf("try-memory: to join a message of %zu octets in %zu segments took %zu octets of memory\n", told.count,
+           segments_of(&message, size), most_held);
+    free(room);
+    free(records);
+}
+
 /* Makes each call with a drawn frame, or with what is drawn in its place. */
 static void try_drawn(struct frame *frame)
 {
@@ -401,9 +509,15 @@ int main(int count, char **words)
     try_examples();
     struct frame frame = {.octets = taken(ROOM), .state = &state};
     trying = "draw";
-    for (tried = 1; tried <= most; tried++)
+    for (tried = 1; tried <= most; tried++) {
         try_drawn(&frame);
+        try_drawn_message(&state);
+    }
     free(frame.octets);
+    trying = "length";
+    measure(tried = 1000, 480);
+    measure(tried = 16384, 1024);
+    measure(tried = SERVICE, 256);
     for (enum call call = CHECK; call < CALLS; call++) {
         EXPECT(draws[call] >= most);
         all += refusals[call];
