@@ -569,8 +569,8 @@ uint32_t bactool_cut(const uint8_t *octets, size_t length, size_t size, uint8_t 
  * two octets of length, the high one first, and as many octets. The frames may be in any encoding and in any order, and
  * any of them may be there several times. Written at the front of `out` are the canonical octets of the frame in one
  * piece, which has the heads of the segments. There are fewer of them than octets passed, so a room of `length` is
- * always enough. The windows of the segments do not matter. To wait for segments, keep the records, and call again when
- * another one has come, as `examples/c/join.c` does. Records are counted from 0.
+ * enough: this is tested, not proved. The windows of the segments do not matter. To wait for segments, keep the
+ * records, and call again when another one has come, as `examples/c/join.c` does. Records are counted from 0.
  *
  *   BACTOOL_OK               they are written: `count` is their number
  *   BACTOOL_NO_ROOM          `room` is too small for them: nothing is written, and `count` is their number
