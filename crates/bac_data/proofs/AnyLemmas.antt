@@ -80,7 +80,7 @@ has_read_more n input place taken es fs e h room p i = record {
 
 -- ---- what may stand next
 
-next_of_standing : (n : ℕ) (s : List ℕ) (room : Bool) (last : ℕ) (e : Event) → (IsTrue room ↔ (length s < 32)) → last ≡ closing_number n s → MayStand room last e → NextIn 32 n s e
+pub next_of_standing : (n : ℕ) (s : List ℕ) (room : Bool) (last : ℕ) (e : Event) → (IsTrue room ↔ (length s < 32)) → last ≡ closing_number n s → MayStand room last e → NextIn 32 n s e
 next_of_standing n s room last (application prim) r l h = tt
 next_of_standing n s room last (contextual m octets) r l h = tt
 next_of_standing n s room last (opening m) r l h = r.0 h

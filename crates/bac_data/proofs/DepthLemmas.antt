@@ -10,7 +10,7 @@ use Rattle.bac_data.specs.Refusals.{BeginsGroup, IsTooDeep}
 use Rattle.bac_data.proofs.AnyLemmas.{HasRead}
 
 -- no more groups are open than the limit
-opens_bound : (limit : ℕ) (es : List Event) (s t : List ℕ) → length s ≤ limit → Opens limit s es t → length t ≤ limit
+pub opens_bound : (limit : ℕ) (es : List Event) (s t : List ℕ) → length s ≤ limit → Opens limit s es t → length t ≤ limit
 opens_bound limit [] s t h o = subst (λ (l : List ℕ). length l ≤ limit) o h
 opens_bound limit (application prim ∷ es) s t h o = opens_bound limit es s t h o
 opens_bound limit (contextual number octets ∷ es) s t h o = opens_bound limit es s t h o

@@ -24,7 +24,7 @@ least_more es e b c p q = record {
 }
 
 -- one list of events behind another
-least_both : (es fs : List Event) (b c : List ℕ) → IsLeast (SpellsEvents es) b → IsLeast (SpellsEvents fs) c → IsLeast (SpellsEvents (es ++ fs)) (b ++ c)
+pub least_both : (es fs : List Event) (b c : List ℕ) → IsLeast (SpellsEvents es) b → IsLeast (SpellsEvents fs) c → IsLeast (SpellsEvents (es ++ fs)) (b ++ c)
 least_both es fs b c p q = record {
   member = SpellsEvents-append es fs b c p.member q.member;
   least = λ d r.

@@ -16,7 +16,13 @@ mod ReasonLemmas
 mod DepthLemmas
 pub mod ValueLemmas
 mod PartLemmas
+mod ShortLemmas
 mod HeldLemmas
+mod NodeLemmas
+mod HeldSteps
 mod WalkLemmas
 mod ReadingSteps
+mod StandingLeast
+mod LinkLemmas
+mod ProgressLemmas
 mod CanonicalLemmas

@@ -1,7 +1,7 @@
 -- What a reader keeps, step by step.
-use Rattle.std.proofs.Common.{◌≡◌, ℕ, ◌+◌, ◌-◌, ◌<◌, ◌≤◌, Bool, true, false, Option, None, Some, List, [], ◌∷◌, ◌++◌, take, drop, length, reverse, refl, sym, ◌∙◌, ap, subst, arith, take-add, length-append, length-take}
+use Rattle.std.proofs.Common.{◌≡◌, ℕ, ◌+◌, ◌-◌, ◌<◌, ◌≤◌, Bool, true, false, Option, None, Some, List, [], ◌∷◌, ◌++◌, take, drop, length, reverse, refl, sym, ◌∙◌, ap, subst, arith, take-add, length-append, length-drop, length-take}
 use Rattle.std.proofs.Math.Seq.{drop-append_seam}
-use Rattle.std.proofs.lemmas.List.{append_cancel_left, append-nil, length-reverse, take_all}
+use Rattle.std.proofs.lemmas.List.{append_cancel_left, append-nil, length-reverse, take_all, nil_from_length}
 use Rattle.std.specs.Prelude.{is_some, IsTrue, IfNone, ◌↔◌}
 use Rattle.bac_tag.specs.Octets.{IsMark, joined_mark}
 use Rattle.bac_tag.specs.Spelling.{IsLeast, AppendsLeast}
@@ -14,13 +14,19 @@ use Rattle.bac_tag.proofs.MarksLemmas.{spelled_some}
 use Rattle.bac_data.specs.declared.items.Item.{Item}
 use Rattle.bac_data.specs.declared.items.Item.TheVariants as item
 use Rattle.bac_data.specs.Events.{Event, closing, opening, Opens, SpellsEvent, SpellsEvents}
-use Rattle.bac_data.specs.Building.{AreOpen, Keeps, IsPlace, closing_number}
-use Rattle.bac_data.specs.Laws.Alignment.{events_some}
+use Rattle.bac_data.specs.Building.{AreOpen, Keeps, IsPlace, closing_number, held_octets}
+use Rattle.bac_data.specs.declared.nodes.Node.{Node}
+use Rattle.bac_data.specs.NodeEvents.{AreNodes, IsHeld, MayList}
 use Rattle.bac_data.specs.Marks.{HasMark}
 use Rattle.bac_data.specs.Reading.{item_event, item_contents, item_head, IsItem, IsApplication, LiesInFront, BeginsLeast}
 use Rattle.bac_data.proofs.AnyLemmas.{HasRead, has_read_more}
 use Rattle.bac_data.proofs.BuildingLemmas.{open_kept}
+use Rattle.bac_data.proofs.EventLemmas.{SpellsEvents-split, event_alone}
+use Rattle.bac_data.proofs.HeldSteps.{nothing_listed}
 use Rattle.bac_data.proofs.LeastLemmas.{least_more, least_none}
+use Rattle.bac_data.proofs.NodeLemmas.{begun_count}
+use Rattle.bac_data.proofs.OpenLemmas.{Opens-one, Opens-split}
+use Rattle.bac_data.proofs.ValueLemmas.{least_event}
 use Rattle.bac_data.proofs.MarkLemmas.{ItemMark, least_of_one, least_marked, closing_marked, marked_more, marked_already}
 use Rattle.bac_data.proofs.WalkLemmas.{in_two}
 
@@ -77,21 +83,14 @@ all_closed es (g ∷ gs) h e = absurd (omega (arith, e))
 
 -- ---- what was read so far
 
-pub record Reading (number : ℕ) (input : List ℕ) (start place count : ℕ) (groups kept : List ℕ) (mark : Option ℕ) : Type 0 where
+pub record Reading (number : ℕ) (input : List ℕ) (start place : ℕ) (groups kept : List ℕ) (mark : Option ℕ) : Type 0 where
   pub es : List Event
   pub read : HasRead number input place es
   pub marked : HasMark number input place es mark
   pub are_open : AreOpen es groups
-  pub counted : count ≡ length es
   pub keeps : Keeps mark es kept
   pub begun : start ≤ place
   pub opened : Heads (Open number) (take start input)
-
--- each event takes an octet, and the opening tag one in front of them
-pub fewer_events : (number : ℕ) (input : List ℕ) (place count : ℕ) (es : List Event) → HasRead number input place es → count ≡ length es → count < place
-fewer_events number input place count es read counted =
-    let most = events_some (opening number ∷ es) (take place input) read.spelled in
-    omega (arith, most, counted, length-take place input)
 
 -- while all octets are the canonical ones, those behind the opening tag are the canonical ones of the events
 pub front_least : (number : ℕ) (input : List ℕ) (start place : ℕ) (es : List Event) (m : Option ℕ) → start ≤ place → Heads (Open number) (take start input) → HasMark number input place es m → m ≡ None
@@ -131,7 +130,7 @@ closed_behind number input place start taken i es m own r small within is lies m
 
 -- ---- primitives that stand in their canonical octets
 
-unmarked : (m : Option ℕ) (place : ℕ) → m ≡ joined_mark m place None
+pub unmarked : (m : Option ℕ) (place : ℕ) → m ≡ joined_mark m place None
 unmarked None place = refl
 unmarked (Some p) place = refl
 
@@ -143,7 +142,7 @@ closed_mark number input place es m small within b marked =
     let lies : LiesInFront (item.Close number) 1 1 (drop place input) = record { within = omega arith; headed = b.least.member; octets_are = sym (append-nil front) } in
     closed_behind number input place 1 1 (item.Close number) es m None m small within refl lies (λ c p. IsLeast-one (Heads (Close number)) front c b.least p) (unmarked m place) marked
 
-stays : (i : Item) → IsApplication i → (s : List ℕ) → Opens 32 s (item_event i ∷ []) s
+pub stays : (i : Item) → IsApplication i → (s : List ℕ) → Opens 32 s (item_event i ∷ []) s
 stays (item.Application number contents written) a s = refl
 stays (item.Boolean bit) a s = refl
 stays (item.Context number octets) a s = absurd a
@@ -166,20 +165,33 @@ module _ (i : Item) (taken : ℕ) (octets : List ℕ) (b : BeginsLeast i taken o
   pub begun_least : IsLeast (SpellsEvent (item_event i)) (take taken octets)
   begun_least = subst (IsLeast (SpellsEvent (item_event i))) (sym b.lies.octets_are) least_lies
 
+pub begun_still : (start place taken : ℕ) → start ≤ place → start ≤ place + taken
+begun_still start place taken h = omega (arith, h)
+
 -- one more item that begins with its canonical octets
-pub read_least : (number : ℕ) (input : List ℕ) (start place count taken next more : ℕ) (groups kept new : List ℕ) (mark : Option ℕ) (i : Item) → BeginsLeast i taken (drop place input) → taken ≤ length (drop place input)
-    → ((es : List Event) (e : Event) → IsLeast (SpellsEvent e) (take taken (drop place input)) → Keeps mark es kept → Keeps mark (es ++ e ∷ []) new)
-    → next ≡ place + taken → more ≡ count + 1 → Reading number input start place count groups kept mark → Reading number input start next more groups new mark
-read_least number input start place count taken next more groups kept new mark i b within keeps n m r =
-    let e = item_event i in
-    let least = begun_least i taken (drop place input) b in
-    rw (n, m) (record {
-      es = r.es ++ e ∷ [];
-      read = has_read_more number input place taken r.es (r.es ++ e ∷ []) e r.read within least.member refl;
-      marked = marked_more input place 1 taken i None r.read.within b.is_item b.lies (begun_mark i taken (drop place input) b) number r.es (r.es ++ e ∷ []) mark mark r.marked (unmarked mark place) refl;
-      are_open = open_kept r.es e groups r.are_open (stays i b.primitive);
-      counted = omega (arith, r.counted, length-append r.es (e ∷ []));
-      keeps = keeps r.es e least r.keeps;
-      begun = omega (arith, r.begun);
-      opened = r.opened;
-    })
+abbrev pub read_least : (number : ℕ) (input : List ℕ) (start place taken : ℕ) (groups kept new : List ℕ) (mark : Option ℕ) (i : Item) → BeginsLeast i taken (drop place input) → taken ≤ length (drop place input)
+    → ((es : List Event) (e : Event) → IsLeast (SpellsEvent e) (take taken (drop place input)) → Keeps mark es kept → Keeps mark (es ++ e ∷ []) new) → Reading number input start place groups kept mark
+    → Reading number input start (place + taken) groups new mark
+read_least number input start place taken groups kept new mark i b within keeps r = record {
+  es = r.es ++ item_event i ∷ [];
+  read = has_read_more number input place taken r.es (r.es ++ item_event i ∷ []) (item_event i) r.read within (begun_least i taken (drop place input) b).member refl;
+  marked = marked_more input place 1 taken i None r.read.within b.is_item b.lies (begun_mark i taken (drop place input) b) number r.es (r.es ++ item_event i ∷ []) mark mark r.marked (unmarked mark place) refl;
+  are_open = open_kept r.es (item_event i) groups r.are_open (stays i b.primitive);
+  keeps = keeps r.es (item_event i) (begun_least i taken (drop place input) b) r.keeps;
+  begun = begun_still start place taken r.begun;
+  opened = r.opened;
+}
+
+-- one more item
+abbrev pub read_next : (number : ℕ) (input : List ℕ) (start place head taken : ℕ) (groups groups' kept kept' : List ℕ) (mark own mark' : Option ℕ) (i : Item) → IsItem i → LiesInFront i head taken (drop place input)
+    → taken ≤ length (drop place input) → SpellsEvent (item_event i) (take taken (drop place input)) → (mark ≡ None → ItemMark (take taken (drop place input)) i own) → mark' ≡ joined_mark mark place own
+    → (r : Reading number input start place groups kept mark) → AreOpen (r.es ++ item_event i ∷ []) groups' → Keeps mark' (r.es ++ item_event i ∷ []) kept' → Reading number input start (place + taken) groups' kept' mark'
+read_next number input start place head taken groups groups' kept kept' mark own mark' i is lies within spelled marks joined r opens keeps = record {
+  es = r.es ++ item_event i ∷ [];
+  read = has_read_more number input place taken r.es (r.es ++ item_event i ∷ []) (item_event i) r.read within spelled refl;
+  marked = behind_marked number input place head taken i r.es mark own mark' r.read.within is lies marks joined r.marked;
+  are_open = opens;
+  keeps = keeps;
+  begun = begun_still start place taken r.begun;
+  opened = r.opened;
+}

@@ -8,10 +8,6 @@ pub went_well : {T E P : Type 0} (r : Result T E) (b : Bool) → b ≡ is_err r 
 went_well (Ok x) b e f h = h
 went_well (Err x) b e f h = absurd (let i : true ≡ false = sym e ∙ f in cc)
 
-pub went_wrong : {T E P : Type 0} (r : Result T E) (b : Bool) → b ≡ is_err r → b ≡ true → OnErr r P → P
-went_wrong (Err x) b e f h = h
-went_wrong (Ok x) b e f h = absurd (let i : true ≡ false = sym f ∙ e in cc)
-
 pub appended : {T E X : Type 0} (r : Result T E) (b : Bool) (xs ys zs : List X) → b ≡ is_err r → b ≡ false → xs ≡ (if is_ok r then ys else zs) → xs ≡ ys
 appended (Ok x) b xs ys zs e f h = h
 appended (Err x) b xs ys zs e f h = absurd (let i : true ≡ false = sym e ∙ f in cc)
@@ -36,3 +32,8 @@ on_err_then (Err x) h f = f h
 pub err_anyway : {T E P : Type 0} (r : Result T E) → P → OnErr r P
 err_anyway (Ok x) p = tt
 err_anyway (Err x) p = p
+
+-- three facts where it is Ok
+pub on_ok_all : {T E P Q R S : Type 0} (r : Result T E) → OnOk r P → OnOk r Q → OnOk r R → (P → Q → R → S) → OnOk r S
+on_ok_all (Ok x) p q r f = f p q r
+on_ok_all (Err x) p q r f = tt

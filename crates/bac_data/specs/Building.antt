@@ -20,17 +20,17 @@ pub record AreOpen (es : List Event) (groups : List ℕ) : Type 0 where
   pub opened : Opens 32 [] es (reverse groups)
   pub numbers : AllByRecursion (λ number. number ≤ 254) groups
 
--- What a builder holds: the canonical octets of its events, how many events these are, and the numbers of the open groups.
-pub record IsBuilding (es : List Event) (octets : List ℕ) (count : ℕ) (groups : List ℕ) : Type 0 where
-  pub least : IsLeast (SpellsEvents es) octets
-  pub counted : count ≡ length es
-  pub are_open : AreOpen es groups
-
 -- What a reader keeps of the events so far: nothing if there is no mark, and else their canonical octets. There is no mark
 -- as long as all octets are the canonical ones.
 abbrev pub Keeps : Option ℕ → List Event → List ℕ → Type 0
 Keeps None es kept = kept ≡ []
 Keeps (Some place) es kept = IsLeast (SpellsEvents es) kept
+
+-- The canonical octets of the events so far. If there is no mark, these are the octets in front, and else those that are
+-- kept.
+abbrev pub held_octets : Option ℕ → List ℕ → List ℕ → List ℕ
+held_octets None front kept = front
+held_octets (Some place) front kept = kept
 
 -- The number of the tag that ends the innermost open group, or the value if no group is open. The tags of the value have
 -- the number that is the first argument.

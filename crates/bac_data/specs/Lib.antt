@@ -3,12 +3,16 @@ pub mod Spells
 pub mod Parts
 pub mod Events
 pub mod Codes
-pub mod Held
+pub mod ShortNodes
+pub mod HeldLists
+pub mod NodeEvents
 pub mod Walks
 pub mod Building
 pub mod Refusals
 pub mod Under
 pub mod Reading
 pub mod Marks
+pub mod Listings
+pub mod Progress
 pub mod Same
 pub mod Laws

@@ -1,10 +1,11 @@
 -- What may be next between the tags of an open value, as a reader meets it. These are the words for one step of read_any.
 -- An item is what one step reads: a primitive with its contents as they are in the input, or a tag. An application
 -- primitive other than a Boolean also says whether its contents are those that are written of their value.
-use Rattle.std.specs.Prelude.{◌≡◌, ◌≢◌, ◌↔◌, ℕ, Bool, true, false, IsTrue, ◌≤◌, None, Some, List, [], ◌∷◌, ◌++◌, length, take}
+use Rattle.std.specs.Prelude.{◌≡◌, ◌≢◌, ◌↔◌, ℕ, Bool, true, false, IsTrue, ◌<◌, ◌≤◌, None, Some, List, [], ◌∷◌, ◌++◌, length, take}
 use Rattle.bac_tag.specs.declared.heads.TagHead.{TagHead}
 use Rattle.bac_tag.specs.declared.heads.TagHead.TheVariants.{App, AppBool, Ctx, Open, Close}
 use Rattle.bac_tag.specs.Heads.{Heads}
+use Rattle.bac_tag.specs.Spelling.{IsLeast}
 use Rattle.bac_tag.specs.declared.expecting.Expected.{Expected}
 use Rattle.bac_tag.specs.declared.expecting.Expected.TheVariants as expected
 use Rattle.bac_value.specs.declared.prim.PrimitiveValue.{PrimitiveValue}
@@ -111,3 +112,11 @@ pub record BeginsLeast (item : Item) (taken : ℕ) (octets : List ℕ) : Type 0 
   pub primitive : IsApplication item
   pub lies : LiesInFront item 1 taken octets
   pub least : HasLeastContents item
+
+-- The item may be next, by MayStand, and the first taken octets are its canonical ones.
+pub record StandsLeast (room : Bool) (number : ℕ) (octets : List ℕ) (item : Item) (taken : ℕ) : Type 0 where
+  pub is_item : IsItem item
+  pub stands : MayStand room number (item_event item)
+  pub some : 0 < taken
+  pub within : taken ≤ length octets
+  pub least : IsLeast (SpellsEvent (item_event item)) (take taken octets)

@@ -1,10 +1,11 @@
 -- A step of a walk as an event.
-use Rattle.std.specs.Prelude.{Option, List, IfSome}
+use Rattle.std.specs.Prelude.{◌≡◌, ℕ, Option, None, Some, List, ◌∷◌, ◌++◌, IfSome}
 use Rattle.std.specs.Iterator.{YieldsFirstBy}
 use Rattle.bac_value.specs.PrimRefValue.{prim_of, IsPackedRef}
 use Rattle.bac_data.specs.declared.walking.Event.{Event as Step}
 use Rattle.bac_data.specs.declared.walking.Event.TheVariants.{App, Ctx, Open, Close}
-use Rattle.bac_data.specs.Events.{Event, application, contextual, opening, closing}
+use Rattle.bac_data.specs.OpenValue.{Elements}
+use Rattle.bac_data.specs.Events.{Event, application, contextual, opening, closing, events}
 
 -- The event that a step of a walk is. A step is the program's Event, in which primitives and contents are borrowed.
 abbrev pub event_of : Step → Event
@@ -22,3 +23,12 @@ IsPackedStep _ = Unit {0}
 -- IsPackedStep. If no event is left, the walk gives no step.
 abbrev pub GivesStep : List Event → Option Step → List Event → Type 0
 GivesStep walk step rest = YieldsFirstBy event_of (λ (left : List Event). left) walk step rest × IfSome step IsPackedStep
+
+-- no group begins these events
+abbrev pub BeginsNoGroup : List Event → Type 0
+BeginsNoGroup walk = (number : ℕ) (others : List Event) → walk ≡ opening number ∷ others → ⊥
+
+-- the group that begins the events is passed over; where none does, the events stay
+abbrev pub SkipsGroup : List Event → Option ℕ → List Event → Type 0
+SkipsGroup walk None rest = (rest ≡ walk) × BeginsNoGroup walk
+SkipsGroup walk (Some number) rest = (inner : Elements) × (walk ≡ opening number ∷ (events inner ++ closing number ∷ rest))

@@ -3,17 +3,14 @@
 ghost use Rattle.std.specs.Prelude.{◌≡◌, ◌≢◌, ◌<◌, ◌↔◌, ◌⊎◌, ℕ, [], ◌∷◌, ◌++◌, length, IfOk, IfErr, IsOk, OnOk, OnErr, IsErrOf};
 ghost use Rattle.bac_data.specs.Events.{application, contextual, opening, closing, events};
 ghost use Rattle.bac_data.specs.Building.{HasOpen, IsInnermost};
-ghost use Rattle.bac_data.specs.Held.{Holds};
-ghost use Rattle.bac_data.specs.Laws.Held.{Holds-prop};
 
 use crate::build_faults::BuildFault;
+use crate::nodes::{Node, NodeList, primitive_node};
 use crate::open_value::Any;
 use crate::writing::{append_context, append_primitive};
-use arrayvec::ArrayVec;
 use bac_tag::layers::append_head;
 use bac_tag::{OutOfMemory, TagHead};
 use bac_value::{Octets, Prim, Primitive};
-use smallvec::SmallVec;
 use std::alloc::Global;
 use std::marker::Model;
 
@@ -39,28 +36,24 @@ pub(crate) const MAX_GROUPS: usize = 32;
 pub struct AnyBuilder {
     /// The canonical octets of the events so far.
     octets: Vec<u8>,
-    /// How many events there are.
-    count: usize,
-    /// The numbers of the open groups, the outermost first.
-    groups: ArrayVec<u8, MAX_GROUPS>,
-    ghost told: { Holds octets.items } by { Holds-prop octets.items },
+    /// Their nodes, and which groups are open.
+    nodes: NodeList,
 }
 
 impl Model for AnyBuilder {
     ghost use Rattle.std.specs.Prelude.{List};
     ghost use Rattle.std.specs.Coded.{coded_list};
     ghost use Rattle.bac_data.specs.Events.{Event};
-    ghost use Rattle.bac_data.specs.Held.{held_events};
+    ghost use Rattle.bac_data.specs.NodeEvents.{node_events, IsHeld};
     ghost use Rattle.bac_data.specs.Codes.{event_code};
-    ghost use Rattle.bac_data.specs.Building.{IsBuilding};
 
     ghost Value = { List Event };
 
     ghost coded = { coded_list event_code };
 
-    ghost view = { λ builder. held_events builder.octets.items builder.told };
+    ghost view = { λ builder. node_events builder.octets.items builder.nodes.nodes.items };
 
-    ghost invariant = { λ builder. IsBuilding (held_events builder.octets.items builder.told) builder.octets.items builder.count builder.groups.items };
+    ghost invariant = { λ builder. IsHeld builder.octets.items builder.nodes.nodes.items builder.nodes.groups.items };
 }
 
 impl AnyBuilder {
@@ -71,11 +64,10 @@ impl AnyBuilder {
     pub fn new(alloc: Global) -> Result<AnyBuilder, OutOfMemory>
         ensures { IfOk result (λ builder. builder ≡ []) }
     {
-        // room for a small value, as most are
+        // Room for a small value, as most are.
         Ok(AnyBuilder {
             octets: Vec::with_capacity(alloc, 64)?,
-            count: 0,
-            groups: ArrayVec::new(),
+            nodes: NodeList::new(alloc),
         })
     }
 
@@ -87,10 +79,14 @@ impl AnyBuilder {
         ensures ok { OnOk result (self.new ≡ self.old ++ application prim ∷ []) }
         ensures err { IfErr result (λ back. (back.0 ≡ prim) × (back.1 ≡ BuildFault.OutOfMemory) × (self.new ≡ self.old)) }
     {
+        if self.nodes.reserve().is_err() {
+            return Err((prim, BuildFault::OutOfMemory));
+        }
         if append_primitive(&prim, &mut self.octets).is_err() {
             return Err((prim, BuildFault::OutOfMemory));
         }
-        self.count += 1;
+        let node = primitive_node(&prim, self.octets.len());
+        self.nodes.push(node);
         Ok(())
     }
 
@@ -116,10 +112,17 @@ impl AnyBuilder {
         if octets.len() > Octets::LONGEST {
             return Err(BuildFault::TooLong);
         }
+        if self.nodes.reserve().is_err() {
+            return Err(BuildFault::OutOfMemory);
+        }
         if append_context(number, octets, &mut self.octets).is_err() {
             return Err(BuildFault::OutOfMemory);
         }
-        self.count += 1;
+        self.nodes.push(Node::Context {
+            number,
+            len: octets.len() as u32,
+            start: self.octets.len() - octets.len(),
+        });
         Ok(())
     }
 
@@ -141,14 +144,16 @@ impl AnyBuilder {
         if number == 255 {
             return Err(BuildFault::Number);
         }
-        if self.groups.len() >= MAX_GROUPS {
+        if self.nodes.depth() >= MAX_GROUPS {
             return Err(BuildFault::Depth);
+        }
+        if self.nodes.reserve().is_err() {
+            return Err(BuildFault::OutOfMemory);
         }
         if append_head(TagHead::Open(number), &mut self.octets).is_err() {
             return Err(BuildFault::OutOfMemory);
         }
-        self.groups.push(number);
-        self.count += 1;
+        self.nodes.open(number);
         Ok(())
     }
 
@@ -165,15 +170,16 @@ impl AnyBuilder {
         ensures others { IfErr result (λ fault. (fault ≡ BuildFault.NothingOpen) ⊎ (fault ≡ BuildFault.OutOfMemory)) }
         ensures err { OnErr result (self.new ≡ self.old) }
     {
-        if self.groups.is_empty() {
+        let Some(number) = self.nodes.innermost() else {
             return Err(BuildFault::NothingOpen);
+        };
+        if self.nodes.reserve().is_err() {
+            return Err(BuildFault::OutOfMemory);
         }
-        let number = self.groups[self.groups.len() - 1];
         if append_head(TagHead::Close(number), &mut self.octets).is_err() {
             return Err(BuildFault::OutOfMemory);
         }
-        self.groups.pop();
-        self.count += 1;
+        self.nodes.close(number);
         Ok(())
     }
 
@@ -186,9 +192,9 @@ impl AnyBuilder {
         ensures complete { IsOk result ↔ HasOpen 32 self 0 }
         ensures back { IfErr result (λ back. (back.0 ≡ self) × (back.1 ≡ BuildFault.StillOpen)) }
     {
-        if !self.groups.is_empty() {
+        if self.nodes.depth() != 0 {
             return Err((self, BuildFault::StillOpen));
         }
-        Ok(Any::of_octets(SmallVec::from_vec(self.octets), self.count))
+        Ok(Any::of_lists(self.octets, self.nodes.into_nodes()))
     }
 }

@@ -85,7 +85,7 @@ pub fn canonical_any_len(octets: &[u8], number: u8) -> Option<usize>
     let mut groups = ArrayVec::new();
     let mut place = 1;
     loop {
-        if let Some(taken) = least_primitive(&octets[place..]) {
+        if let Some((_, taken)) = least_primitive(&octets[place..]) {
             place += taken;
             continue;
         }

@@ -12,7 +12,7 @@ ghost use Rattle.bac_data.specs.Refusals.{IsContentsReason, IsItemReason, Begins
 ghost use Rattle.bac_data.specs.declared.items.Item.{Item};
 ghost use Rattle.bac_data.specs.Under.{Under, HasContents};
 ghost use Rattle.bac_data.specs.Events.{SpellsEvent};
-ghost use Rattle.bac_data.specs.Reading.{SpellsStanding, next_heads, item_event, item_contents, item_head, IsItem, HasLeastContents, LiesInFront, BeginsLeast};
+ghost use Rattle.bac_data.specs.Reading.{SpellsStanding, next_heads, item_event, item_contents, item_head, IsItem, HasLeastContents, LiesInFront, BeginsLeast, StandsLeast};
 
 use bac_tag::layers::{
     Expected, is_short_closing, quick_head, read_one_of, short_boolean, short_len,
@@ -246,27 +246,92 @@ fn told(refusal: Refusal, octets: &[u8], room: bool) -> Refusal
     Why::Depth.at(0)
 }
 
-/// Returns how many octets the application primitive at the front takes, if they are its canonical ones and its head
-/// has one octet. None is inconclusive.
+/// Returns the application primitive at the front and how many octets it takes, if they are its canonical ones and its
+/// head has one octet. None is inconclusive.
 #[inline(always)]
-pub(crate) fn least_primitive(octets: &[u8]) -> Option<usize>
-    ensures within { IfSome result (λ taken. taken ≤ length octets.now) }
-    ensures found { IfSome result (λ taken. (item : Item) × BeginsLeast item taken octets.now) }
+pub(crate) fn least_primitive(octets: &[u8]) -> Option<(Item<'_>, usize)>
+    ensures within { IfSome result (λ found. found.1 ≤ length octets.now) }
+    ensures found { IfSome result (λ found. BeginsLeast found.0 found.1 octets.now) }
 {
     let number = *octets.first()? >> 4;
     if number > 12 {
         return None;
     }
     if number == 1 {
-        short_boolean(octets)?;
-        return Some(1);
+        let bit = short_boolean(octets)?;
+        return Some((Item::Boolean(bit), 1));
     }
     let size = short_len(octets, false, number)?;
     let contents = octets[1..].get(..size)?;
-    if are_written(number, contents) {
-        Some(1 + size)
-    } else {
-        None
+    if !are_written(number, contents) {
+        return None;
+    }
+    let item = Item::Application {
+        number,
+        contents,
+        written: true,
+    };
+    Some((item, 1 + size))
+}
+
+/// Returns the next item and how many octets it takes, if it is found at once that these are its canonical ones. `room`
+/// says whether a group may begin. `closing` is the number of the innermost group, or of the value if no group is open.
+/// None is inconclusive.
+#[inline(always)]
+fn quick_least(octets: &[u8], room: bool, closing: u8) -> Option<(Item<'_>, usize)>
+    ensures { IfSome result (λ found. StandsLeast room closing octets.now found.0 found.1) }
+{
+    let (head, start) = quick_head(octets)?;
+    if start != head_len(head) {
+        return None;
+    }
+    match head {
+        TagHead::Close(number) => {
+            if number != closing {
+                return None;
+            }
+            Some((Item::Close(number), start))
+        }
+        TagHead::Open(number) => {
+            if !room {
+                return None;
+            }
+            Some((Item::Open(number), start))
+        }
+        TagHead::Ctx { number, len } => {
+            let size = len as usize;
+            if size > Octets::LONGEST {
+                return None;
+            }
+            let octets = octets[start..].get(..size)?;
+            Some((Item::Context { number, octets }, start + size))
+        }
+        TagHead::App { number, len } => {
+            let size = len as usize;
+            let contents = octets[start..].get(..size)?;
+            if !are_written(number, contents) {
+                return None;
+            }
+            let item = Item::Application {
+                number,
+                contents,
+                written: true,
+            };
+            Some((item, start + size))
+        }
+        TagHead::AppBool(_) => None,
+    }
+}
+
+/// Returns the next item and how many octets it takes, if it is found at once that these are its canonical ones, as
+/// [`least_primitive`] and otherwise `quick_least` find it. None is inconclusive.
+#[inline(always)]
+pub(crate) fn next_canonical(octets: &[u8], room: bool, closing: u8) -> Option<(Item<'_>, usize)>
+    ensures { IfSome result (λ found. StandsLeast room closing octets.now found.0 found.1) }
+{
+    match least_primitive(octets) {
+        Some(found) => Some(found),
+        None => quick_least(octets, room, closing),
     }
 }
 

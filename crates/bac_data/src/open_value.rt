@@ -1,65 +1,55 @@
 //! An open value (clause 20.2).
 
-ghost use Rattle.std.specs.Prelude.{◌≡◌, ◌≤◌, ◌↔◌, IsTrue, ℕ, List, [], length};
+ghost use Rattle.std.specs.Prelude.{◌≡◌, ◌≤◌, ◌↔◌, IsTrue, ℕ, List, [], length, Some, slice_get, IfSome, MatchOption};
 ghost use Rattle.std.specs.Cmp.{partial_equiv_from_equiv};
 ghost use Rattle.bac_tag.specs.Spelling.{IsLeast};
 ghost use Rattle.bac_data.specs.OpenValue.{depth, IsOpenValue};
 ghost use Rattle.bac_data.specs.Spells.{SpellsAll};
-ghost use Rattle.bac_data.specs.Events.{Event as EventOf, events, Opens, SpellsEvents};
-ghost use Rattle.bac_data.specs.Held.{Holds};
-ghost use Rattle.bac_data.specs.Laws.Held.{Holds-prop};
+ghost use Rattle.bac_data.specs.Events.{events, SpellsEvents};
+ghost use Rattle.bac_data.specs.HeldLists.{octets_of, nodes_of, IsSound};
+ghost use Rattle.bac_data.specs.NodeEvents.{node_events, IsHeld};
 ghost use Rattle.bac_data.specs.Same.{same_values};
 ghost use Rattle.bac_data.specs.Laws.Same.{same_values_equiv};
+ghost use Rattle.bac_data.specs.Walks.{event_of, IsPackedStep};
 
+use crate::held::Held;
+use crate::nodes::{Node, event_at};
 use crate::walking::{Event, Events};
-use smallvec::SmallVec;
 use std::alloc::AllocError;
 use std::marker::Model;
-
-/// How many octets a value holds in itself at most, if it was read in canonical octets or copied. They then need no
-/// memory. Most values have no more.
-const SHORT: usize = 16;
 
 /// An open value: a list of elements, which may be empty. Each is an application primitive, a context primitive
 /// (its number and its contents) or a group (its number and its elements). Numbers are 0 to 254, contents have at
 /// most 1,048,576 octets, and at most 32 groups nest.
-// The count is before the octets. So a result has the tag of the octets where a refusal has its reason, which is one
-// octet too, and no word is moved in pieces.
 #[derive(Debug)]
 pub struct Any {
-    /// How many events it has.
-    count: usize,
-    /// The canonical octets of its events.
-    octets: SmallVec<u8, SHORT>,
-    ghost told: { Holds octets.items } by { Holds-prop octets.items },
+    /// The canonical octets of its events, and one node for each of them.
+    held: Held,
 }
 
 impl Drop for Any {
     // Written here, so that how an open value is freed is proved once and not wherever one is dropped.
     #[inline(always)]
     fn drop(self) {
-        let Any {
-            octets: _,
-            count: _,
-        } = self;
+        let Any { held: _ } = self;
     }
 }
 
 impl Model for Any {
-    ghost use Rattle.std.specs.Prelude.{◌≡◌, [], length};
-    ghost use Rattle.bac_tag.specs.Spelling.{IsLeast};
+    ghost use Rattle.std.specs.Prelude.{[]};
     ghost use Rattle.bac_data.specs.OpenValue.{Elements};
-    ghost use Rattle.bac_data.specs.Held.{held_events};
-    ghost use Rattle.bac_data.specs.Events.{value_of_events, Opens, SpellsEvents};
+    ghost use Rattle.bac_data.specs.HeldLists.{octets_of, nodes_of, IsSound};
+    ghost use Rattle.bac_data.specs.NodeEvents.{node_events, IsHeld};
+    ghost use Rattle.bac_data.specs.Events.{value_of_events};
     ghost use Rattle.bac_data.specs.Codes.{elements_code};
 
     ghost Value = { Elements };
 
     ghost coded = { elements_code };
 
-    ghost view = { λ any. value_of_events (held_events any.octets.items any.told) };
+    ghost view = { λ any. value_of_events (node_events (octets_of any.held) (nodes_of any.held)) };
 
-    ghost invariant = { λ any. IsLeast (SpellsEvents (held_events any.octets.items any.told)) any.octets.items × Opens 32 [] (held_events any.octets.items any.told) [] × (any.count ≡ length (held_events any.octets.items any.told)) };
+    ghost invariant = { λ any. IsSound any.held × IsHeld (octets_of any.held) (nodes_of any.held) [] };
 }
 
 /// A walk over the value, as [`Any::events`] gives it.
@@ -89,7 +79,7 @@ impl PartialEq for Any {
         ensures answer { result ≡ same_values self.now other.now }
         ensures same { IsTrue result ↔ (self.now ≡ other.now) }
     {
-        self.octets.as_slice() == other.octets.as_slice()
+        self.held.octets() == other.held.octets()
     }
 }
 
@@ -104,23 +94,29 @@ impl Clone for Any {
     /// # Errors
     /// `AllocError` if memory is refused.
     fn clone(&self) -> Result<Any, AllocError> {
-        let alloc = *self.octets.allocator();
-        let octets = SmallVec::from_slice(alloc, self.octets.as_slice())?;
-        Ok(Any {
-            octets,
-            count: self.count,
-        })
+        let held = self.held.copied()?;
+        Ok(Any { held })
     }
 }
 
 impl Any {
-    /// Returns the value with `count` events whose canonical octets are `octets`.
-    #[inline(always)]
-    pub(crate) fn of_octets(octets: SmallVec<u8, SHORT>, count: usize) -> Any
-        requires { (es : List EventOf) × IsLeast (SpellsEvents es) octets.items × Opens 32 [] es [] × (count ≡ length es) }
-        ensures { (es : List EventOf) → IsLeast (SpellsEvents es) octets.items → events result ≡ es }
+    /// Returns the value with these canonical octets and these nodes. The call takes no memory.
+    pub(crate) fn of_lists(octets: Vec<u8>, nodes: Vec<Node>) -> Any
+        requires { IsHeld octets.items nodes.items [] }
+        ensures { events result ≡ node_events octets.items nodes.items }
     {
-        Any { octets, count }
+        let held = Held::of_lists(octets, nodes);
+        Any { held }
+    }
+
+    /// Returns the value that is held.
+    #[inline(always)]
+    pub(crate) fn of_held(held: Held) -> Any
+        requires sound { IsSound held }
+        requires held { IsHeld (octets_of held) (nodes_of held) [] }
+        ensures { events result ≡ node_events (octets_of held) (nodes_of held) }
+    {
+        Any { held }
     }
 
     /// Returns the canonical octets of its events.
@@ -129,7 +125,7 @@ impl Any {
         ensures least { IsLeast (SpellsEvents (events self.now)) result.now }
         ensures depth { depth self.now ≤ 32 }
     {
-        self.octets.as_slice()
+        self.held.octets()
     }
 
     /// Returns a walk over the events of the value, in their order. The tags around the value are not among them. The
@@ -152,7 +148,7 @@ impl Any {
         ensures events { result ≡ events self.now }
         ensures value { IsOpenValue 32 self.now }
     {
-        Events::over(self.octets.as_slice(), self.count)
+        Events::over(&self.held)
     }
 
     /// Returns how many events a walk over the value has: at most the number of octets between the tags in any of its
@@ -161,6 +157,27 @@ impl Any {
         ensures count { result ≡ length (events self.now) }
         ensures most { (b : List ℕ) → SpellsAll self.now b → result ≤ length b }
     {
-        self.count
+        self.held.count()
+    }
+
+    /// Returns the event with this index, counted from 0, of those that a walk over the value has, or None if it has no
+    /// more than `index`. The call takes no step through the events before it.
+    ///
+    /// # Examples
+    /// ```rust
+    /// use bac_data::{Event, read_any};
+    ///
+    /// let (value, _) = read_any(rt.alloc(), &[0x3E, 0x2E, 0x19, 0x55, 0x2F, 0x3F], 3)?;
+    /// assert_eq!(rt; value.event(1), Some(Event::Ctx(1, &[0x55])));
+    /// assert_eq!(rt; value.event(3), None);
+    /// ```
+    pub fn event(&self, index: usize) -> Option<Event<'_>>
+        ensures event { MatchOption result (length (events self.now) ≤ index) (λ event. slice_get (events self.now) index ≡ Some (event_of event)) }
+        ensures packed { IfSome result IsPackedStep }
+    {
+        if index >= self.held.count() {
+            return None;
+        }
+        Some(event_at(self.held.octets(), self.held.node(index)))
     }
 }

@@ -1,25 +1,34 @@
 //! Reading an open value.
 
-ghost use Rattle.std.specs.Prelude.{◌≡◌, ◌≢◌, ◌≤◌, ◌<◌, ◌+◌, ◌^◌, ◌↔◌, ◌∷◌, ◌++◌, [], IsTrue, ℕ, List, Option, None, Some, Ok, length, reverse, take, IfSome, IfOk, IfErr, OnOk};
+ghost use Rattle.std.specs.Prelude.{◌≡◌, ◌≢◌, ◌≤◌, ◌<◌, ◌+◌, ◌^◌, ◌↔◌, ◌∷◌, ◌++◌, [], IsTrue, ℕ, List, Option, None, Some, Ok, drop, length, reverse, take, IfSome, IfOk, IfErr, OnOk};
 ghost use Rattle.std.specs.List.{AllByRecursion};
 ghost use Rattle.bac_tag.specs.Octets.{IsMark, joined_mark};
 ghost use Rattle.bac_tag.specs.Spelling.{IsLeast, IsRefusal, Takes};
 ghost use Rattle.bac_tag.specs.Heads.{Heads};
+ghost use Rattle.bac_tag.specs.Refusals.{IsHeadReason};
 ghost use Rattle.bac_data.specs.Spells.{SpellsOpen};
-ghost use Rattle.bac_data.specs.Events.{Event, closing, events, SpellsEvent, SpellsEvents};
-ghost use Rattle.bac_tag.specs.declared.heads.TagHead.TheVariants.{Close};
-ghost use Rattle.bac_data.specs.Reading.{item_event, IsItem, LiesInFront};
+ghost use Rattle.bac_data.specs.Events.{Event, closing, events, Opens, SpellsEvent, SpellsEvents};
+ghost use Rattle.bac_tag.specs.declared.heads.TagHead.TheVariants.{Open, Close};
+ghost use Rattle.bac_data.specs.Reading.{item_event, IsItem, LiesInFront, StandsLeast};
 ghost use Rattle.bac_data.specs.Refusals.{IsOpenValueReason, IsTooDeep};
-ghost use Rattle.bac_data.specs.Building.{AreOpen, Keeps, MayFollow, closing_number};
+ghost use Rattle.bac_data.specs.Building.{AreOpen, Keeps, MayFollow, closing_number, held_octets};
+ghost use Rattle.bac_data.specs.NodeEvents.{node_events, IsHeld};
+ghost use Rattle.bac_data.specs.HeldLists.{octets_of, nodes_of, IsSound};
+ghost use Rattle.bac_data.specs.Listings.{listed_nodes, Lists};
+ghost use Rattle.bac_data.specs.Progress.{Progress, Continues, Closes};
 
 use crate::building::MAX_GROUPS;
-use crate::items::{Item, is_least, least_primitive, read_item};
+use crate::held::Held;
+use crate::items::{Item, is_least, next_canonical, read_item};
+use crate::listing::Listing;
 use crate::open_value::Any;
+use crate::short_nodes::short_octets;
 use crate::writing::append_item;
 use arrayvec::ArrayVec;
-use bac_tag::layers::{Expected, first_difference, joined_marks, mark_read_head, read_expected};
+use bac_tag::layers::{
+    Expected, first_difference, is_short_opening, joined_marks, mark_read_head, read_expected,
+};
 use bac_tag::{OutOfMemory, Refusal, TagHead, Why};
-use smallvec::SmallVec;
 use std::alloc::Global;
 
 /// Returns whether another group may begin inside these open ones, and the number of the innermost one. If none is
@@ -113,17 +122,6 @@ fn keep(
     Ok(first_difference(octets, &kept[start..]))
 }
 
-/// Keeps the canonical octets of an item, if the octets before it have a mark.
-#[inline(always)]
-fn keep_octets(octets: &[u8], mark: Option<usize>, kept: &mut Vec<u8>) -> Result<(), OutOfMemory>
-    ensures { OnOk result ((es : List Event) (event : Event) → IsLeast (SpellsEvent event) octets.now → Keeps mark es kept.old.items → Keeps mark (es ++ event ∷ []) kept.new.items) }
-{
-    if mark.is_some() {
-        kept.extend_from_slice(octets)?;
-    }
-    Ok(())
-}
-
 /// The capacity for what follows the first octet that is not canonical. Most values have less.
 const ROOM: usize = 48;
 
@@ -136,24 +134,248 @@ fn begin(front: &[u8], kept: &mut Vec<u8>) -> Result<(), OutOfMemory>
     Ok(())
 }
 
-/// Returns the value with `count` events. Their canonical octets are `front` if there is no mark, and `kept` if there
-/// is one.
+/// Returns how many canonical octets the events so far have: `front` if there is no mark, else as many as are kept.
 #[inline(always)]
-fn finish(
+fn held_len(mark: Option<usize>, front: usize, kept: &Vec<u8>) -> usize
+    ensures { (octets : List ℕ) → length octets ≡ front → result ≡ length (held_octets mark octets kept.now.items) }
+{
+    if mark.is_none() { front } else { kept.len() }
+}
+
+/// Reads the opening tag with this number at the front of the octets. Returns how many octets it takes, and their mark.
+///
+/// # Errors
+/// As those of `bac_tag::read_one_of`.
+#[inline(always)]
+fn read_opening(octets: &[u8], number: u8) -> Result<(usize, Option<usize>), Refusal>
+    requires { number ≤ 254 }
+    ensures within { IfOk result (λ found. found.0 ≤ length octets.now) }
+    ensures opened { IfOk result (λ found. Heads (Open number) (take found.0 octets.now)) }
+    ensures mark { IfOk result (λ found. (b : List ℕ) → IsLeast (Heads (Open number)) b → IsMark (take found.0 octets.now) b found.1) }
+    ensures refused { IfErr result (IsRefusal (SpellsOpen 32 number) octets.now) }
+    ensures reasons { IfErr result (λ refusal. IsHeadReason refusal.why) }
+{
+    if is_short_opening(octets, number) {
+        return Ok((1, None));
+    }
+    let (opening, start) = read_expected(octets, Expected::Open(Some(number)))?;
+    let mark = mark_read_head(&octets[..start], opening, TagHead::Open(number));
+    Ok((start, mark))
+}
+
+/// Reads items in canonical octets from `from` on, as many as are found at once, and lists their nodes. Before them
+/// there are `held` canonical octets. Returns where they end, and how many octets the closing tag of the value takes
+/// there, if it is found at once in its canonical octets.
+///
+/// # Errors
+/// `OutOfMemory` if memory is refused.
+#[inline(always)]
+fn read_canonical(
+    octets: &[u8],
+    number: u8,
+    from: usize,
+    held: usize,
+    nodes: &mut Listing,
+) -> Result<(usize, Option<usize>), OutOfMemory>
+    requires number { number ≤ 254 }
+    requires from { from ≤ length octets.now }
+    requires held { held ≤ from }
+    requires lists { (es : List Event) × (canonical : List ℕ) × (numbers : List ℕ) × Lists number nodes.old es canonical numbers × (length canonical ≡ held) }
+    ensures from { IfOk result (λ found. from ≤ found.0) }
+    ensures within { IfOk result (λ found. found.0 ≤ length octets.now) }
+    ensures continues { IfOk result (λ found. (es : List Event) (canonical numbers : List ℕ) → Lists number nodes.old es canonical numbers → length canonical ≡ held → Continues number octets.now from found.0 nodes.new es canonical) }
+    ensures closes { IfOk result (λ found. IfSome found.1 (Closes number octets.now found.0 nodes.new)) }
+{
+    let mut place = from;
+    loop {
+        let (room, closing) = nodes.place();
+        let Some((item, taken)) = next_canonical(&octets[place..], room, closing) else {
+            return Ok((place, None));
+        };
+        if nodes.is_closed() && ends(item, number) {
+            return Ok((place, Some(taken)));
+        }
+        place += taken;
+        nodes.add(item, held + (place - from))?;
+    }
+}
+
+/// Returns what holds these canonical octets and these nodes.
+///
+/// # Errors
+/// `OutOfMemory` if memory is refused.
+#[inline(always)]
+fn hold(front: &[u8], nodes: Listing, alloc: Global) -> Result<Held, OutOfMemory>
+    requires { (number : ℕ) × (es : List Event) × (numbers : List ℕ) × Lists number nodes es front.now numbers }
+    ensures octets { IfOk result (λ held. octets_of held ≡ front.now) }
+    ensures nodes { IfOk result (λ held. nodes_of held ≡ listed_nodes nodes) }
+    ensures sound { IfOk result IsSound }
+{
+    if nodes.are_few() {
+        return Ok(nodes.hold(short_octets(front), front.len()));
+    }
+    let octets = Vec::from_slice(alloc, front)?;
+    Ok(nodes.hold_many(octets))
+}
+
+/// Returns what holds these nodes and their canonical octets, which are `front` if there is no mark, and else those that
+/// are kept.
+///
+/// # Errors
+/// `OutOfMemory` if memory is refused.
+#[inline(always)]
+fn hold_kept(
     front: &[u8],
     mark: Option<usize>,
     kept: Vec<u8>,
-    count: usize,
-) -> Result<Any, OutOfMemory>
-    requires { (es : List Event) × Keeps mark es kept.items × (mark ≡ None → IsLeast (SpellsEvents es) front.now) × AreOpen es [] × (count ≡ length es) }
-    ensures { IfOk result (λ value. (es : List Event) → Keeps mark es kept.items → (mark ≡ None → IsLeast (SpellsEvents es) front.now) → events value ≡ es) }
+    nodes: Listing,
+) -> Result<Held, OutOfMemory>
+    requires { (number : ℕ) × (es : List Event) × (numbers : List ℕ) × Lists number nodes es (held_octets mark front.now kept.items) numbers }
+    ensures octets { IfOk result (λ held. octets_of held ≡ held_octets mark front.now kept.items) }
+    ensures nodes { IfOk result (λ held. nodes_of held ≡ listed_nodes nodes) }
+    ensures sound { IfOk result IsSound }
 {
-    let octets = if mark.is_none() {
-        SmallVec::from_slice(*kept.allocator(), front)?
-    } else {
-        SmallVec::from_vec(kept)
-    };
-    Ok(Any::of_octets(octets, count))
+    if mark.is_none() {
+        return hold(front, nodes, *kept.allocator());
+    }
+    if nodes.are_few() {
+        return Ok(nodes.hold(short_octets(kept.as_slice()), kept.len()));
+    }
+    Ok(nodes.hold_many(kept))
+}
+
+/// Returns the value that is held, how many octets it takes, and its mark.
+///
+/// # Errors
+/// `OutOfMemory` at 0 if memory was refused.
+#[inline(always)]
+fn finish(
+    held: Result<Held, OutOfMemory>,
+    taken: usize,
+    mark: Option<usize>,
+) -> Result<(Any, usize, Option<usize>), Refusal>
+    requires { IfOk held (λ held. IsSound held × IsHeld (octets_of held) (nodes_of held) []) }
+    ensures value { IfOk result (λ found. (es : List Event) → IfOk held (λ held. node_events (octets_of held) (nodes_of held) ≡ es) → events found.0 ≡ es) }
+    ensures taken { IfOk result (λ found. found.1 ≡ taken) }
+    ensures mark { IfOk result (λ found. found.2 ≡ mark) }
+    ensures err { IfErr result (λ refusal. refusal ≡ record { place = 0; why = Why.OutOfMemory }) }
+{
+    match held {
+        Ok(held) => Ok((Any::of_held(held), taken, mark)),
+        Err(_) => Err(Refusal::out_of_memory()),
+    }
+}
+
+/// Keeps the canonical octets of an item, as [`keep`] does, and lists its node. The item with the length of its head and
+/// its own is what was found at `place`. Returns the mark of the octets up to the end of the item.
+///
+/// # Errors
+/// `OutOfMemory` if memory is refused.
+#[inline(always)]
+fn keep_item(
+    octets: &[u8],
+    start: usize,
+    place: usize,
+    mark: Option<usize>,
+    found: (Item<'_>, usize, usize),
+    kept: &mut Vec<u8>,
+    nodes: &mut Listing,
+) -> Result<Option<usize>, OutOfMemory>
+    requires item { IsItem found.0 }
+    requires within { place + found.2 ≤ length octets.now }
+    requires lies { LiesInFront found.0 found.1 found.2 (drop place octets.now) }
+    requires spelled { SpellsEvent (item_event found.0) (take found.2 (drop place octets.now)) }
+    requires progress { (number : ℕ) × (progress : Progress number octets.now start place kept.old.items mark nodes.old) × (behind : List ℕ) × Opens 32 progress.numbers (item_event found.0 ∷ []) behind }
+    ensures { IfOk result (λ joined. (number : ℕ) (progress : Progress number octets.now start place kept.old.items mark nodes.old) (behind : List ℕ) → Opens 32 progress.numbers (item_event found.entry.0 ∷ []) behind → Progress number octets.now start (place + found.entry.2) kept.new.items joined nodes.new) }
+{
+    let (item, head, taken) = found;
+    let end = place + taken;
+    let own = keep(&octets[start..place], mark, &octets[place..end], head, item, kept)?;
+    let joined = joined_marks(mark, place, own);
+    nodes.add(item, held_len(joined, end - start, kept))?;
+    Ok(joined)
+}
+
+/// Reads items in canonical octets behind the mark, as [`read_canonical`] does, and keeps their octets.
+///
+/// # Errors
+/// `OutOfMemory` if memory is refused.
+#[inline(always)]
+fn keep_canonical(
+    octets: &[u8],
+    number: u8,
+    place: usize,
+    kept: &mut Vec<u8>,
+    nodes: &mut Listing,
+) -> Result<(usize, Option<usize>), OutOfMemory>
+    requires number { number ≤ 254 }
+    requires progress { (start : ℕ) × (mark : ℕ) × Progress number octets.now start place kept.old.items (Some mark) nodes.old }
+    ensures from { IfOk result (λ found. place ≤ found.0) }
+    ensures progress { IfOk result (λ found. (start mark : ℕ) → Progress number octets.now start place kept.old.items (Some mark) nodes.old → Progress number octets.now start found.0 kept.new.items (Some mark) nodes.new) }
+    ensures closes { IfOk result (λ found. IfSome found.1 (Closes number octets.now found.0 nodes.new)) }
+{
+    let (end, closed) = read_canonical(octets, number, place, kept.len(), nodes)?;
+    kept.extend_from_slice(&octets[place..end])?;
+    Ok((end, closed))
+}
+
+/// Reads the rest of a value with this number from `place` on. The octets before it have this mark, and the opening tag
+/// has the first `start` of them.
+///
+/// # Errors
+/// As those of [`read_any`].
+#[inline(never)]
+fn read_rest(
+    octets: &[u8],
+    number: u8,
+    start: usize,
+    place: usize,
+    mark: Option<usize>,
+    nodes: Listing,
+    alloc: Global,
+) -> Result<(Any, usize, Option<usize>), Refusal>
+    requires number { number ≤ 254 }
+    requires progress { Progress number octets.now start place [] mark nodes }
+    ensures found { IfOk result (λ found. Takes (SpellsOpen 32 number) octets.now (found.0, found.1)) }
+    ensures mark { IfOk result (λ found. (b : List ℕ) → IsLeast (SpellsOpen 32 number found.0) b → IsMark (take found.1 octets.now) b found.2) }
+    ensures refused { IfErr result (λ refusal. refusal.why ≢ Why.OutOfMemory → IsRefusal (SpellsOpen 32 number) octets.now refusal) }
+    ensures memory { IfErr result (λ refusal. refusal.why ≡ Why.OutOfMemory → refusal.place ≡ 0) }
+    ensures depth { IfErr result (λ refusal. refusal.why ≡ Why.Depth → IsTooDeep 32 number octets.now refusal.place) }
+    ensures reasons { IfErr result (λ refusal. IsOpenValueReason refusal.why) }
+{
+    let mut place = place;
+    let mut mark = mark;
+    let mut nodes = nodes;
+    let mut kept = Vec::new(alloc);
+    loop {
+        let (room, closing) = nodes.place();
+        let found = match read_item(&octets[place..], room, closing) {
+            Ok(found) => found,
+            Err(refusal) => return Err(refusal.behind(place)),
+        };
+        if nodes.is_closed() && ends(found.0, number) {
+            let tag = &octets[place..place + found.1];
+            let behind = mark_closing(mark, place, tag, number);
+            let held = hold_kept(&octets[start..place], mark, kept, nodes);
+            return finish(held, place + found.2, behind);
+        }
+        let Ok(joined) = keep_item(octets, start, place, mark, found, &mut kept, &mut nodes) else {
+            return Err(Refusal::out_of_memory());
+        };
+        mark = joined;
+        place += found.2;
+        if mark.is_none() {
+            continue;
+        }
+        let Ok((end, closed)) = keep_canonical(octets, number, place, &mut kept, &mut nodes) else {
+            return Err(Refusal::out_of_memory());
+        };
+        place = end;
+        if let Some(taken) = closed {
+            let held = hold_kept(&octets[start..place], mark, kept, nodes);
+            return finish(held, place + taken, mark);
+        }
+    }
 }
 
 /// Reads the open value (clause 20.2) at the front of the octets, in any tolerated spelling. Returns it, and how many
@@ -218,41 +440,16 @@ pub fn read_any_marked(
     ensures depth { IfErr result (λ refusal. refusal.why ≡ Why.Depth → IsTooDeep 32 number octets.now refusal.place) }
     ensures reasons { IfErr result (λ refusal. IsOpenValueReason refusal.why) }
 {
-    let (opening, start) = read_expected(octets, Expected::Open(Some(number)))?;
-    let mut mark = mark_read_head(&octets[..start], opening, TagHead::Open(number));
-    let mut groups = ArrayVec::new();
-    let mut kept = Vec::new(alloc);
-    let mut count = 0;
-    let mut place = start;
-    loop {
-        if let Some(taken) = least_primitive(&octets[place..]) {
-            if keep_octets(&octets[place..place + taken], mark, &mut kept).is_err() {
-                return Err(Refusal::out_of_memory());
-            }
-            count += 1;
-            place += taken;
-            continue;
-        }
-        let (room, closing) = place_in(&groups, number);
-        let (item, head, taken) = match read_item(&octets[place..], room, closing) {
-            Ok(found) => found,
-            Err(refusal) => return Err(refusal.behind(place)),
-        };
-        if groups.is_empty() && ends(item, number) {
-            let behind = mark_closing(mark, place, &octets[place..place + head], number);
-            return match finish(&octets[start..place], mark, kept, count) {
-                Ok(value) => Ok((value, place + taken, behind)),
-                Err(_) => Err(Refusal::out_of_memory()),
-            };
-        }
-        let front = &octets[start..place];
-        let own = &octets[place..place + taken];
-        mark = match keep(front, mark, own, head, item, &mut kept) {
-            Ok(own) => joined_marks(mark, place, own),
-            Err(_) => return Err(Refusal::out_of_memory()),
-        };
-        follow(&mut groups, item);
-        count += 1;
-        place += taken;
+    let (start, mark) = read_opening(octets, number)?;
+    let mut nodes = Listing::new(alloc, number);
+    if mark.is_some() {
+        return read_rest(octets, number, start, start, mark, nodes, alloc);
+    }
+    let Ok((end, closed)) = read_canonical(octets, number, start, 0, &mut nodes) else {
+        return Err(Refusal::out_of_memory());
+    };
+    match closed {
+        Some(taken) => finish(hold(&octets[start..end], nodes, alloc), end + taken, None),
+        None => read_rest(octets, number, start, end, None, nodes, alloc),
     }
 }

@@ -1,17 +1,14 @@
 //! The events of a walk over an open value, one after another.
 
-ghost use Rattle.std.specs.Prelude.{◌≡◌, ◌≤◌, ◌∷◌, List, drop, length};
+ghost use Rattle.std.specs.Prelude.{◌≡◌, [], length};
 ghost use Rattle.std.specs.Iterator.{item_count};
-ghost use Rattle.bac_tag.specs.Heads.{Heads};
-ghost use Rattle.bac_tag.specs.Spelling.{IsLeast, Takes};
-ghost use Rattle.bac_data.specs.Events.{Event as EventOf, SpellsEvents};
-ghost use Rattle.bac_data.specs.Held.{Holds};
-ghost use Rattle.bac_data.specs.Laws.Held.{Holds-prop};
-ghost use Rattle.bac_data.specs.Walks.{event_of, IsPackedStep, GivesStep};
+ghost use Rattle.bac_data.specs.HeldLists.{octets_of, nodes_of, IsSound};
+ghost use Rattle.bac_data.specs.NodeEvents.{node_events, AreNodes};
+ghost use Rattle.bac_data.specs.Walks.{GivesStep, SkipsGroup};
 
-use bac_tag::layers::quick_head;
-use bac_tag::{TagHead, read_head};
-use bac_value::{Boolean, PrimRef};
+use crate::held::Held;
+use crate::nodes::{Node, event_at};
+use bac_value::PrimRef;
 use std::marker::Model;
 
 /// One step of a walk over an open value: a primitive, or the opening or closing tag of a group (clause 20.2.1).
@@ -31,83 +28,82 @@ pub enum Event<'a> {
 /// A walk over an open value, which gives its events one after another. It takes no memory.
 #[derive(Debug, Drop)]
 pub struct Events<'a> {
-    /// The canonical octets of the events that are left.
+    /// The canonical octets of all events of the value.
     octets: &'a [u8],
-    /// How many are left.
-    count: usize,
-    ghost told: { Holds octets.now } by { Holds-prop octets.now },
+    /// What holds them, and the nodes of all events.
+    held: &'a Held,
+    /// The index of the next one.
+    next: usize,
 }
 
 impl<'a> Model for Events<'a> {
-    ghost use Rattle.std.specs.Prelude.{◌≡◌, List, length};
+    ghost use Rattle.std.specs.Prelude.{List, [], ◌≤◌, length, drop};
     ghost use Rattle.std.specs.Coded.{coded_list};
-    ghost use Rattle.bac_tag.specs.Spelling.{IsLeast};
-    ghost use Rattle.bac_data.specs.Events.{Event, SpellsEvents};
-    ghost use Rattle.bac_data.specs.Held.{held_events};
+    ghost use Rattle.bac_data.specs.Events.{Event};
+    ghost use Rattle.bac_data.specs.HeldLists.{nodes_of, IsSound};
+    ghost use Rattle.bac_data.specs.NodeEvents.{node_events, AreNodes};
     ghost use Rattle.bac_data.specs.Codes.{event_code};
 
     ghost Value = { List Event };
 
     ghost coded = { coded_list event_code };
 
-    ghost view = { λ walk. held_events walk.octets.now walk.told };
+    ghost view = { λ walk. drop walk.next (node_events walk.octets.now (nodes_of walk.held.now)) };
 
-    ghost invariant = { λ walk. IsLeast (SpellsEvents (held_events walk.octets.now walk.told)) walk.octets.now × (walk.count ≡ length (held_events walk.octets.now walk.told)) };
+    ghost invariant = { λ walk. IsSound walk.held.now × (walk.next ≤ length (nodes_of walk.held.now)) × AreNodes (node_events walk.octets.now (nodes_of walk.held.now)) walk.octets.now (nodes_of walk.held.now) [] [] };
 }
 
 impl<'a> Events<'a> {
-    /// Returns the walk over `count` events whose canonical octets are `octets`.
-    pub(crate) fn over(octets: &'a [u8], count: usize) -> Events<'a>
-        requires { (es : List EventOf) × IsLeast (SpellsEvents es) octets.now × (count ≡ length es) }
-        ensures { (es : List EventOf) → IsLeast (SpellsEvents es) octets.now → result ≡ es }
+    /// Returns the walk over the events that are held.
+    #[inline(always)]
+    pub(crate) fn over(held: &'a Held) -> Events<'a>
+        requires sound { IsSound held.now }
+        requires nodes { AreNodes (node_events (octets_of held.now) (nodes_of held.now)) (octets_of held.now) (nodes_of held.now) [] [] }
+        ensures { result ≡ node_events (octets_of held.now) (nodes_of held.now) }
     {
-        Events { octets, count }
-    }
-}
-
-/// Returns the first of the events whose canonical octets these are, and how many octets it takes. Its head was read
-/// already: it is `head`, and takes `start` octets.
-#[inline(always)]
-fn event_under(head: TagHead, start: usize, octets: &[u8]) -> (Event<'_>, usize)
-    requires taken { Takes Heads octets.now (head, start) }
-    requires held { (e : EventOf) × (es : List EventOf) × IsLeast (SpellsEvents (e ∷ es)) octets.now }
-    ensures within { result.1 ≤ length octets.now }
-    ensures event { (e : EventOf) (es : List EventOf) → IsLeast (SpellsEvents (e ∷ es)) octets.now → event_of result.0 ≡ e }
-    ensures others { (e : EventOf) (es : List EventOf) → IsLeast (SpellsEvents (e ∷ es)) octets.now → IsLeast (SpellsEvents es) (drop result.1 octets.now) }
-    ensures packed { IsPackedStep result.0 }
-{
-    match head {
-        TagHead::App { number, len } => {
-            let end = start + len as usize;
-            let contents = &octets[start..end];
-            (Event::App(PrimRef::of_contents(number, contents)), end)
+        Events {
+            octets: held.octets(),
+            held,
+            next: 0,
         }
-        TagHead::AppBool(bit) => (Event::App(PrimRef::Boolean(Boolean(bit))), start),
-        TagHead::Ctx { number, len } => {
-            let end = start + len as usize;
-            (Event::Ctx(number, &octets[start..end]), end)
-        }
-        TagHead::Open(number) => (Event::Open(number), start),
-        TagHead::Close(number) => (Event::Close(number), start),
     }
-}
 
-/// Returns the first of the events whose canonical octets these are, and how many octets it takes.
-#[inline(always)]
-fn first_event(octets: &[u8]) -> (Event<'_>, usize)
-    requires { (e : EventOf) × (es : List EventOf) × IsLeast (SpellsEvents (e ∷ es)) octets.now }
-    ensures within { result.1 ≤ length octets.now }
-    ensures event { (e : EventOf) (es : List EventOf) → IsLeast (SpellsEvents (e ∷ es)) octets.now → event_of result.0 ≡ e }
-    ensures others { (e : EventOf) (es : List EventOf) → IsLeast (SpellsEvents (e ∷ es)) octets.now → IsLeast (SpellsEvents es) (drop result.1 octets.now) }
-    ensures packed { IsPackedStep result.0 }
-{
-    if let Some((head, start)) = quick_head(octets) {
-        return event_under(head, start, octets);
+    /// Returns how many events are left.
+    pub fn len(&self) -> usize
+        ensures { result ≡ length self.now }
+    {
+        self.held.count() - self.next
     }
-    let Ok((head, start)) = read_head(octets) else {
-        unreachable!()
-    };
-    event_under(head, start, octets)
+
+    /// Passes over the group that begins next, with all that is in it, and returns its number. If no group begins next,
+    /// returns None, and the walk stays where it is. A long group takes no more time than a short one.
+    ///
+    /// # Examples
+    /// ```rust
+    /// use bac_data::{Event, read_any};
+    ///
+    /// // A group of number 2, and a context primitive after it.
+    /// let octets = [0x3E, 0x2E, 0x19, 0x55, 0x2F, 0x19, 0x66, 0x3F];
+    /// let (value, _) = read_any(rt.alloc(), &octets, 3)?;
+    /// let mut events = value.events();
+    /// assert_eq!(rt; events.skip_group(), Some(2));
+    /// assert_eq!(rt; events.skip_group(), None);
+    /// assert_eq!(rt; events.next(), Some(Event::Ctx(1, &[0x66])));
+    /// ```
+    pub fn skip_group(&mut self) -> Option<u8>
+        ensures { SkipsGroup self.old result self.new }
+    {
+        if self.next >= self.held.count() {
+            return None;
+        }
+        match self.held.node(self.next) {
+            Node::Open { number, closing } => {
+                self.next = closing + 1;
+                Some(number)
+            }
+            _ => None,
+        }
+    }
 }
 
 impl<'a> Iterator for Events<'a> {
@@ -118,16 +114,16 @@ impl<'a> Iterator for Events<'a> {
     ghost remaining = { item_count (λ walk. walk) };
 
     fn next(&mut self) -> Option<Event<'a>> {
-        if self.count == 0 {
+        if self.next >= self.held.count() {
             return None;
         }
-        let (event, taken) = first_event(self.octets);
-        self.octets = &self.octets[taken..];
-        self.count -= 1;
-        Some(event)
+        let node = self.held.node(self.next);
+        self.next += 1;
+        Some(event_at(self.octets, node))
     }
 
     fn size_hint(&self) -> (usize, Option<usize>) {
-        (self.count, Some(self.count))
+        let left = self.len();
+        (left, Some(left))
     }
 }

@@ -114,6 +114,28 @@ fn an_open_value_is_walked(rt: HostRuntime) -> Result<(), Fail> {
     Ok(())
 }
 
+// Of `bac_data::Any::event`.
+#[test]
+fn an_event_is_found_by_its_index(rt: HostRuntime) -> Result<(), Fail> {
+    let (value, _) = read_any(rt.alloc(), &[0x3E, 0x2E, 0x19, 0x55, 0x2F, 0x3F], 3)?;
+    assert_eq!(rt; value.event(1), Some(Event::Ctx(1, &[0x55])));
+    assert_eq!(rt; value.event(3), None);
+    Ok(())
+}
+
+// Of `bac_data::Events::skip_group`.
+#[test]
+fn a_group_is_passed_over(rt: HostRuntime) -> Result<(), Fail> {
+    // A group of number 2, and a context primitive after it.
+    let octets = [0x3E, 0x2E, 0x19, 0x55, 0x2F, 0x19, 0x66, 0x3F];
+    let (value, _) = read_any(rt.alloc(), &octets, 3)?;
+    let mut events = value.events();
+    assert_eq!(rt; events.skip_group(), Some(2));
+    assert_eq!(rt; events.skip_group(), None);
+    assert_eq!(rt; events.next(), Some(Event::Ctx(1, &[0x66])));
+    Ok(())
+}
+
 // Of `bac_data::AnyBuilder`.
 #[test]
 fn an_open_value_is_built(rt: HostRuntime) -> Result<(), Fail> {

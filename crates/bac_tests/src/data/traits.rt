@@ -30,6 +30,42 @@ fn a_value_is_walked_by_a_loop(rt: HostRuntime) {
     gives(&rt, &value, &events);
 }
 
+/// Compares the event with that index.
+fn is_at(rt: &impl Abort, value: &Any, index: usize, event: Option<Event<'_>>) {
+    let found = value.event(index) == event;
+    assert_same_of(rt, found, true, "an event");
+}
+
+#[test]
+fn events_are_found_by_their_indices(rt: HostRuntime) {
+    let value = value_of(&rt, rt.alloc(), "3E 7E 21 05 FE C8 FF C8 7F 3F");
+    is_at(&rt, &value, 0, Some(Event::Open(7)));
+    let five = PrimRef::Unsigned(Unsigned(5));
+    is_at(&rt, &value, 1, Some(Event::App(five)));
+    is_at(&rt, &value, 2, Some(Event::Open(200)));
+    is_at(&rt, &value, 3, Some(Event::Close(200)));
+    is_at(&rt, &value, 4, Some(Event::Close(7)));
+    is_at(&rt, &value, 5, None);
+}
+
+// Of two groups with one inside, the walk passes over the first, and over the one inside the second.
+#[test]
+fn groups_are_passed_over(rt: HostRuntime) {
+    let octets = "3E 1E 2E 09 AA 2F 1F 2E 1E 1F 09 BB 2F 3F";
+    let value = value_of(&rt, rt.alloc(), octets);
+    let mut events = value.events();
+    assert_same(&rt, events.len(), 10);
+    assert_same(&rt, events.skip_group(), Some(1));
+    assert_same(&rt, events.len(), 5);
+    assert_same(&rt, events.next(), Some(Event::Open(2)));
+    assert_same(&rt, events.skip_group(), Some(1));
+    assert_same(&rt, events.skip_group(), None);
+    assert_same(&rt, events.next(), Some(Event::Ctx(0, &[0xBB])));
+    assert_same(&rt, events.next(), Some(Event::Close(2)));
+    assert_same(&rt, events.skip_group(), None);
+    assert_same(&rt, events.len(), 0);
+}
+
 // The spelling does not count, but each number, each octet and each group does.
 #[test]
 fn values_are_compared_by_what_they_say(rt: HostRuntime) {

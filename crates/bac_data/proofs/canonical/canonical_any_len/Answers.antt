@@ -11,8 +11,8 @@ loop-taken-init c = scanned_opening c.args.number c.args.octets.now c.new-groups
 
 pub loop-taken-preserved-in-Some : goal.loop-taken-preserved-in-Some
 loop-taken-preserved-in-Some c =
-    let (i, begins) = rw take_rest at c.in-Some.ensures.found in
-    scanned_primitive c.args.number c.args.octets.now c.loop-taken.place c.in-Some.taken c.loop-taken.groups.items i begins (rw take_rest at c.in-Some.ensures.within) c.loop-taken.invariant
+    let begins = rw take_rest at c.in-Some.ensures.found in
+    scanned_primitive c.args.number c.args.octets.now c.loop-taken.place c.in-Some.taken c.loop-taken.groups.items _ begins (rw take_rest at c.in-Some.ensures.within) c.loop-taken.invariant
 
 pub returns-then-is_short_closing : goal.returns-then-is_short_closing
 returns-then-is_short_closing c =
@@ -21,8 +21,8 @@ returns-then-is_short_closing c =
 pub follow-requires-clause-follows : goal.follow-requires-clause-follows
 follow-requires-clause-follows c =
     let stand = rw take_rest at c.in_ok-item.ensures.found in (
-      c.loop-taken.invariant.1.es,
-      c.loop-taken.invariant.1.are_open,
+      c.loop-taken.invariant.es,
+      c.loop-taken.invariant.are_open,
       scanned_follows c.args.number c.args.octets.now c.loop-taken.place c.loop-taken.groups.items c.place_in-room.result.0 c.place_in-room.result.1 (item_event c.in_ok-item.item) c.place_in-room.ensures.room c.place_in-room.ensures.closing stand.spelled.stands c.loop-taken.invariant (λ none e.
           elim c.else-is_empty-2.branch [
             | else-is_empty-2-via-then-is_empty-2+else-ends w ↦ absurd (let i : false ≡ true = sym w.if-ends.false ∙ w.ends.ensures.1 e in cc)
@@ -35,7 +35,7 @@ loop-taken-preserved c =
     let stand = rw take_rest at c.in_ok-item.ensures.found in
     let (start, lies, least) = rw take_rest at c.in_ok-item.ensures.least in
     scanned_item c.args.number c.args.octets.now c.loop-taken.place start c.in_ok-item.taken c.loop-taken.groups.items c.follow.new.groups.items c.in_ok-item.item c.in_ok-item.ensures.item lies stand.within least c.loop-taken.invariant
-    (c.follow.ensures c.loop-taken.invariant.1.es c.loop-taken.invariant.1.are_open
+    (c.follow.ensures c.loop-taken.invariant.es c.loop-taken.invariant.are_open
     (scanned_follows c.args.number c.args.octets.now c.loop-taken.place c.loop-taken.groups.items c.place_in-room.result.0 c.place_in-room.result.1 (item_event c.in_ok-item.item) c.place_in-room.ensures.room c.place_in-room.ensures.closing stand.spelled.stands c.loop-taken.invariant (λ none e.
     elim c.else-is_empty-2.branch [
       | else-is_empty-2-via-then-is_empty-2+else-ends w ↦ absurd (let i : false ≡ true = sym w.if-ends.false ∙ w.ends.ensures.1 e in cc)

@@ -1,140 +1,96 @@
-use Rattle.std.proofs.Common.{◌≡◌, Option, ◌+◌, ◌-◌, ◌++◌, ◌∷◌, [], List, ℕ, false, true, take, drop, length, refl, sym, ◌∙◌, subst, arith, length-append, length-drop, length-take}
-use Rattle.std.proofs.lemmas.Bool.{eqb-true, eq-eqb}
-use Rattle.std.proofs.lemmas.List.{take_rest}
-use Rattle.std.proofs.lemmas.Option.{IfSome_then}
+use Rattle.std.proofs.Common.{◌≡◌, ◌+◌, ℕ, List, [], None, false, take, refl, subst}
+use Rattle.std.specs.Prelude.{IfOk}
 use Rattle.std.proofs.lemmas.Result.{err_from_is_err_and}
+use Rattle.bac_tag.specs.Heads.{Heads}
 use Rattle.bac_tag.specs.Octets.{IsMark}
 use Rattle.bac_tag.specs.Spelling.{IsLeast}
-use Rattle.bac_data.specs.Events.{Event, SpellsEvent}
-use Rattle.bac_data.specs.Building.{AreOpen, Keeps}
-use Rattle.bac_data.specs.Reading.{item_event}
-use Rattle.bac_data.specs.Marks.{HasMark}
-use Rattle.bac_data.proofs.MarkLemmas.{ItemMark, marked_opening, value_marked, ended_events}
-use Rattle.bac_data.proofs.AnyLemmas.{has_read_opening, opening_is, refused_opening, has_read_more, refused_behind_events, may_follow, value_read, where_ok}
-use Rattle.bac_data.proofs.BuildingLemmas.{none_open, groups_open, has_open_one}
-use Rattle.bac_data.proofs.DepthLemmas.{too_deep_behind}
-use Rattle.bac_data.proofs.ReasonLemmas.{item_memory}
-use Rattle.bac_data.proofs.ReadingSteps.{keeps_nothing, is_place, all_closed, front_least, behind_marked, closing_item, closed_behind, read_least, fewer_events}
-use Rattle.bac_data.proofs.reading.read_any_marked.Goals.{in-Ok-finish, in-Err-finish, else-is_empty-via-then-is_empty+else-ends, else-is_empty-via-else-is_empty}
+use Rattle.bac_tag.specs.declared.heads.TagHead.TheVariants.{Open}
+use Rattle.bac_data.specs.Events.{Event}
+use Rattle.bac_data.specs.HeldLists.{octets_of, nodes_of}
+use Rattle.bac_data.specs.Listings.{listed_nodes}
+use Rattle.bac_data.specs.NodeEvents.{node_events}
+use Rattle.bac_data.specs.Progress.{held_so_far, Closes}
+use Rattle.bac_data.proofs.ProgressLemmas.{progress_opening, progress_first, listed_held, so_far_least, held_valid, held_value, found_value, found_read, found_marked, closed_read, closed_marked, none_mark, some_then}
 use Rattle.bac_data.proofs.reading.read_any_marked.Goals as goal
 
-pub returns-in_err-opening-clause-refused : goal.returns-in_err-opening-clause-refused
-returns-in_err-opening-clause-refused c =
+pub returns-in_err-start-clause-refused : goal.returns-in_err-start-clause-refused
+returns-in_err-start-clause-refused c =
     let p = err_from_is_err_and c.from_residual.result c.from_residual.ensures.1 in
-    rw (p.1, p.2) (λ w. refused_opening c.args.number c.args.octets.now _ c.requires c.in_err-opening.ensures.refused)
+    rw (p.1, p.2) (λ w. c.in_err-start.ensures.refused)
 
-pub loop-taken-init : goal.loop-taken-init
-loop-taken-init c =
-    let opened = c.in_ok-opening.ensures.found in
-    record {
-      es = [];
-      read = has_read_opening c.args.number c.args.octets.now c.in_ok-opening.opening c.in_ok-opening.start [] opened refl;
-      marked = marked_opening c.args.number c.args.octets.now c.in_ok-opening.start [] c.mark_read_head-mark.result c.requires c.mark_read_head-mark.ensures refl;
-      are_open = subst (AreOpen []) (sym c.new-groups.ensures) none_open;
-      counted = refl;
-      keeps = keeps_nothing c.mark_read_head-mark.result c.new-kept.result.items c.new-kept.ensures.items;
-      begun = omega arith;
-      opened = opening_is c.args.number c.in_ok-opening.opening (take c.in_ok-opening.start c.args.octets.now) opened.spelled;
-    }
+pub read_rest-requires-clause-progress : goal.read_rest-requires-clause-progress
+read_rest-requires-clause-progress c = progress_opening c.args.number c.args.octets.now c.in_ok-start.start c.in_ok-start.mark c.new-nodes.result c.requires c.in_ok-start.ensures.within c.in_ok-start.ensures.opened c.in_ok-start.ensures.mark c.new-nodes.ensures
 
-pub returns-in-Err-clause-refused : goal.returns-in-Err-clause-refused
-returns-in-Err-clause-refused c = λ w.
-    rw c.behind.ensures (refused_behind_events c.args.number c.args.octets.now c.loop-taken.place c.loop-taken.invariant.es c.place_in-room.result.0 c.place_in-room.result.1 c.in-Err.refusal c.loop-taken.invariant.read (is_place c.args.number c.loop-taken.invariant.es c.loop-taken.groups.items c.place_in-room.result.0 c.place_in-room.result.1 c.loop-taken.invariant.are_open c.place_in-room.ensures.room c.place_in-room.ensures.closing) (rw take_rest at c.in-Err.ensures.refused))
+pub read_canonical-requires-clause-lists : goal.read_canonical-requires-clause-lists
+read_canonical-requires-clause-lists c = ([], [], [], c.new-nodes.ensures, refl)
 
-pub returns-in-Err-clause-depth : goal.returns-in-Err-clause-depth
-returns-in-Err-clause-depth c =
-    rw c.behind.ensures (too_deep_behind c.args.number c.args.octets.now c.loop-taken.place c.loop-taken.invariant.es c.place_in-room.result.0 c.place_in-room.result.1 c.in-Err.refusal c.loop-taken.invariant.read (is_place c.args.number c.loop-taken.invariant.es c.loop-taken.groups.items c.place_in-room.result.0 c.place_in-room.result.1 c.loop-taken.invariant.are_open c.place_in-room.ensures.room c.place_in-room.ensures.closing) (rw take_rest at c.in-Err.ensures.depth))
-
-pub returns-in-Err-clause-memory : goal.returns-in-Err-clause-memory
-returns-in-Err-clause-memory c = λ w. absurd (item_memory c.in-Err.refusal.why c.in-Err.ensures.reasons (rw c.behind.ensures at w))
+pub hold-requires : goal.hold-requires
+hold-requires c =
+    let octets = c.args.octets.now in
+    let number = c.args.number in
+    let start = c.in_ok-start.start in
+    let end = c.in-Ok.end in
+    let nodes = c.read_canonical.new.nodes in
+    let unmarked = none_mark c.in_ok-start.mark c.is_some.result c.is_some.ensures c.if-is_some.false in
+    let marks : (b : List ℕ) → IsLeast (Heads (Open number)) b → IsMark (take start octets) b None = λ b q. subst (IsMark (take start octets) b) unmarked (c.in_ok-start.ensures.mark b q) in
+    let p = progress_first number octets start end c.new-nodes.result nodes c.requires c.in_ok-start.ensures.within c.in_ok-start.ensures.opened marks c.new-nodes.ensures c.in-Ok.ensures.from c.in-Ok.ensures.within (c.in-Ok.ensures.continues [] [] [] c.new-nodes.ensures refl) in
+    (number, p.es, p.numbers, p.lists)
 
 pub finish-requires : goal.finish-requires
-finish-requires c = (c.loop-taken.invariant.es, c.loop-taken.invariant.keeps, (front_least c.args.number c.args.octets.now c.in_ok-opening.start c.loop-taken.place c.loop-taken.invariant.es c.loop-taken.mark c.loop-taken.invariant.begun c.loop-taken.invariant.opened c.loop-taken.invariant.marked), all_closed c.loop-taken.invariant.es c.loop-taken.groups.items c.loop-taken.invariant.are_open (eqb-true (length c.loop-taken.groups.items) 0 (sym c.is_empty.ensures ∙ c.if-is_empty.true)), c.loop-taken.invariant.counted)
+finish-requires c =
+    let octets = c.args.octets.now in
+    let number = c.args.number in
+    let start = c.in_ok-start.start in
+    let end = c.in-Ok.end in
+    let nodes = c.read_canonical.new.nodes in
+    let unmarked = none_mark c.in_ok-start.mark c.is_some.result c.is_some.ensures c.if-is_some.false in
+    let marks : (b : List ℕ) → IsLeast (Heads (Open number)) b → IsMark (take start octets) b None = λ b q. subst (IsMark (take start octets) b) unmarked (c.in_ok-start.ensures.mark b q) in
+    let p = progress_first number octets start end c.new-nodes.result nodes c.requires c.in_ok-start.ensures.within c.in_ok-start.ensures.opened marks c.new-nodes.ensures c.in-Ok.ensures.from c.in-Ok.ensures.within (c.in-Ok.ensures.continues [] [] [] c.new-nodes.ensures refl) in
+    let closes = some_then (Closes number octets end nodes) c.in-Ok.closed c.in-Some.taken c.in-Some.is c.in-Ok.ensures.closes in
+    let held = held_so_far octets start end [] None in
+    let none = listed_held number nodes p.es held p.numbers p.lists closes.closed (so_far_least number octets start end [] None p.es p.begun p.opened p.marked p.keeps) in
+    held_valid c.hold.result held (listed_nodes nodes) c.hold.ensures.octets c.hold.ensures.nodes c.hold.ensures.sound none
 
-pub returns-then-ends-clause-found : goal.returns-then-ends-clause-found
-returns-then-ends-clause-found c =
-    let stand = rw take_rest at c.in-Ok.ensures.found in
-    elim c.match-finish.branch [
-      | in-Ok-finish w ↦ rw w.result-is (value_read c.args.number c.args.octets.now c.loop-taken.place c.in-Ok.found.2 c.loop-taken.invariant.es w.in-Ok-finish.value (item_event c.in-Ok.found.0) c.loop-taken.invariant.read stand.within stand.spelled.spelled
-          (c.ends.ensures.0 c.if-ends.true) (groups_open c.loop-taken.invariant.es c.loop-taken.groups.items 0 c.loop-taken.invariant.are_open (eqb-true (length c.loop-taken.groups.items) 0 (sym c.is_empty.ensures ∙ c.if-is_empty.true))) (w.in-Ok-finish.ensures c.loop-taken.invariant.es c.loop-taken.invariant.keeps (front_least c.args.number c.args.octets.now c.in_ok-opening.start c.loop-taken.place c.loop-taken.invariant.es c.loop-taken.mark c.loop-taken.invariant.begun c.loop-taken.invariant.opened c.loop-taken.invariant.marked)))
-      | in-Err-finish w ↦ rw w.result-is tt
-    ]
+pub returns-in-Some-clause-found : goal.returns-in-Some-clause-found
+returns-in-Some-clause-found c =
+    let octets = c.args.octets.now in
+    let number = c.args.number in
+    let start = c.in_ok-start.start in
+    let end = c.in-Ok.end in
+    let nodes = c.read_canonical.new.nodes in
+    let unmarked = none_mark c.in_ok-start.mark c.is_some.result c.is_some.ensures c.if-is_some.false in
+    let marks : (b : List ℕ) → IsLeast (Heads (Open number)) b → IsMark (take start octets) b None = λ b q. subst (IsMark (take start octets) b) unmarked (c.in_ok-start.ensures.mark b q) in
+    let p = progress_first number octets start end c.new-nodes.result nodes c.requires c.in_ok-start.ensures.within c.in_ok-start.ensures.opened marks c.new-nodes.ensures c.in-Ok.ensures.from c.in-Ok.ensures.within (c.in-Ok.ensures.continues [] [] [] c.new-nodes.ensures refl) in
+    let closes = some_then (Closes number octets end nodes) c.in-Ok.closed c.in-Some.taken c.in-Some.is c.in-Ok.ensures.closes in
+    let held = held_so_far octets start end [] None in
+    let value = found_value c.finish.result (λ (es : List Event). IfOk c.hold.result (λ h. node_events (octets_of h) (nodes_of h) ≡ es)) p.es c.finish.ensures.value
+    (held_value c.hold.result held (listed_nodes nodes) p.es c.hold.ensures.octets c.hold.ensures.nodes p.lists.listed.are_nodes.events_are) in
+    found_read c.finish.result number octets (end + c.in-Some.taken) p.es value c.finish.ensures.taken (λ v same. closed_read number c.requires octets start end [] None nodes p v same closes.closed c.in-Some.taken closes)
 
-pub returns-then-ends-clause-mark : goal.returns-then-ends-clause-mark
-returns-then-ends-clause-mark c =
-    let lies = rw take_rest at c.in-Ok.ensures.parts in
-    let stand = rw take_rest at c.in-Ok.ensures.found in
-    elim c.match-finish.branch [
-      | in-Ok-finish w ↦ rw w.result-is (
-          let same = w.in-Ok-finish.ensures c.loop-taken.invariant.es c.loop-taken.invariant.keeps (front_least c.args.number c.args.octets.now c.in_ok-opening.start c.loop-taken.place c.loop-taken.invariant.es c.loop-taken.mark c.loop-taken.invariant.begun c.loop-taken.invariant.opened c.loop-taken.invariant.marked) in
-          let is = c.ends.ensures.0 c.if-ends.true in
-          let read = value_read c.args.number c.args.octets.now c.loop-taken.place c.in-Ok.found.2 c.loop-taken.invariant.es w.in-Ok-finish.value (item_event c.in-Ok.found.0) c.loop-taken.invariant.read stand.within stand.spelled.spelled is (groups_open c.loop-taken.invariant.es c.loop-taken.groups.items 0 c.loop-taken.invariant.are_open (eqb-true (length c.loop-taken.groups.items) 0 (sym c.is_empty.ensures ∙ c.if-is_empty.true))) same in
-          let start : c.loop-taken.place + c.in-Ok.found.1 - c.loop-taken.place ≡ c.in-Ok.found.1 = omega arith in
-          let (own, told, joined) = c.mark_closing-behind.ensures in
-          let told = closed_behind c.args.number c.args.octets.now c.loop-taken.place c.in-Ok.found.1 c.in-Ok.found.2 c.in-Ok.found.0 c.loop-taken.invariant.es c.loop-taken.mark own c.mark_closing-behind.result c.requires c.loop-taken.invariant.read.within
-          (closing_item c.in-Ok.found.0 c.args.number is) lies (λ b p. subst (λ (k : ℕ). IsMark (take k (drop c.loop-taken.place c.args.octets.now)) b own) start (told b p)) joined c.loop-taken.invariant.marked in
-          value_marked c.args.number c.args.octets.now (c.loop-taken.place + c.in-Ok.found.2) w.in-Ok-finish.value c.mark_closing-behind.result read.spelled.nested
-          (subst (λ (fs : List Event). HasMark c.args.number c.args.octets.now (c.loop-taken.place + c.in-Ok.found.2) fs c.mark_closing-behind.result) (sym (ended_events c.loop-taken.invariant.es w.in-Ok-finish.value (item_event c.in-Ok.found.0) c.args.number same is)) told))
-      | in-Err-finish w ↦ rw w.result-is tt
-    ]
+pub returns-in-Some-clause-mark : goal.returns-in-Some-clause-mark
+returns-in-Some-clause-mark c =
+    let octets = c.args.octets.now in
+    let number = c.args.number in
+    let start = c.in_ok-start.start in
+    let end = c.in-Ok.end in
+    let nodes = c.read_canonical.new.nodes in
+    let unmarked = none_mark c.in_ok-start.mark c.is_some.result c.is_some.ensures c.if-is_some.false in
+    let marks : (b : List ℕ) → IsLeast (Heads (Open number)) b → IsMark (take start octets) b None = λ b q. subst (IsMark (take start octets) b) unmarked (c.in_ok-start.ensures.mark b q) in
+    let p = progress_first number octets start end c.new-nodes.result nodes c.requires c.in_ok-start.ensures.within c.in_ok-start.ensures.opened marks c.new-nodes.ensures c.in-Ok.ensures.from c.in-Ok.ensures.within (c.in-Ok.ensures.continues [] [] [] c.new-nodes.ensures refl) in
+    let closes = some_then (Closes number octets end nodes) c.in-Ok.closed c.in-Some.taken c.in-Some.is c.in-Ok.ensures.closes in
+    let held = held_so_far octets start end [] None in
+    let value = found_value c.finish.result (λ (es : List Event). IfOk c.hold.result (λ h. node_events (octets_of h) (nodes_of h) ≡ es)) p.es c.finish.ensures.value
+    (held_value c.hold.result held (listed_nodes nodes) p.es c.hold.ensures.octets c.hold.ensures.nodes p.lists.listed.are_nodes.events_are) in
+    found_marked c.finish.result number octets (end + c.in-Some.taken) None p.es value c.finish.ensures.taken c.finish.ensures.mark (λ v same. closed_marked number c.requires octets start end [] None nodes p v same closes.closed c.in-Some.taken closes)
 
-pub joined_marks-mark-requires : goal.joined_marks-mark-requires
-joined_marks-mark-requires c = IfSome_then c.in-Ok-keep.own c.in-Ok-keep.ensures.within (λ place h. omega (arith, h, length-take (c.loop-taken.place + c.in-Ok.found.2 - c.loop-taken.place) (drop c.loop-taken.place c.args.octets.now), length-drop c.loop-taken.place c.args.octets.now))
-
-pub keep-requires-clause-front : goal.keep-requires-clause-front
-keep-requires-clause-front c = (c.loop-taken.invariant.es, c.loop-taken.invariant.keeps, (front_least c.args.number c.args.octets.now c.in_ok-opening.start c.loop-taken.place c.loop-taken.invariant.es c.loop-taken.mark c.loop-taken.invariant.begun c.loop-taken.invariant.opened c.loop-taken.invariant.marked))
-
-pub follow-requires-clause-follows : goal.follow-requires-clause-follows
-follow-requires-clause-follows c = (
-  c.loop-taken.invariant.es,
-  c.loop-taken.invariant.are_open,
-  (let stand = rw take_rest at c.in-Ok.ensures.found in
-      may_follow c.args.number c.loop-taken.invariant.es c.place_in-room.result.0 c.place_in-room.result.1 (item_event c.in-Ok.found.0) (is_place c.args.number c.loop-taken.invariant.es c.loop-taken.groups.items c.place_in-room.result.0 c.place_in-room.result.1 c.loop-taken.invariant.are_open c.place_in-room.ensures.room c.place_in-room.ensures.closing) stand.spelled.stands (λ h e.
-      elim c.else-is_empty.branch [
-        | else-is_empty-via-then-is_empty+else-ends w ↦ absurd (let i : false ≡ true = sym w.if-ends.false ∙ w.ends.ensures.1 e in cc)
-        | else-is_empty-via-else-is_empty w ↦
-            absurd (let i : false ≡ true = sym w.if-is_empty.false ∙ c.is_empty.ensures ∙ eq-eqb (length c.loop-taken.groups.items) 0 (has_open_one c.loop-taken.invariant.es (length c.loop-taken.groups.items) 0 (groups_open c.loop-taken.invariant.es c.loop-taken.groups.items (length c.loop-taken.groups.items) c.loop-taken.invariant.are_open refl) h) in cc)
-      ])),
-)
-
-pub overflow_add-count : goal.overflow_add-count
-overflow_add-count c =
-    let fewer = fewer_events c.args.number c.args.octets.now c.loop-taken.place c.loop-taken.count c.loop-taken.invariant.es c.loop-taken.invariant.read c.loop-taken.invariant.counted in
-    omega (arith, fewer, c.loop-taken.auto.place-fits)
-
-pub overflow_add-count-in-loop-taken : goal.overflow_add-count-in-loop-taken
-overflow_add-count-in-loop-taken c =
-    let fewer = fewer_events c.args.number c.args.octets.now c.loop-taken.place c.loop-taken.count c.loop-taken.invariant.es c.loop-taken.invariant.read c.loop-taken.invariant.counted in
-    omega (arith, fewer, c.loop-taken.auto.place-fits)
-
-pub loop-taken-preserved-in-Some : goal.loop-taken-preserved-in-Some
-loop-taken-preserved-in-Some c =
-    let (i, begins) = rw take_rest at c.in-Some.ensures.found in
-    let whole : c.in-Some.taken ≡ c.loop-taken.place + c.in-Some.taken - c.loop-taken.place = omega arith in
-    read_least c.args.number c.args.octets.now c.in_ok-opening.start c.loop-taken.place c.loop-taken.count c.in-Some.taken _ _ c.loop-taken.groups.items c.loop-taken.kept.items c.keep_octets.new.kept.items c.loop-taken.mark i begins (rw take_rest at c.in-Some.ensures.within)
-    (λ es e least k. where_ok c.keep_octets.result c.is_err.result c.is_err.ensures.value c.if-is_err.false c.keep_octets.ensures es e (subst (λ (n : ℕ). IsLeast (SpellsEvent e) (take n (drop c.loop-taken.place c.args.octets.now))) whole least) k)
-    refl refl c.loop-taken.invariant
-
-pub loop-taken-preserved : goal.loop-taken-preserved
-loop-taken-preserved c =
-    let stand = rw take_rest at c.in-Ok.ensures.found in
-    let lies = rw take_rest at c.in-Ok.ensures.parts in
-    let whole : c.loop-taken.place + c.in-Ok.found.2 - c.loop-taken.place ≡ c.in-Ok.found.2 = omega arith in
-    record {
-      es = c.loop-taken.invariant.es ++ item_event c.in-Ok.found.0 ∷ [];
-      read = has_read_more c.args.number c.args.octets.now c.loop-taken.place c.in-Ok.found.2 c.loop-taken.invariant.es (c.loop-taken.invariant.es ++ item_event c.in-Ok.found.0 ∷ []) (item_event c.in-Ok.found.0) c.loop-taken.invariant.read stand.within stand.spelled.spelled refl;
-      marked = behind_marked c.args.number c.args.octets.now c.loop-taken.place c.in-Ok.found.1 c.in-Ok.found.2 c.in-Ok.found.0 c.loop-taken.invariant.es c.loop-taken.mark c.in-Ok-keep.own c.joined_marks-mark.result c.loop-taken.invariant.read.within c.in-Ok.ensures.item lies
-          (λ e. subst (λ (k : ℕ). ItemMark (take k (drop c.loop-taken.place c.args.octets.now)) c.in-Ok.found.0 c.in-Ok-keep.own) whole (c.in-Ok-keep.ensures.mark e)) c.joined_marks-mark.ensures c.loop-taken.invariant.marked;
-      are_open = c.follow.ensures c.loop-taken.invariant.es c.loop-taken.invariant.are_open (let stand = rw take_rest at c.in-Ok.ensures.found in
-          may_follow c.args.number c.loop-taken.invariant.es c.place_in-room.result.0 c.place_in-room.result.1 (item_event c.in-Ok.found.0) (is_place c.args.number c.loop-taken.invariant.es c.loop-taken.groups.items c.place_in-room.result.0 c.place_in-room.result.1 c.loop-taken.invariant.are_open c.place_in-room.ensures.room c.place_in-room.ensures.closing) stand.spelled.stands (λ h e.
-          elim c.else-is_empty.branch [
-            | else-is_empty-via-then-is_empty+else-ends w ↦ absurd (let i : false ≡ true = sym w.if-ends.false ∙ w.ends.ensures.1 e in cc)
-            | else-is_empty-via-else-is_empty w ↦
-                absurd (let i : false ≡ true = sym w.if-is_empty.false ∙ c.is_empty.ensures ∙ eq-eqb (length c.loop-taken.groups.items) 0 (has_open_one c.loop-taken.invariant.es (length c.loop-taken.groups.items) 0 (groups_open c.loop-taken.invariant.es c.loop-taken.groups.items (length c.loop-taken.groups.items) c.loop-taken.invariant.are_open refl) h) in cc)
-          ]));
-      counted = omega (arith, c.loop-taken.invariant.counted, length-append c.loop-taken.invariant.es (item_event c.in-Ok.found.0 ∷ []));
-      keeps = subst (λ (m : Option ℕ). Keeps m (c.loop-taken.invariant.es ++ item_event c.in-Ok.found.0 ∷ []) c.keep.new.kept.items) (sym c.joined_marks-mark.ensures)
-          (c.in-Ok-keep.ensures.kept c.loop-taken.invariant.es c.loop-taken.place c.loop-taken.invariant.keeps (front_least c.args.number c.args.octets.now c.in_ok-opening.start c.loop-taken.place c.loop-taken.invariant.es c.loop-taken.mark c.loop-taken.invariant.begun c.loop-taken.invariant.opened c.loop-taken.invariant.marked));
-      begun = omega (arith, c.loop-taken.invariant.begun);
-      opened = c.loop-taken.invariant.opened;
-    }
+pub read_rest-requires-in-None-clause-progress : goal.read_rest-requires-in-None-clause-progress
+read_rest-requires-in-None-clause-progress c =
+    let octets = c.args.octets.now in
+    let number = c.args.number in
+    let start = c.in_ok-start.start in
+    let end = c.in-Ok.end in
+    let nodes = c.read_canonical.new.nodes in
+    let unmarked = none_mark c.in_ok-start.mark c.is_some.result c.is_some.ensures c.if-is_some.false in
+    let marks : (b : List ℕ) → IsLeast (Heads (Open number)) b → IsMark (take start octets) b None = λ b q. subst (IsMark (take start octets) b) unmarked (c.in_ok-start.ensures.mark b q) in
+    let p = progress_first number octets start end c.new-nodes.result nodes c.requires c.in_ok-start.ensures.within c.in_ok-start.ensures.opened marks c.new-nodes.ensures c.in-Ok.ensures.from c.in-Ok.ensures.within (c.in-Ok.ensures.continues [] [] [] c.new-nodes.ensures refl) in
+    p

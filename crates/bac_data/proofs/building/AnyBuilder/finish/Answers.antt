@@ -1,9 +1,9 @@
-use Rattle.std.proofs.Common.{◌≡◌, length, false, true}
-use Rattle.bac_data.proofs.BuildingLemmas.{not_open, not_none}
+use Rattle.std.proofs.Common.{◌≡◌, false, true, ◌∙◌}
+use Rattle.bac_data.proofs.HeldSteps.{held_not_open}
 use Rattle.bac_data.proofs.building.AnyBuilder.finish.Goals as goal
 
-pub returns-then-not-is_empty-clause-complete : goal.returns-then-not-is_empty-clause-complete
-returns-then-not-is_empty-clause-complete c = (
+pub returns-then-depth-ne0-clause-complete : goal.returns-then-depth-ne0-clause-complete
+returns-then-depth-ne0-clause-complete c = (
   λ e. absurd (let i : false ≡ true = e in cc),
-  λ h. absurd (not_open _ _ c.self.inside.groups.items 0 c.self.invariant.are_open c.self.view_is (not_none (length c.self.inside.groups.items) c.is_empty.result c.is_empty.ensures c.if-not-is_empty.true) h),
+  λ h. absurd (held_not_open c.self.inside.octets.items c.self.inside.nodes.nodes.items c.self.inside.nodes.groups.items c.self.invariant _ c.self.view_is 0 (λ e. c.if-depth-ne0.true (c.depth.ensures ∙ e)) h),
 )

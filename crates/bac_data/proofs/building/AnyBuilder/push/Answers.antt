@@ -1,23 +1,18 @@
-use Rattle.std.proofs.Common.{List, [], ◌∷◌, ◌++◌, refl, ◌∙◌, ap, arith}
+use Rattle.std.proofs.Common.{List, [], ◌∷◌, ◌++◌, refl, ◌∙◌, ap}
+use Rattle.bac_data.specs.declared.nodes.Node.{Node}
 use Rattle.bac_data.specs.Events.{Event, application}
-use Rattle.bac_data.proofs.BuildingLemmas.{same_events, building_kept, holds_more, more_events, building_more, count_below, open_kept}
-use Rattle.bac_data.proofs.ResultLemmas.{went_well, went_wrong}
+use Rattle.bac_data.proofs.HeldSteps.{Holds, primitive_held}
+use Rattle.bac_data.proofs.ResultLemmas.{went_well}
 use Rattle.bac_data.proofs.building.AnyBuilder.push.Goals as goal
 
-pub invariant_of-self : goal.invariant_of-self
-invariant_of-self c = building_kept _ _ c.self.inside.told c.self.inside.count c.self.inside.groups.items c.self.invariant _ (went_wrong c.append_primitive.result c.is_err.result c.is_err.ensures.value c.if-is_err.true c.append_primitive.ensures.err)
-
-pub returns-then-is_err-clause-err : goal.returns-then-is_err-clause-err
-returns-then-is_err-clause-err c = (refl, refl, same_events _ _ c.self.inside.told c.self.inside.count c.self.inside.groups.items c.self.invariant _ (went_wrong c.append_primitive.result c.is_err.result c.is_err.ensures.value c.if-is_err.true c.append_primitive.ensures.err) ∙ c.self.view_is)
-
-pub overflow_add-self : goal.overflow_add-self
-overflow_add-self c = let below = count_below _ _ c.self.inside.told c.self.inside.count c.self.inside.groups.items c.self.invariant (application c.args.prim) (went_well c.append_primitive.result c.is_err.result c.is_err.ensures.value c.if-is_err.false c.append_primitive.ensures.ok) in omega (arith, below, c.append_primitive.new.out.small)
-
-pub invariant_of-self-inside-2 : goal.invariant_of-self-inside-2
-invariant_of-self-inside-2 c = (holds_more _ _ c.self.inside.told c.self.inside.count c.self.inside.groups.items c.self.invariant (application c.args.prim) (went_well c.append_primitive.result c.is_err.result c.is_err.ensures.value c.if-is_err.false c.append_primitive.ensures.ok), tt)
+-- what is held behind it
+more : (c : goal.Joined-prim) → Holds c.self.inside.octets.items c.append_primitive.new.out.items c.self.inside.nodes.nodes.items c.self.inside.nodes.groups.items c.self.invariant (application c.args.prim) (went_well c.append_primitive.result c.is_err-2.result c.is_err-2.ensures.value c.if-is_err-2.false c.append_primitive.ensures.ok) c.push.new.self.nodes.items c.push.new.self.groups.items
+more c = primitive_held c.self.inside.octets.items c.append_primitive.new.out.items c.self.inside.nodes.nodes.items c.self.inside.nodes.groups.items c.self.invariant (application c.args.prim) (went_well c.append_primitive.result c.is_err-2.result c.is_err-2.ensures.value c.if-is_err-2.false c.append_primitive.ensures.ok) c.push.new.self.nodes.items c.push.new.self.groups.items
+    c.len.result c.primitive_node-node.result refl (c.len.ensures ∙ c.append_primitive.new.out.ok.0) c.primitive_node-node.ensures
+    (c.push.ensures.nodes ∙ ap (λ (ns : List Node). ns ++ c.primitive_node-node.result ∷ []) c.reserve.ensures.nodes) (c.push.ensures.groups ∙ c.reserve.ensures.groups)
 
 pub invariant_of-self-2 : goal.invariant_of-self-2
-invariant_of-self-2 c = building_more _ _ c.self.inside.told c.self.inside.count c.self.inside.groups.items c.self.invariant (application c.args.prim) (went_well c.append_primitive.result c.is_err.result c.is_err.ensures.value c.if-is_err.false c.append_primitive.ensures.ok) _ _ (open_kept _ (application c.args.prim) _ c.self.invariant.are_open (λ s. refl))
+invariant_of-self-2 c = (more c).held
 
 pub returns-clause-ok : goal.returns-clause-ok
-returns-clause-ok c = more_events _ _ c.self.inside.told c.self.inside.count c.self.inside.groups.items c.self.invariant (application c.args.prim) (went_well c.append_primitive.result c.is_err.result c.is_err.ensures.value c.if-is_err.false c.append_primitive.ensures.ok) _ ∙ ap (λ (es : List Event). es ++ application c.args.prim ∷ []) c.self.view_is
+returns-clause-ok c = (more c).events_are ∙ ap (λ (es : List Event). es ++ application c.args.prim ∷ []) c.self.view_is

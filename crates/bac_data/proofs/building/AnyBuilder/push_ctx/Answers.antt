@@ -1,23 +1,26 @@
-use Rattle.std.proofs.Common.{List, [], ◌∷◌, ◌++◌, refl, ◌∙◌, ap, arith}
+use Rattle.std.proofs.Common.{◌≤◌, ◌-◌, List, [], ◌∷◌, ◌++◌, length, refl, ◌∙◌, ap, arith, length-append}
+use Rattle.bac_data.specs.declared.nodes.Node.{Node}
+use Rattle.bac_data.specs.declared.nodes.Node.TheVariants as node
 use Rattle.bac_data.specs.Events.{Event, contextual}
-use Rattle.bac_data.proofs.BuildingLemmas.{same_events, building_kept, holds_more, more_events, building_more, count_below, open_kept}
-use Rattle.bac_data.proofs.ResultLemmas.{went_well, went_wrong}
+use Rattle.bac_data.proofs.HeldSteps.{Holds, primitive_held}
+use Rattle.bac_data.proofs.NodeLemmas.{context_fits}
+use Rattle.bac_data.proofs.ResultLemmas.{went_well}
 use Rattle.bac_data.proofs.building.AnyBuilder.push_ctx.Goals as goal
 
-pub invariant_of-self : goal.invariant_of-self
-invariant_of-self c = building_kept _ _ c.self.inside.told c.self.inside.count c.self.inside.groups.items c.self.invariant _ (went_wrong c.append_context.result c.is_err.result c.is_err.ensures.value c.if-is_err.true c.append_context.ensures.err)
+-- the contents are no more than what was appended
+fits : (c : goal.After-push) → length c.args.octets.now ≤ c.len.result
+fits c =
+    let a = went_well c.append_context.result c.is_err-2.result c.is_err-2.ensures.value c.if-is_err-2.false c.append_context.ensures.ok in
+    context_fits c.args.number c.args.octets.now (length c.self.inside.octets.items) a.more c.len.result a.is_least (c.len.ensures ∙ c.append_context.new.out.ok.0 ∙ ap length a.new_is ∙ length-append c.self.inside.octets.items a.more)
 
-pub returns-then-is_err-clause-err : goal.returns-then-is_err-clause-err
-returns-then-is_err-clause-err c = same_events _ _ c.self.inside.told c.self.inside.count c.self.inside.groups.items c.self.invariant _ (went_wrong c.append_context.result c.is_err.result c.is_err.ensures.value c.if-is_err.true c.append_context.ensures.err) ∙ c.self.view_is
-
-pub overflow_add-self : goal.overflow_add-self
-overflow_add-self c = let below = count_below _ _ c.self.inside.told c.self.inside.count c.self.inside.groups.items c.self.invariant (contextual c.args.number c.args.octets.now) (went_well c.append_context.result c.is_err.result c.is_err.ensures.value c.if-is_err.false c.append_context.ensures.ok) in omega (arith, below, c.append_context.new.out.small)
-
-pub invariant_of-self-inside-2 : goal.invariant_of-self-inside-2
-invariant_of-self-inside-2 c = (holds_more _ _ c.self.inside.told c.self.inside.count c.self.inside.groups.items c.self.invariant (contextual c.args.number c.args.octets.now) (went_well c.append_context.result c.is_err.result c.is_err.ensures.value c.if-is_err.false c.append_context.ensures.ok), tt)
+-- what is held behind it
+more : (c : goal.After-push) → Holds c.self.inside.octets.items c.append_context.new.out.items c.self.inside.nodes.nodes.items c.self.inside.nodes.groups.items c.self.invariant (contextual c.args.number c.args.octets.now) (went_well c.append_context.result c.is_err-2.result c.is_err-2.ensures.value c.if-is_err-2.false c.append_context.ensures.ok) c.push.new.self.nodes.items c.push.new.self.groups.items
+more c = primitive_held c.self.inside.octets.items c.append_context.new.out.items c.self.inside.nodes.nodes.items c.self.inside.nodes.groups.items c.self.invariant (contextual c.args.number c.args.octets.now) (went_well c.append_context.result c.is_err-2.result c.is_err-2.ensures.value c.if-is_err-2.false c.append_context.ensures.ok) c.push.new.self.nodes.items c.push.new.self.groups.items
+    c.len.result (node.Context c.args.number (length c.args.octets.now) (c.len.result - length c.args.octets.now)) refl (c.len.ensures ∙ c.append_context.new.out.ok.0) (c.args.octets.now, refl, refl, omega (arith, fits c))
+    (c.push.ensures.nodes ∙ ap (λ (ns : List Node). ns ++ (node.Context c.args.number (length c.args.octets.now) (c.len.result - length c.args.octets.now)) ∷ []) c.reserve.ensures.nodes) (c.push.ensures.groups ∙ c.reserve.ensures.groups)
 
 pub invariant_of-self-2 : goal.invariant_of-self-2
-invariant_of-self-2 c = building_more _ _ c.self.inside.told c.self.inside.count c.self.inside.groups.items c.self.invariant (contextual c.args.number c.args.octets.now) (went_well c.append_context.result c.is_err.result c.is_err.ensures.value c.if-is_err.false c.append_context.ensures.ok) _ _ (open_kept _ (contextual c.args.number c.args.octets.now) _ c.self.invariant.are_open (λ s. refl))
+invariant_of-self-2 c = (more c).held
 
 pub returns-clause-ok : goal.returns-clause-ok
-returns-clause-ok c = more_events _ _ c.self.inside.told c.self.inside.count c.self.inside.groups.items c.self.invariant (contextual c.args.number c.args.octets.now) (went_well c.append_context.result c.is_err.result c.is_err.ensures.value c.if-is_err.false c.append_context.ensures.ok) _ ∙ ap (λ (es : List Event). es ++ contextual c.args.number c.args.octets.now ∷ []) c.self.view_is
+returns-clause-ok c = (more c).events_are ∙ ap (λ (es : List Event). es ++ contextual c.args.number c.args.octets.now ∷ []) c.self.view_is
