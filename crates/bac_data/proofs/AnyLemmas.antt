@@ -65,12 +65,6 @@ opening_is n (AppBool bit) b h = absurd h.fits
 opening_is n (Ctx m len) b h = absurd h.fits
 opening_is n (Close m) b h = absurd h.fits
 
-pub has_read_opening : (n : ℕ) (input : List ℕ) (head : TagHead) (place : ℕ) (es : List Event) → Takes (Opening n) input (head, place) → es ≡ [] → HasRead n input place es
-has_read_opening n input head place es t e = record {
-  within = t.within;
-  spelled = subst (λ (es : List Event). SpellsEvents (opening n ∷ es) (take place input)) (sym e) (one_event (opening n) (take place input) (opening_is n head (take place input) t.spelled));
-}
-
 pub has_read_more : (n : ℕ) (input : List ℕ) (place taken : ℕ) (es fs : List Event) (e : Event) → HasRead n input place es → taken ≤ length (drop place input) → SpellsEvent e (take taken (drop place input)) → fs ≡ es ++ e ∷ []
     → HasRead n input (place + taken) fs
 has_read_more n input place taken es fs e h room p i = record {

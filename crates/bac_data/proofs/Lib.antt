@@ -21,6 +21,7 @@ mod HeldLemmas
 mod NodeLemmas
 mod HeldSteps
 mod WalkLemmas
+mod KeptLemmas
 mod ReadingSteps
 mod StandingLeast
 mod LinkLemmas

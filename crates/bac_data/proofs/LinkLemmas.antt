@@ -1,10 +1,9 @@
 -- The nodes of a value that is being read, step by step.
-use Rattle.std.proofs.Common.{◌≡◌, ◌≢◌, ℕ, ◌+◌, ◌-◌, ◌<◌, ◌≤◌, suc, zero, Option, None, Some, List, [], ◌∷◌, ◌++◌, reverse, set, take, length, map, refl, sym, ◌∙◌, ap, subst, arith, length-append}
+use Rattle.std.proofs.Common.{◌≡◌, ℕ, ◌+◌, ◌-◌, ◌<◌, ◌≤◌, suc, zero, Some, List, [], ◌∷◌, ◌++◌, reverse, set, take, length, map, refl, sym, ◌∙◌, ap, subst, arith, length-append}
 use Rattle.std.specs.Prelude.{slice_get}
 use Rattle.std.specs.List.{AllByRecursion}
-use Rattle.std.proofs.lemmas.List.{length-map, length-reverse, length-take, reverse-append, reverse-reverse}
+use Rattle.std.proofs.lemmas.List.{length-map, length-take, reverse-append, reverse-reverse}
 use Rattle.std.proofs.lemmas.Option.{none-some, same_Some, slice_get_within}
-use Rattle.bac_tag.specs.Spelling.{IsLeast}
 use Rattle.bac_data.specs.declared.nodes.Node.{Node}
 use Rattle.bac_data.specs.declared.nodes.Node.TheVariants as node
 use Rattle.bac_data.specs.declared.short_nodes.ShortNode.{ShortNode}
@@ -41,10 +40,6 @@ take_written {A} (suc n) (x ∷ xs) zero y = refl
 take_written {A} (suc n) (x ∷ xs) (suc i) y = ap (λ (l : List A). x ∷ l) (take_written n xs i y)
 
 -- ---- few nodes, or many
-
-pub many_more : (few : List ShortNode) (ns : List Node) (n : Node) → all_nodes few (ns ++ n ∷ []) ≡ ns ++ n ∷ []
-many_more few [] n = refl
-many_more few (m ∷ ns) n = refl
 
 pub many_alone : (few : List ShortNode) (ns : List Node) → (ns ≡ [] → ⊥) → all_nodes few ns ≡ ns
 many_alone few [] some = absurd (some refl)
@@ -198,9 +193,6 @@ short_for e end (node.Close number) f h = absurd f
 module _ (number k : ℕ) (end : ℕ) (l : Listing) (es : List Event) (octets more before behind : List ℕ) where
   -- a group that begins
   module _ (m : MayAdd number (opening k) end l es octets more before behind) where
-    pub opening_room : l.depth < 32
-    opening_room = omega (arith, m.opens.0, m.lists.listed.depth_is)
-
     -- the index of the group around it is that of a node
     pub around_small : l.count < 6 → l.innermost < 256
     around_small few =

@@ -296,10 +296,6 @@ module _ (nodes : List Node) (groups : List ℕ) (es : List Event) (octets added
         ended = ended_more es (opening number) nodes (node.Open number link) groups (groups ++ length nodes ∷ []) m.are_nodes.ended (λ i a. among_more i (length nodes) groups a) (λ k last i. among_last (length nodes) groups);
       }
 
-  -- a group may begin where there is room
-  pub open_few : (number : ℕ) → MayList (opening number) end nodes groups es octets added before after → length groups < 32
-  open_few number m = omega (arith, m.opens.0, begun_count es (reverse groups) before m.are_nodes.begun, length-reverse groups)
-
   -- the group that ends is the innermost one
   pub close_some : (number : ℕ) → MayList (closing number) end nodes groups es octets added before after → (outer : List ℕ) × (index : ℕ) × (groups ≡ outer ++ index ∷ []) × (index < length nodes)
   close_some number m =

@@ -5,7 +5,7 @@ use Rattle.std.specs.Prelude.{IsTrue, IfOk, IfSome, Result, Ok, Err, is_some, no
 use Rattle.std.specs.List.{AllByRecursion}
 use Rattle.bac_tag.specs.Octets.{IsMark, joined_mark}
 use Rattle.bac_tag.specs.Laws.Octets.{mark-append, NoGreater-length}
-use Rattle.bac_tag.specs.Spelling.{IsLeast, IsRefusal, Takes}
+use Rattle.bac_tag.specs.Spelling.{IsLeast, Takes}
 use Rattle.bac_tag.specs.Heads.{Heads}
 use Rattle.bac_tag.specs.Laws.Spelling.{IsLeast-one}
 use Rattle.bac_tag.specs.declared.heads.TagHead.TheVariants.{Close, Open}
@@ -24,12 +24,11 @@ use Rattle.bac_data.specs.HeldLists.{octets_of, nodes_of, IsSound}
 use Rattle.bac_data.specs.Listings.{listed_nodes, Lists, MayAdd}
 use Rattle.bac_data.specs.Marks.{HasMark}
 use Rattle.bac_data.specs.Progress.{part, held_so_far, Progress, Continues, Closes}
-use Rattle.bac_data.specs.Reading.{MayStand, item_event, item_contents, IsItem, LiesInFront, StandsLeast}
+use Rattle.bac_data.specs.Reading.{MayStand, item_event, IsItem, LiesInFront, StandsLeast}
 use Rattle.bac_data.proofs.AnyLemmas.{HasRead, has_read_more, next_of_standing, value_read}
 use Rattle.bac_data.proofs.EventLemmas.{SpellsEvents-append, SpellsEvents-split, event_alone, one_event}
 use Rattle.bac_data.proofs.LeastLemmas.{least_both, least_more, least_none}
 use Rattle.bac_data.proofs.MarkLemmas.{ItemMark, marked_opening, value_marked, ended_events}
-use Rattle.bac_data.proofs.OpenLemmas.{Opens-one}
 use Rattle.bac_data.proofs.ReadingSteps.{keeps_nothing, front_least, behind_marked, closed_behind, unmarked}
 use Rattle.bac_data.proofs.ValueLemmas.{least_event}
 use Rattle.bac_data.proofs.ViableLemmas.{next_steps}

@@ -1,7 +1,7 @@
 -- What a reader keeps, step by step.
-use Rattle.std.proofs.Common.{◌≡◌, ℕ, ◌+◌, ◌-◌, ◌<◌, ◌≤◌, Bool, true, false, Option, None, Some, List, [], ◌∷◌, ◌++◌, take, drop, length, reverse, refl, sym, ◌∙◌, ap, subst, arith, take-add, length-append, length-drop, length-take}
+use Rattle.std.proofs.Common.{◌≡◌, ℕ, ◌+◌, ◌-◌, ◌<◌, ◌≤◌, Bool, true, false, Option, None, Some, List, [], ◌∷◌, ◌++◌, take, drop, length, reverse, refl, sym, ◌∙◌, ap, subst, arith, take-add, length-take}
 use Rattle.std.proofs.Math.Seq.{drop-append_seam}
-use Rattle.std.proofs.lemmas.List.{append_cancel_left, append-nil, length-reverse, take_all, nil_from_length}
+use Rattle.std.proofs.lemmas.List.{append_cancel_left, append-nil, length-reverse, take_all}
 use Rattle.std.specs.Prelude.{is_some, IsTrue, IfNone, ◌↔◌}
 use Rattle.bac_tag.specs.Octets.{IsMark, joined_mark}
 use Rattle.bac_tag.specs.Spelling.{IsLeast, AppendsLeast}
@@ -14,19 +14,12 @@ use Rattle.bac_tag.proofs.MarksLemmas.{spelled_some}
 use Rattle.bac_data.specs.declared.items.Item.{Item}
 use Rattle.bac_data.specs.declared.items.Item.TheVariants as item
 use Rattle.bac_data.specs.Events.{Event, closing, opening, Opens, SpellsEvent, SpellsEvents}
-use Rattle.bac_data.specs.Building.{AreOpen, Keeps, IsPlace, closing_number, held_octets}
-use Rattle.bac_data.specs.declared.nodes.Node.{Node}
-use Rattle.bac_data.specs.NodeEvents.{AreNodes, IsHeld, MayList}
+use Rattle.bac_data.specs.Building.{AreOpen, Keeps, IsPlace, closing_number}
 use Rattle.bac_data.specs.Marks.{HasMark}
 use Rattle.bac_data.specs.Reading.{item_event, item_contents, item_head, IsItem, IsApplication, LiesInFront, BeginsLeast}
 use Rattle.bac_data.proofs.AnyLemmas.{HasRead, has_read_more}
 use Rattle.bac_data.proofs.BuildingLemmas.{open_kept}
-use Rattle.bac_data.proofs.EventLemmas.{SpellsEvents-split, event_alone}
-use Rattle.bac_data.proofs.HeldSteps.{nothing_listed}
 use Rattle.bac_data.proofs.LeastLemmas.{least_more, least_none}
-use Rattle.bac_data.proofs.NodeLemmas.{begun_count}
-use Rattle.bac_data.proofs.OpenLemmas.{Opens-one, Opens-split}
-use Rattle.bac_data.proofs.ValueLemmas.{least_event}
 use Rattle.bac_data.proofs.MarkLemmas.{ItemMark, least_of_one, least_marked, closing_marked, marked_more, marked_already}
 use Rattle.bac_data.proofs.WalkLemmas.{in_two}
 

@@ -1,15 +1,11 @@
 -- Short nodes, and the lists that are held.
-use Rattle.std.proofs.Common.{◌≡◌, ℕ, ◌+◌, ◌<◌, ◌≤◌, Some, List, [], ◌∷◌, ◌++◌, get_or, set, take, length, map, sym, ◌∙◌, ap, subst, arith}
+use Rattle.std.proofs.Common.{◌≡◌, ℕ, ◌<◌, ◌≤◌, Some, List, get_or, take, length, map, ◌∙◌, ap, arith}
 use Rattle.std.specs.Prelude.{slice_get}
 use Rattle.std.specs.Option.{option_map}
-use Rattle.std.proofs.lemmas.List.{get_or-take, length-map, length-take-le, map_push, take_more, take_more_set}
+use Rattle.std.proofs.lemmas.List.{get_or-take, length-map, length-take-le}
 use Rattle.std.proofs.lemmas.Option.{slice_get-map, slice_get-get_or}
-use Rattle.bac_data.specs.declared.nodes.Node.{Node}
 use Rattle.bac_data.specs.declared.short_nodes.ShortNode.{ShortNode}
-use Rattle.bac_data.specs.declared.held.Held.{Held}
-use Rattle.bac_data.specs.declared.held.Held.TheVariants as held
 use Rattle.bac_data.specs.ShortNodes.{wide_node}
-use Rattle.bac_data.specs.HeldLists.{nodes_of, IsSound}
 
 -- as many few nodes as are counted
 pub counted : (count : ℕ) (few : List ShortNode) → count ≤ 6 → length few ≡ 6 → length (map wide_node (take count few)) ≡ count
@@ -21,9 +17,3 @@ node_there count few i d most places within =
     let long : length (take count few) ≡ count = length-take-le count few (omega (arith, most, places)) in
     slice_get-map wide_node (take count few) i ∙ ap (option_map wide_node) (slice_get-get_or (take count few) i d (omega (arith, long, within)))
     ∙ ap (λ (n : ShortNode). Some (wide_node n)) (get_or-take count few i d within)
-
--- one short node more, for one more of the nodes
-pub narrowed : (few : List ShortNode) (nodes : List Node) (i : ℕ) (n : ShortNode) (d : Node) → i < length few → i < length nodes → map wide_node (take i few) ≡ take i nodes → wide_node n ≡ get_or nodes i d
-    → map wide_node (take (i + 1) (set few i n)) ≡ take (i + 1) nodes
-narrowed few nodes i n d room within same is =
-    ap (map wide_node) (take_more_set few i n room) ∙ map_push wide_node (take i few) n ∙ ap (λ (ns : List Node). ns ++ wide_node n ∷ []) same ∙ ap (λ (m : Node). take i nodes ++ m ∷ []) is ∙ sym (take_more nodes i d within)

@@ -1,13 +1,9 @@
 -- An item that may be next and begins with its canonical octets.
-use Rattle.std.proofs.Common.{◌≡◌, ◌≢◌, ℕ, ◌+◌, ◌-◌, ◌<◌, ◌≤◌, Bool, true, List, [], ◌++◌, take, drop, length, refl, sym, ◌∙◌, ap, subst, arith, Bor, take-add, length-take, length-drop}
-use Rattle.std.specs.Prelude.{IsTrue, ◌↔◌}
+use Rattle.std.proofs.Common.{◌≡◌, ℕ, ◌+◌, ◌-◌, ◌≤◌, Bool, List, ◌++◌, take, drop, length, sym, ◌∙◌, ap, subst, arith, Bor, take-add, length-take, length-drop}
 use Rattle.std.specs.List.{slice_range}
 use Rattle.std.proofs.lemmas.Bool.{eq-eqb}
 use Rattle.bac_tag.specs.Heads.{Heads}
-use Rattle.bac_tag.specs.Octets.{IsOctets}
 use Rattle.bac_tag.specs.Spelling.{IsLeast}
-use Rattle.bac_tag.specs.declared.heads.TagHead.{TagHead}
-use Rattle.bac_tag.specs.declared.heads.TagHead.TheVariants.{App, Ctx, Open, Close}
 use Rattle.bac_value.specs.PrimContents.{IsWrittenOf, prim_written}
 use Rattle.bac_value.specs.Laws.Prim.{prim_once}
 use Rattle.bac_data.specs.declared.items.Item.{Item}

@@ -13,6 +13,7 @@ pub mod Under
 pub mod Reading
 pub mod Marks
 pub mod Listings
+pub mod KeptOctets
 pub mod Progress
 pub mod Same
 pub mod Laws

@@ -1,5 +1,5 @@
 -- The nodes of a short value.
-use Rattle.std.specs.Prelude.{ℕ, ◌<◌}
+use Rattle.std.specs.Prelude.{◌<◌}
 use Rattle.bac_data.specs.declared.nodes.Node.{Node}
 use Rattle.bac_data.specs.declared.nodes.Node.TheVariants as node
 use Rattle.bac_data.specs.declared.short_nodes.ShortNode.{ShortNode}

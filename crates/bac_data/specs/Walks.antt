@@ -24,11 +24,11 @@ IsPackedStep _ = Unit {0}
 abbrev pub GivesStep : List Event → Option Step → List Event → Type 0
 GivesStep walk step rest = YieldsFirstBy event_of (λ (left : List Event). left) walk step rest × IfSome step IsPackedStep
 
--- no group begins these events
+-- No group begins these events.
 abbrev pub BeginsNoGroup : List Event → Type 0
 BeginsNoGroup walk = (number : ℕ) (others : List Event) → walk ≡ opening number ∷ others → ⊥
 
--- the group that begins the events is passed over; where none does, the events stay
+-- The group that begins the events is passed over, and its number is given. If no group begins them, they stay.
 abbrev pub SkipsGroup : List Event → Option ℕ → List Event → Type 0
 SkipsGroup walk None rest = (rest ≡ walk) × BeginsNoGroup walk
 SkipsGroup walk (Some number) rest = (inner : Elements) × (walk ≡ opening number ∷ (events inner ++ closing number ∷ rest))

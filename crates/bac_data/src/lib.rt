@@ -16,22 +16,24 @@
 //! for an opening the index of its closing. What it stands for is `node_event` (`NodeEvents.antt`). The invariant of a
 //! value is `IsHeld`: the octets are the least that spell the events of the nodes; ranges lie within the octets, and
 //! contents of application primitives are the written ones (`Lies`); at most 32 groups nest (`Opens`); and each opening
-//! has the index of its own closing (`IsGroup`). Both lists have room for a small value in the value itself.
+//! has the index of its own closing (`IsGroup`). A value of at most 6 nodes and 24 octets lies in itself (`Held` in
+//! `held.rt`), its nodes as short ones of 4 octets (`short_nodes.rt`). Other values have both lists in vectors.
 //!
-//! A builder holds the same, and the indices of the open groups' openings in an array (`NodeList`). What is pushed is
-//! appended in its canonical octets, and `finish` passes both lists on as they are. A walk steps along the nodes and
-//! hands out slices of the octets; `PrimRef::of_contents` gives the value of an application primitive.
+//! A builder has both lists in vectors, and the indices of the open groups' openings in an array (`NodeList`). What is
+//! pushed is appended in its canonical octets, and `finish` makes a `Held` of both lists. A walk steps along the nodes
+//! and hands out slices of the octets; `PrimRef::of_contents` gives the value of an application primitive.
 //!
-//! [`read_any`] goes from item to item (`reading.rt`). First it tries what is found at once: an application primitive
-//! in canonical octets after a head of one octet (`least_primitive`), and a closing tag of one octet. Otherwise
-//! `read_item` (`items.rt`) reads one of the heads that may be there. The open groups say whether another group may
-//! begin, and which number ends the innermost one.
+//! [`read_any`] goes from item to item (`reading.rt`), and lists the node of each (`Listing` in `listing.rt`). The node
+//! of an open group has the index of the group around it, so a reader needs no list of the open groups. They say
+//! whether another group may begin, and which number ends the innermost one.
 //!
-//! Each item gets its node at once (`NodeList::add`). As long as all items are in canonical octets (`is_least`), no
-//! octets are kept, and at the end those between the tags are copied at once. From the first other item on, each item
-//! is appended in its canonical octets (`append_item`) after a copy of the octets before it. The first octet of that
-//! item that differs from what was appended is the mark of the value. Contents of application primitives are appended
-//! as they are written (`append_written` of bac_value), without a value.
+//! Items in canonical octets are read in runs (`read_canonical`): `next_canonical` (`items.rt`) finds the next one at
+//! once, without a refusal. Most values are one such run. Then no octets are kept, and those between the tags are copied
+//! at the end. Where a run ends, `read_rest` goes on: `read_item` reads one of the heads that may be there. From the
+//! first item on that is not in canonical octets, each item is appended in its canonical octets (`append_item`) after a
+//! copy of the octets before it (`Kept` in `kept.rt`). The first octet of that item that differs from what was appended
+//! is the mark of the value. Contents of application primitives are appended as they are written (`append_written` of
+//! bac_value), without a value.
 //!
 //! `canonical_any_len` (`canonical.rt`) goes over octets that may be canonical, and makes no value, so a long value
 //! needs no copy. It takes what is next only in canonical octets (`least_item`), so it has no refusals to report.
@@ -39,11 +41,12 @@
 //! Where it is, in `src`, and after the semicolon in `specs`:
 //!
 //! - the value: `open_value.rt`; `OpenValue.antt`, `Spells.antt`, `Events.antt`, `Codes.antt`
-//! - how it is held, and `==`: `open_value.rt`, `nodes.rt`; `NodeEvents.antt`, `Same.antt`, `Laws/Alignment.antt`
+//! - how it is held, and `==`: `open_value.rt`, `held.rt`, `nodes.rt`, `short_nodes.rt`; `NodeEvents.antt`,
+//!   `HeldLists.antt`, `ShortNodes.antt`, `Same.antt`, `Laws/Alignment.antt`
 //! - the builder, its faults and the walk: `building.rt`, `build_faults.rt`, `walking.rt`; `Building.antt`,
 //!   `Events.antt`, `Walks.antt`
-//! - reading and marks: `reading.rt`, `items.rt`; `Spells.antt`, `Refusals.antt`, `Reading.antt`, `Under.antt`,
-//!   `Marks.antt`
+//! - reading and marks: `reading.rt`, `items.rt`, `listing.rt`, `kept.rt`; `Spells.antt`, `Refusals.antt`,
+//!   `Reading.antt`, `Under.antt`, `Marks.antt`, `Listings.antt`, `KeptOctets.antt`, `Progress.antt`
 //! - canonical octets without a value: `canonical.rt`; `Reading.antt`, and `Spelling.antt` of bac_tag
 //! - writing, and the laws: `writing.rt`, `laws.rt`; `Spells.antt`, `Parts.antt`
 #![tactic(auto)]
@@ -53,6 +56,7 @@ mod building;
 mod canonical;
 mod held;
 mod items;
+mod kept;
 pub mod laws;
 pub mod layers;
 mod listing;

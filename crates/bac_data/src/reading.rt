@@ -20,6 +20,7 @@ ghost use Rattle.bac_data.specs.Progress.{Progress, Continues, Closes};
 use crate::building::MAX_GROUPS;
 use crate::held::Held;
 use crate::items::{Item, is_least, next_canonical, read_item};
+use crate::kept::Kept;
 use crate::listing::Listing;
 use crate::open_value::Any;
 use crate::short_nodes::short_octets;
@@ -98,46 +99,34 @@ fn keep(
     octets: &[u8],
     head: usize,
     item: Item<'_>,
-    kept: &mut Vec<u8>,
+    kept: &mut Kept,
 ) -> Result<Option<usize>, OutOfMemory>
     requires item { IsItem item }
     requires lies { LiesInFront item head (length octets.now) octets.now }
     requires spelled { SpellsEvent (item_event item) octets.now }
-    requires front { (es : List Event) × Keeps before es kept.old.items × (before ≡ None → IsLeast (SpellsEvents es) front.now) }
+    requires front { (es : List Event) × Keeps before es kept.old × (before ≡ None → IsLeast (SpellsEvents es) front.now) }
     ensures mark { IfOk result (λ own. before ≡ None → (b : List ℕ) → IsLeast (SpellsEvent (item_event item.entry)) b → IsMark octets.now b own) }
     ensures within { IfOk result (λ own. IfSome own (λ place. place < length octets.now)) }
-    ensures kept { IfOk result (λ own. (es : List Event) (place : ℕ) → Keeps before es kept.old.items → (before ≡ None → IsLeast (SpellsEvents es) front.now) → Keeps (joined_mark before place own) (es ++ item_event item.entry ∷ []) kept.new.items) }
+    ensures kept { IfOk result (λ own. (es : List Event) (place : ℕ) → Keeps before es kept.old → (before ≡ None → IsLeast (SpellsEvents es) front.now) → Keeps (joined_mark before place own) (es ++ item_event item.entry ∷ []) kept.new) }
 {
     if before.is_none() {
         if is_least(&octets[..head], item) {
             return Ok(None);
         }
-        begin(front, kept)?;
+        kept.extend(front)?;
     }
     let start = kept.len();
     append_item(item, kept)?;
     if before.is_some() {
         return Ok(None);
     }
-    Ok(first_difference(octets, &kept[start..]))
-}
-
-/// The capacity for what follows the first octet that is not canonical. Most values have less.
-const ROOM: usize = 48;
-
-/// Keeps the octets of the items before the first one that is not canonical.
-fn begin(front: &[u8], kept: &mut Vec<u8>) -> Result<(), OutOfMemory>
-    ensures { OnOk result (kept.new.items ≡ kept.old.items ++ front.now) }
-{
-    kept.reserve(front.len().saturating_add(ROOM))?;
-    kept.extend_from_slice(front)?;
-    Ok(())
+    Ok(first_difference(octets, &kept.as_slice()[start..]))
 }
 
 /// Returns how many canonical octets the events so far have: `front` if there is no mark, else as many as are kept.
 #[inline(always)]
-fn held_len(mark: Option<usize>, front: usize, kept: &Vec<u8>) -> usize
-    ensures { (octets : List ℕ) → length octets ≡ front → result ≡ length (held_octets mark octets kept.now.items) }
+fn held_len(mark: Option<usize>, front: usize, kept: &Kept) -> usize
+    ensures { (octets : List ℕ) → length octets ≡ front → result ≡ length (held_octets mark octets kept.now) }
 {
     if mark.is_none() { front } else { kept.len() }
 }
@@ -227,21 +216,19 @@ fn hold(front: &[u8], nodes: Listing, alloc: Global) -> Result<Held, OutOfMemory
 fn hold_kept(
     front: &[u8],
     mark: Option<usize>,
-    kept: Vec<u8>,
+    kept: Kept,
     nodes: Listing,
+    alloc: Global,
 ) -> Result<Held, OutOfMemory>
-    requires { (number : ℕ) × (es : List Event) × (numbers : List ℕ) × Lists number nodes es (held_octets mark front.now kept.items) numbers }
-    ensures octets { IfOk result (λ held. octets_of held ≡ held_octets mark front.now kept.items) }
+    requires { (number : ℕ) × (es : List Event) × (numbers : List ℕ) × Lists number nodes es (held_octets mark front.now kept) numbers }
+    ensures octets { IfOk result (λ held. octets_of held ≡ held_octets mark front.now kept) }
     ensures nodes { IfOk result (λ held. nodes_of held ≡ listed_nodes nodes) }
     ensures sound { IfOk result IsSound }
 {
     if mark.is_none() {
-        return hold(front, nodes, *kept.allocator());
+        return hold(front, nodes, alloc);
     }
-    if nodes.are_few() {
-        return Ok(nodes.hold(short_octets(kept.as_slice()), kept.len()));
-    }
-    Ok(nodes.hold_many(kept))
+    kept.hold(nodes)
 }
 
 /// Returns the value that is held, how many octets it takes, and its mark.
@@ -278,19 +265,26 @@ fn keep_item(
     place: usize,
     mark: Option<usize>,
     found: (Item<'_>, usize, usize),
-    kept: &mut Vec<u8>,
+    kept: &mut Kept,
     nodes: &mut Listing,
 ) -> Result<Option<usize>, OutOfMemory>
     requires item { IsItem found.0 }
     requires within { place + found.2 ≤ length octets.now }
     requires lies { LiesInFront found.0 found.1 found.2 (drop place octets.now) }
     requires spelled { SpellsEvent (item_event found.0) (take found.2 (drop place octets.now)) }
-    requires progress { (number : ℕ) × (progress : Progress number octets.now start place kept.old.items mark nodes.old) × (behind : List ℕ) × Opens 32 progress.numbers (item_event found.0 ∷ []) behind }
-    ensures { IfOk result (λ joined. (number : ℕ) (progress : Progress number octets.now start place kept.old.items mark nodes.old) (behind : List ℕ) → Opens 32 progress.numbers (item_event found.entry.0 ∷ []) behind → Progress number octets.now start (place + found.entry.2) kept.new.items joined nodes.new) }
+    requires progress { (number : ℕ) × (progress : Progress number octets.now start place kept.old mark nodes.old) × (behind : List ℕ) × Opens 32 progress.numbers (item_event found.0 ∷ []) behind }
+    ensures { IfOk result (λ joined. (number : ℕ) (progress : Progress number octets.now start place kept.old mark nodes.old) (behind : List ℕ) → Opens 32 progress.numbers (item_event found.entry.0 ∷ []) behind → Progress number octets.now start (place + found.entry.2) kept.new joined nodes.new) }
 {
     let (item, head, taken) = found;
     let end = place + taken;
-    let own = keep(&octets[start..place], mark, &octets[place..end], head, item, kept)?;
+    let own = keep(
+        &octets[start..place],
+        mark,
+        &octets[place..end],
+        head,
+        item,
+        kept,
+    )?;
     let joined = joined_marks(mark, place, own);
     nodes.add(item, held_len(joined, end - start, kept))?;
     Ok(joined)
@@ -305,17 +299,17 @@ fn keep_canonical(
     octets: &[u8],
     number: u8,
     place: usize,
-    kept: &mut Vec<u8>,
+    kept: &mut Kept,
     nodes: &mut Listing,
 ) -> Result<(usize, Option<usize>), OutOfMemory>
     requires number { number ≤ 254 }
-    requires progress { (start : ℕ) × (mark : ℕ) × Progress number octets.now start place kept.old.items (Some mark) nodes.old }
+    requires progress { (start : ℕ) × (mark : ℕ) × Progress number octets.now start place kept.old (Some mark) nodes.old }
     ensures from { IfOk result (λ found. place ≤ found.0) }
-    ensures progress { IfOk result (λ found. (start mark : ℕ) → Progress number octets.now start place kept.old.items (Some mark) nodes.old → Progress number octets.now start found.0 kept.new.items (Some mark) nodes.new) }
+    ensures progress { IfOk result (λ found. (start mark : ℕ) → Progress number octets.now start place kept.old (Some mark) nodes.old → Progress number octets.now start found.0 kept.new (Some mark) nodes.new) }
     ensures closes { IfOk result (λ found. IfSome found.1 (Closes number octets.now found.0 nodes.new)) }
 {
     let (end, closed) = read_canonical(octets, number, place, kept.len(), nodes)?;
-    kept.extend_from_slice(&octets[place..end])?;
+    kept.extend(&octets[place..end])?;
     Ok((end, closed))
 }
 
@@ -346,7 +340,7 @@ fn read_rest(
     let mut place = place;
     let mut mark = mark;
     let mut nodes = nodes;
-    let mut kept = Vec::new(alloc);
+    let mut kept = Kept::new(alloc);
     loop {
         let (room, closing) = nodes.place();
         let found = match read_item(&octets[place..], room, closing) {
@@ -356,7 +350,7 @@ fn read_rest(
         if nodes.is_closed() && ends(found.0, number) {
             let tag = &octets[place..place + found.1];
             let behind = mark_closing(mark, place, tag, number);
-            let held = hold_kept(&octets[start..place], mark, kept, nodes);
+            let held = hold_kept(&octets[start..place], mark, kept, nodes, alloc);
             return finish(held, place + found.2, behind);
         }
         let Ok(joined) = keep_item(octets, start, place, mark, found, &mut kept, &mut nodes) else {
@@ -372,7 +366,7 @@ fn read_rest(
         };
         place = end;
         if let Some(taken) = closed {
-            let held = hold_kept(&octets[start..place], mark, kept, nodes);
+            let held = hold_kept(&octets[start..place], mark, kept, nodes, alloc);
             return finish(held, place + taken, mark);
         }
     }

@@ -12,6 +12,7 @@ ghost use Rattle.bac_data.specs.Reading.{item_event, IsItem};
 ghost use Rattle.bac_tag.specs.Octets.{Extends};
 
 use crate::items::{Item, contents_of, head_of};
+use crate::kept::Kept;
 use crate::open_value::Any;
 use bac_tag::layers::{append_head, or_cut_back};
 use bac_tag::{OutOfMemory, TagHead};
@@ -45,7 +46,11 @@ pub(crate) fn append_primitive(prim: &Prim, out: &mut Vec<u8>) -> Result<(), Out
 /// Appends the application primitive with this number and these contents, which may differ from those that are written.
 /// If memory is refused, `out` may hold some of the octets.
 #[inline(never)]
-fn append_application(number: u8, contents: &[u8], out: &mut Vec<u8>) -> Result<(), OutOfMemory>
+pub(crate) fn append_application(
+    number: u8,
+    contents: &[u8],
+    out: &mut Vec<u8>,
+) -> Result<(), OutOfMemory>
     requires number { number ≤ 12 }
     requires other { number ≢ 1 }
     requires contents { (prim : PrimitiveValue) × ContentsOf number prim contents.now }
@@ -87,12 +92,11 @@ pub(crate) fn append_context(
     or_cut_back(appended, start, out)
 }
 
-/// Appends the canonical octets of what was read. If memory is refused, `out` may hold some of the octets.
-#[inline]
-pub(crate) fn append_item(item: Item<'_>, out: &mut Vec<u8>) -> Result<(), OutOfMemory>
+/// Appends the canonical octets of what was read. If memory is refused, `kept` may hold some of the octets.
+#[inline(always)]
+pub(crate) fn append_item(item: Item<'_>, kept: &mut Kept) -> Result<(), OutOfMemory>
     requires { IsItem item }
-    ensures ok { OnOk result (AppendsLeast (SpellsEvent (item_event item.entry)) out.old.items out.new.items) }
-    ensures err { OnErr result (Extends out.old.items out.new.items) }
+    ensures { OnOk result (AppendsLeast (SpellsEvent (item_event item.entry)) kept.old kept.new) }
 {
     if let Item::Application {
         number,
@@ -101,12 +105,11 @@ pub(crate) fn append_item(item: Item<'_>, out: &mut Vec<u8>) -> Result<(), OutOf
     } = item
     {
         if !written {
-            return append_application(number, contents, out);
+            return kept.append_application(number, contents);
         }
     }
-    append_head(head_of(item), out)?;
-    out.extend_from_slice(contents_of(item))?;
-    Ok(())
+    kept.append_head(head_of(item))?;
+    kept.extend(contents_of(item))
 }
 
 /// How many octets an opening and a closing tag have together at most.

@@ -1,10 +1,8 @@
-use Rattle.std.proofs.Common.{◌≡◌, ◌+◌, ◌-◌, ◌++◌, ℕ, List, [], ◌∷◌, false, true, take, drop, length, refl, sym, ◌∙◌, arith, length-drop}
+use Rattle.std.proofs.Common.{◌≡◌, ◌++◌, ℕ, List, false, true, take, drop, sym, ◌∙◌, arith, length-drop}
 use Rattle.std.proofs.lemmas.List.{take_rest}
-use Rattle.bac_data.specs.Events.{Event, Opens}
-use Rattle.bac_data.specs.Listings.{Lists}
-use Rattle.bac_data.specs.Progress.{part, Continues}
-use Rattle.bac_data.specs.Reading.{item_event, StandsLeast}
-use Rattle.bac_data.proofs.ProgressLemmas.{listed_small, next_opens, closes_here, continues_none, continues_listed, continues_more}
+use Rattle.bac_data.specs.Progress.{part}
+use Rattle.bac_data.specs.Reading.{item_event}
+use Rattle.bac_data.proofs.ProgressLemmas.{next_opens, closes_here, continues_none, continues_listed, continues_more}
 use Rattle.bac_data.proofs.reading.read_canonical.Goals.{else-is_closed-via-then-is_closed+else-ends, else-is_closed-via-else-is_closed}
 use Rattle.bac_data.proofs.reading.read_canonical.Goals as goal
 
@@ -29,8 +27,7 @@ add-requires-clause-may c =
     elim c.else-is_closed.branch [
       | else-is_closed-via-then-is_closed+else-ends w ↦ absurd (let i : false ≡ true = sym w.if-ends.false ∙ w.ends.ensures.1 e in cc)
       | else-is_closed-via-else-is_closed w ↦ absurd (let i : false ≡ true = sym w.if-is_closed.false ∙ c.is_closed.ensures.1 none in cc)
-    ]) in
-    (
+    ]) in (
       c.args.number,
       es ++ k.more,
       held,

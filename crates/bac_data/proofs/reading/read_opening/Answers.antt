@@ -1,4 +1,4 @@
-use Rattle.std.proofs.Common.{List, ℕ, take, arith}
+use Rattle.std.proofs.Common.{take, arith}
 use Rattle.std.proofs.lemmas.Result.{err_from_is_err_and}
 use Rattle.bac_tag.specs.Heads.{Heads}
 use Rattle.bac_tag.specs.Laws.Spelling.{IsLeast-one}

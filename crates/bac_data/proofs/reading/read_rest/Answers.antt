@@ -1,10 +1,8 @@
-use Rattle.std.proofs.Common.{◌≡◌, ◌+◌, ◌-◌, ◌≤◌, ◌++◌, ◌∷◌, [], ℕ, List, Option, None, Some, Bool, false, true, take, drop, length, refl, sym, ◌∙◌, ap, subst, arith, length-drop}
-use Rattle.std.specs.Prelude.{IfOk, is_some, not}
+use Rattle.std.proofs.Common.{◌≡◌, ◌+◌, ◌-◌, ℕ, List, Option, false, true, take, drop, sym, ◌∙◌, subst, arith, length-drop}
+use Rattle.std.specs.Prelude.{IfOk}
 use Rattle.std.proofs.lemmas.List.{take_rest}
-use Rattle.bac_tag.specs.Heads.{Heads}
 use Rattle.bac_tag.specs.Octets.{IsMark}
-use Rattle.bac_tag.specs.Spelling.{IsLeast, Takes}
-use Rattle.bac_data.specs.Events.{Event, Opens}
+use Rattle.bac_data.specs.Events.{Event}
 use Rattle.bac_data.specs.HeldLists.{octets_of, nodes_of}
 use Rattle.bac_data.specs.Listings.{listed_nodes}
 use Rattle.bac_data.specs.NodeEvents.{node_events}
@@ -19,7 +17,7 @@ use Rattle.bac_data.proofs.reading.read_rest.Goals.{else-is_closed-via-then-is_c
 use Rattle.bac_data.proofs.reading.read_rest.Goals as goal
 
 pub loop-found-init : goal.loop-found-init
-loop-found-init c = subst (λ (kept : List ℕ). Progress c.args.number c.args.octets.now c.args.start c.args.place kept c.args.mark c.args.nodes) (sym c.new-kept.ensures.items) c.requires.progress
+loop-found-init c = subst (λ (kept : List ℕ). Progress c.args.number c.args.octets.now c.args.start c.args.place kept c.args.mark c.args.nodes) (sym c.new-kept.ensures) c.requires.progress
 
 pub read_item-requires : goal.read_item-requires
 read_item-requires c =
@@ -28,7 +26,7 @@ read_item-requires c =
     let start = c.args.start in
     let place = c.loop-found.place in
     let p = c.loop-found.invariant in
-    let held = held_so_far octets start place c.loop-found.kept.items c.loop-found.mark in
+    let held = held_so_far octets start place c.loop-found.kept c.loop-found.mark in
     listed_small number c.loop-found.nodes p.es held p.numbers c.place-room.result.1 c.requires.number p.lists c.place-room.ensures.closing
 
 pub returns-in-Err-clause-refused : goal.returns-in-Err-clause-refused
@@ -38,7 +36,7 @@ returns-in-Err-clause-refused c = λ w.
     let start = c.args.start in
     let place = c.loop-found.place in
     let p = c.loop-found.invariant in
-    let held = held_so_far octets start place c.loop-found.kept.items c.loop-found.mark in
+    let held = held_so_far octets start place c.loop-found.kept c.loop-found.mark in
     rw c.behind.ensures (refused_behind_events number octets place p.es c.place-room.result.0 c.place-room.result.1 c.in-Err.refusal (record { within = p.within; spelled = p.spelled })
     (listed_place number c.loop-found.nodes p.es held p.numbers c.place-room.result.0 c.place-room.result.1 p.lists c.place-room.ensures.room c.place-room.ensures.closing) (rw take_rest at c.in-Err.ensures.refused))
 
@@ -49,7 +47,7 @@ returns-in-Err-clause-depth c =
     let start = c.args.start in
     let place = c.loop-found.place in
     let p = c.loop-found.invariant in
-    let held = held_so_far octets start place c.loop-found.kept.items c.loop-found.mark in
+    let held = held_so_far octets start place c.loop-found.kept c.loop-found.mark in
     rw c.behind.ensures (too_deep_behind number octets place p.es c.place-room.result.0 c.place-room.result.1 c.in-Err.refusal (record { within = p.within; spelled = p.spelled })
     (listed_place number c.loop-found.nodes p.es held p.numbers c.place-room.result.0 c.place-room.result.1 p.lists c.place-room.ensures.room c.place-room.ensures.closing) (rw take_rest at c.in-Err.ensures.depth))
 
@@ -66,12 +64,12 @@ finish-requires c =
     let start = c.args.start in
     let place = c.loop-found.place in
     let p = c.loop-found.invariant in
-    let held = held_so_far octets start place c.loop-found.kept.items c.loop-found.mark in
+    let held = held_so_far octets start place c.loop-found.kept c.loop-found.mark in
     let stand = rw take_rest at c.in-Ok.ensures.found in
     let lies = rw take_rest at c.in-Ok.ensures.parts in
     let closed = c.is_closed.ensures.0 c.if-is_closed.true in
     let is = c.ends.ensures.0 c.if-ends.true in
-    let none = listed_held number c.loop-found.nodes p.es held p.numbers p.lists closed (so_far_least number octets start place c.loop-found.kept.items c.loop-found.mark p.es p.begun p.opened p.marked p.keeps) in
+    let none = listed_held number c.loop-found.nodes p.es held p.numbers p.lists closed (so_far_least number octets start place c.loop-found.kept c.loop-found.mark p.es p.begun p.opened p.marked p.keeps) in
     held_valid c.hold_kept-held.result held (listed_nodes c.loop-found.nodes) c.hold_kept-held.ensures.octets c.hold_kept-held.ensures.nodes c.hold_kept-held.ensures.sound none
 
 pub returns-then-ends-clause-found : goal.returns-then-ends-clause-found
@@ -81,18 +79,18 @@ returns-then-ends-clause-found c =
     let start = c.args.start in
     let place = c.loop-found.place in
     let p = c.loop-found.invariant in
-    let held = held_so_far octets start place c.loop-found.kept.items c.loop-found.mark in
+    let held = held_so_far octets start place c.loop-found.kept c.loop-found.mark in
     let stand = rw take_rest at c.in-Ok.ensures.found in
     let lies = rw take_rest at c.in-Ok.ensures.parts in
     let closed = c.is_closed.ensures.0 c.if-is_closed.true in
     let is = c.ends.ensures.0 c.if-ends.true in
-    let none = listed_held number c.loop-found.nodes p.es held p.numbers p.lists closed (so_far_least number octets start place c.loop-found.kept.items c.loop-found.mark p.es p.begun p.opened p.marked p.keeps) in
+    let none = listed_held number c.loop-found.nodes p.es held p.numbers p.lists closed (so_far_least number octets start place c.loop-found.kept c.loop-found.mark p.es p.begun p.opened p.marked p.keeps) in
     let value = found_value c.finish.result (λ (es : List Event). IfOk c.hold_kept-held.result (λ h. node_events (octets_of h) (nodes_of h) ≡ es)) p.es c.finish.ensures.value
     (held_value c.hold_kept-held.result held (listed_nodes c.loop-found.nodes) p.es c.hold_kept-held.ensures.octets c.hold_kept-held.ensures.nodes p.lists.listed.are_nodes.events_are) in
     found_read c.finish.result number octets (place + c.in-Ok.found.2) p.es value c.finish.ensures.taken (λ v same.
     let whole : place + c.in-Ok.found.1 - place ≡ c.in-Ok.found.1 = omega arith in
     let (own, told, joined) = c.mark_closing-behind.ensures in
-    ended_read number c.requires.number octets start place c.loop-found.kept.items c.loop-found.mark c.loop-found.nodes p v same closed c.in-Ok.found.0 c.in-Ok.found.1 c.in-Ok.found.2 own c.mark_closing-behind.result is (closing_item c.in-Ok.found.0 number is) lies stand.within stand.spelled.spelled
+    ended_read number c.requires.number octets start place c.loop-found.kept c.loop-found.mark c.loop-found.nodes p v same closed c.in-Ok.found.0 c.in-Ok.found.1 c.in-Ok.found.2 own c.mark_closing-behind.result is (closing_item c.in-Ok.found.0 number is) lies stand.within stand.spelled.spelled
     (λ b q. subst (λ (k : ℕ). IsMark (take k (drop place octets)) b own) whole (told b q)) joined)
 
 pub returns-then-ends-clause-mark : goal.returns-then-ends-clause-mark
@@ -102,18 +100,18 @@ returns-then-ends-clause-mark c =
     let start = c.args.start in
     let place = c.loop-found.place in
     let p = c.loop-found.invariant in
-    let held = held_so_far octets start place c.loop-found.kept.items c.loop-found.mark in
+    let held = held_so_far octets start place c.loop-found.kept c.loop-found.mark in
     let stand = rw take_rest at c.in-Ok.ensures.found in
     let lies = rw take_rest at c.in-Ok.ensures.parts in
     let closed = c.is_closed.ensures.0 c.if-is_closed.true in
     let is = c.ends.ensures.0 c.if-ends.true in
-    let none = listed_held number c.loop-found.nodes p.es held p.numbers p.lists closed (so_far_least number octets start place c.loop-found.kept.items c.loop-found.mark p.es p.begun p.opened p.marked p.keeps) in
+    let none = listed_held number c.loop-found.nodes p.es held p.numbers p.lists closed (so_far_least number octets start place c.loop-found.kept c.loop-found.mark p.es p.begun p.opened p.marked p.keeps) in
     let value = found_value c.finish.result (λ (es : List Event). IfOk c.hold_kept-held.result (λ h. node_events (octets_of h) (nodes_of h) ≡ es)) p.es c.finish.ensures.value
     (held_value c.hold_kept-held.result held (listed_nodes c.loop-found.nodes) p.es c.hold_kept-held.ensures.octets c.hold_kept-held.ensures.nodes p.lists.listed.are_nodes.events_are) in
     found_marked c.finish.result number octets (place + c.in-Ok.found.2) c.mark_closing-behind.result p.es value c.finish.ensures.taken c.finish.ensures.mark (λ v same.
     let whole : place + c.in-Ok.found.1 - place ≡ c.in-Ok.found.1 = omega arith in
     let (own, told, joined) = c.mark_closing-behind.ensures in
-    ended_marked number c.requires.number octets start place c.loop-found.kept.items c.loop-found.mark c.loop-found.nodes p v same closed c.in-Ok.found.0 c.in-Ok.found.1 c.in-Ok.found.2 own c.mark_closing-behind.result is (closing_item c.in-Ok.found.0 number is) lies stand.within stand.spelled.spelled
+    ended_marked number c.requires.number octets start place c.loop-found.kept c.loop-found.mark c.loop-found.nodes p v same closed c.in-Ok.found.0 c.in-Ok.found.1 c.in-Ok.found.2 own c.mark_closing-behind.result is (closing_item c.in-Ok.found.0 number is) lies stand.within stand.spelled.spelled
     (λ b q. subst (λ (k : ℕ). IsMark (take k (drop place octets)) b own) whole (told b q)) joined)
 
 pub keep_item-requires-clause-within : goal.keep_item-requires-clause-within
@@ -132,7 +130,7 @@ keep_item-requires-clause-progress c =
     let start = c.args.start in
     let place = c.loop-found.place in
     let p = c.loop-found.invariant in
-    let held = held_so_far octets start place c.loop-found.kept.items c.loop-found.mark in
+    let held = held_so_far octets start place c.loop-found.kept c.loop-found.mark in
     let stand = rw take_rest at c.in-Ok.ensures.found in
     let b = next_opens number c.loop-found.nodes p.es held p.numbers c.place-room.result.0 c.place-room.result.1 (item_event c.in-Ok.found.0) p.lists c.place-room.ensures.room c.place-room.ensures.closing stand.spelled.stands (λ none e.
     elim c.else-is_closed.branch [
@@ -148,7 +146,7 @@ loop-found-preserved-then-is_none c =
     let start = c.args.start in
     let place = c.loop-found.place in
     let p = c.loop-found.invariant in
-    let held = held_so_far octets start place c.loop-found.kept.items c.loop-found.mark in
+    let held = held_so_far octets start place c.loop-found.kept c.loop-found.mark in
     let stand = rw take_rest at c.in-Ok.ensures.found in
     let b = next_opens number c.loop-found.nodes p.es held p.numbers c.place-room.result.0 c.place-room.result.1 (item_event c.in-Ok.found.0) p.lists c.place-room.ensures.room c.place-room.ensures.closing stand.spelled.stands (λ none e.
     elim c.else-is_closed.branch [
@@ -164,7 +162,7 @@ keep_canonical-requires-clause-progress c =
     let start = c.args.start in
     let place = c.loop-found.place in
     let p = c.loop-found.invariant in
-    let held = held_so_far octets start place c.loop-found.kept.items c.loop-found.mark in
+    let held = held_so_far octets start place c.loop-found.kept c.loop-found.mark in
     let stand = rw take_rest at c.in-Ok.ensures.found in
     let b = next_opens number c.loop-found.nodes p.es held p.numbers c.place-room.result.0 c.place-room.result.1 (item_event c.in-Ok.found.0) p.lists c.place-room.ensures.room c.place-room.ensures.closing stand.spelled.stands (λ none e.
     elim c.else-is_closed.branch [
@@ -172,7 +170,7 @@ keep_canonical-requires-clause-progress c =
       | else-is_closed-via-else-is_closed w ↦ absurd (let i : false ≡ true = sym w.if-is_closed.false ∙ c.is_closed.ensures.1 none in cc)
     ]) in
     let (k, e) = some_mark c.in-Ok-keep_item.joined c.is_none.result c.is_none.ensures c.if-is_none.false in
-    (start, k, subst (λ (m : Option ℕ). Progress number octets start (place + c.in-Ok.found.2) c.keep_item.new.kept.items m c.keep_item.new.nodes) e (c.in-Ok-keep_item.ensures number p b.0 b.1))
+    (start, k, subst (λ (m : Option ℕ). Progress number octets start (place + c.in-Ok.found.2) c.keep_item.new.kept m c.keep_item.new.nodes) e (c.in-Ok-keep_item.ensures number p b.0 b.1))
 
 pub loop-found-preserved : goal.loop-found-preserved
 loop-found-preserved c =
@@ -181,7 +179,7 @@ loop-found-preserved c =
     let start = c.args.start in
     let place = c.loop-found.place in
     let p = c.loop-found.invariant in
-    let held = held_so_far octets start place c.loop-found.kept.items c.loop-found.mark in
+    let held = held_so_far octets start place c.loop-found.kept c.loop-found.mark in
     let stand = rw take_rest at c.in-Ok.ensures.found in
     let b = next_opens number c.loop-found.nodes p.es held p.numbers c.place-room.result.0 c.place-room.result.1 (item_event c.in-Ok.found.0) p.lists c.place-room.ensures.room c.place-room.ensures.closing stand.spelled.stands (λ none e.
     elim c.else-is_closed.branch [
@@ -189,8 +187,8 @@ loop-found-preserved c =
       | else-is_closed-via-else-is_closed w ↦ absurd (let i : false ≡ true = sym w.if-is_closed.false ∙ c.is_closed.ensures.1 none in cc)
     ]) in
     let (k, e) = some_mark c.in-Ok-keep_item.joined c.is_none.result c.is_none.ensures c.if-is_none.false in
-    let first = subst (λ (m : Option ℕ). Progress number octets start (place + c.in-Ok.found.2) c.keep_item.new.kept.items m c.keep_item.new.nodes) e (c.in-Ok-keep_item.ensures number p b.0 b.1) in
-    subst (λ (m : Option ℕ). Progress number octets start c.in-Ok-keep_canonical.end c.keep_canonical.new.kept.items m c.keep_canonical.new.nodes) (sym e) (c.in-Ok-keep_canonical.ensures.progress start k first)
+    let first = subst (λ (m : Option ℕ). Progress number octets start (place + c.in-Ok.found.2) c.keep_item.new.kept m c.keep_item.new.nodes) e (c.in-Ok-keep_item.ensures number p b.0 b.1) in
+    subst (λ (m : Option ℕ). Progress number octets start c.in-Ok-keep_canonical.end c.keep_canonical.new.kept m c.keep_canonical.new.nodes) (sym e) (c.in-Ok-keep_canonical.ensures.progress start k first)
 
 pub hold_kept-held-requires-in-Some : goal.hold_kept-held-requires-in-Some
 hold_kept-held-requires-in-Some c =
@@ -199,7 +197,7 @@ hold_kept-held-requires-in-Some c =
     let start = c.args.start in
     let place = c.loop-found.place in
     let p = c.loop-found.invariant in
-    let held = held_so_far octets start place c.loop-found.kept.items c.loop-found.mark in
+    let held = held_so_far octets start place c.loop-found.kept c.loop-found.mark in
     let stand = rw take_rest at c.in-Ok.ensures.found in
     let b = next_opens number c.loop-found.nodes p.es held p.numbers c.place-room.result.0 c.place-room.result.1 (item_event c.in-Ok.found.0) p.lists c.place-room.ensures.room c.place-room.ensures.closing stand.spelled.stands (λ none e.
     elim c.else-is_closed.branch [
@@ -207,11 +205,11 @@ hold_kept-held-requires-in-Some c =
       | else-is_closed-via-else-is_closed w ↦ absurd (let i : false ≡ true = sym w.if-is_closed.false ∙ c.is_closed.ensures.1 none in cc)
     ]) in
     let (k, e) = some_mark c.in-Ok-keep_item.joined c.is_none.result c.is_none.ensures c.if-is_none.false in
-    let first = subst (λ (m : Option ℕ). Progress number octets start (place + c.in-Ok.found.2) c.keep_item.new.kept.items m c.keep_item.new.nodes) e (c.in-Ok-keep_item.ensures number p b.0 b.1) in
-    let q = subst (λ (m : Option ℕ). Progress number octets start c.in-Ok-keep_canonical.end c.keep_canonical.new.kept.items m c.keep_canonical.new.nodes) (sym e) (c.in-Ok-keep_canonical.ensures.progress start k first) in
+    let first = subst (λ (m : Option ℕ). Progress number octets start (place + c.in-Ok.found.2) c.keep_item.new.kept m c.keep_item.new.nodes) e (c.in-Ok-keep_item.ensures number p b.0 b.1) in
+    let q = subst (λ (m : Option ℕ). Progress number octets start c.in-Ok-keep_canonical.end c.keep_canonical.new.kept m c.keep_canonical.new.nodes) (sym e) (c.in-Ok-keep_canonical.ensures.progress start k first) in
     let mark = c.in-Ok-keep_item.joined in
     let end = c.in-Ok-keep_canonical.end in
-    let kept = c.keep_canonical.new.kept.items in
+    let kept = c.keep_canonical.new.kept in
     let nodes = c.keep_canonical.new.nodes in
     let whole = held_so_far octets start end kept mark in
     (number, q.es, q.numbers, q.lists)
@@ -223,7 +221,7 @@ finish-requires-in-Some c =
     let start = c.args.start in
     let place = c.loop-found.place in
     let p = c.loop-found.invariant in
-    let held = held_so_far octets start place c.loop-found.kept.items c.loop-found.mark in
+    let held = held_so_far octets start place c.loop-found.kept c.loop-found.mark in
     let stand = rw take_rest at c.in-Ok.ensures.found in
     let b = next_opens number c.loop-found.nodes p.es held p.numbers c.place-room.result.0 c.place-room.result.1 (item_event c.in-Ok.found.0) p.lists c.place-room.ensures.room c.place-room.ensures.closing stand.spelled.stands (λ none e.
     elim c.else-is_closed.branch [
@@ -231,11 +229,11 @@ finish-requires-in-Some c =
       | else-is_closed-via-else-is_closed w ↦ absurd (let i : false ≡ true = sym w.if-is_closed.false ∙ c.is_closed.ensures.1 none in cc)
     ]) in
     let (k, e) = some_mark c.in-Ok-keep_item.joined c.is_none.result c.is_none.ensures c.if-is_none.false in
-    let first = subst (λ (m : Option ℕ). Progress number octets start (place + c.in-Ok.found.2) c.keep_item.new.kept.items m c.keep_item.new.nodes) e (c.in-Ok-keep_item.ensures number p b.0 b.1) in
-    let q = subst (λ (m : Option ℕ). Progress number octets start c.in-Ok-keep_canonical.end c.keep_canonical.new.kept.items m c.keep_canonical.new.nodes) (sym e) (c.in-Ok-keep_canonical.ensures.progress start k first) in
+    let first = subst (λ (m : Option ℕ). Progress number octets start (place + c.in-Ok.found.2) c.keep_item.new.kept m c.keep_item.new.nodes) e (c.in-Ok-keep_item.ensures number p b.0 b.1) in
+    let q = subst (λ (m : Option ℕ). Progress number octets start c.in-Ok-keep_canonical.end c.keep_canonical.new.kept m c.keep_canonical.new.nodes) (sym e) (c.in-Ok-keep_canonical.ensures.progress start k first) in
     let mark = c.in-Ok-keep_item.joined in
     let end = c.in-Ok-keep_canonical.end in
-    let kept = c.keep_canonical.new.kept.items in
+    let kept = c.keep_canonical.new.kept in
     let nodes = c.keep_canonical.new.nodes in
     let whole = held_so_far octets start end kept mark in
     let closes = some_then (Closes number octets end nodes) c.in-Ok-keep_canonical.closed c.in-Some.taken c.in-Some.is c.in-Ok-keep_canonical.ensures.closes in
@@ -249,7 +247,7 @@ returns-in-Some-clause-found c =
     let start = c.args.start in
     let place = c.loop-found.place in
     let p = c.loop-found.invariant in
-    let held = held_so_far octets start place c.loop-found.kept.items c.loop-found.mark in
+    let held = held_so_far octets start place c.loop-found.kept c.loop-found.mark in
     let stand = rw take_rest at c.in-Ok.ensures.found in
     let b = next_opens number c.loop-found.nodes p.es held p.numbers c.place-room.result.0 c.place-room.result.1 (item_event c.in-Ok.found.0) p.lists c.place-room.ensures.room c.place-room.ensures.closing stand.spelled.stands (λ none e.
     elim c.else-is_closed.branch [
@@ -257,11 +255,11 @@ returns-in-Some-clause-found c =
       | else-is_closed-via-else-is_closed w ↦ absurd (let i : false ≡ true = sym w.if-is_closed.false ∙ c.is_closed.ensures.1 none in cc)
     ]) in
     let (k, e) = some_mark c.in-Ok-keep_item.joined c.is_none.result c.is_none.ensures c.if-is_none.false in
-    let first = subst (λ (m : Option ℕ). Progress number octets start (place + c.in-Ok.found.2) c.keep_item.new.kept.items m c.keep_item.new.nodes) e (c.in-Ok-keep_item.ensures number p b.0 b.1) in
-    let q = subst (λ (m : Option ℕ). Progress number octets start c.in-Ok-keep_canonical.end c.keep_canonical.new.kept.items m c.keep_canonical.new.nodes) (sym e) (c.in-Ok-keep_canonical.ensures.progress start k first) in
+    let first = subst (λ (m : Option ℕ). Progress number octets start (place + c.in-Ok.found.2) c.keep_item.new.kept m c.keep_item.new.nodes) e (c.in-Ok-keep_item.ensures number p b.0 b.1) in
+    let q = subst (λ (m : Option ℕ). Progress number octets start c.in-Ok-keep_canonical.end c.keep_canonical.new.kept m c.keep_canonical.new.nodes) (sym e) (c.in-Ok-keep_canonical.ensures.progress start k first) in
     let mark = c.in-Ok-keep_item.joined in
     let end = c.in-Ok-keep_canonical.end in
-    let kept = c.keep_canonical.new.kept.items in
+    let kept = c.keep_canonical.new.kept in
     let nodes = c.keep_canonical.new.nodes in
     let whole = held_so_far octets start end kept mark in
     let closes = some_then (Closes number octets end nodes) c.in-Ok-keep_canonical.closed c.in-Some.taken c.in-Some.is c.in-Ok-keep_canonical.ensures.closes in
@@ -276,7 +274,7 @@ returns-in-Some-clause-mark c =
     let start = c.args.start in
     let place = c.loop-found.place in
     let p = c.loop-found.invariant in
-    let held = held_so_far octets start place c.loop-found.kept.items c.loop-found.mark in
+    let held = held_so_far octets start place c.loop-found.kept c.loop-found.mark in
     let stand = rw take_rest at c.in-Ok.ensures.found in
     let b = next_opens number c.loop-found.nodes p.es held p.numbers c.place-room.result.0 c.place-room.result.1 (item_event c.in-Ok.found.0) p.lists c.place-room.ensures.room c.place-room.ensures.closing stand.spelled.stands (λ none e.
     elim c.else-is_closed.branch [
@@ -284,11 +282,11 @@ returns-in-Some-clause-mark c =
       | else-is_closed-via-else-is_closed w ↦ absurd (let i : false ≡ true = sym w.if-is_closed.false ∙ c.is_closed.ensures.1 none in cc)
     ]) in
     let (k, e) = some_mark c.in-Ok-keep_item.joined c.is_none.result c.is_none.ensures c.if-is_none.false in
-    let first = subst (λ (m : Option ℕ). Progress number octets start (place + c.in-Ok.found.2) c.keep_item.new.kept.items m c.keep_item.new.nodes) e (c.in-Ok-keep_item.ensures number p b.0 b.1) in
-    let q = subst (λ (m : Option ℕ). Progress number octets start c.in-Ok-keep_canonical.end c.keep_canonical.new.kept.items m c.keep_canonical.new.nodes) (sym e) (c.in-Ok-keep_canonical.ensures.progress start k first) in
+    let first = subst (λ (m : Option ℕ). Progress number octets start (place + c.in-Ok.found.2) c.keep_item.new.kept m c.keep_item.new.nodes) e (c.in-Ok-keep_item.ensures number p b.0 b.1) in
+    let q = subst (λ (m : Option ℕ). Progress number octets start c.in-Ok-keep_canonical.end c.keep_canonical.new.kept m c.keep_canonical.new.nodes) (sym e) (c.in-Ok-keep_canonical.ensures.progress start k first) in
     let mark = c.in-Ok-keep_item.joined in
     let end = c.in-Ok-keep_canonical.end in
-    let kept = c.keep_canonical.new.kept.items in
+    let kept = c.keep_canonical.new.kept in
     let nodes = c.keep_canonical.new.nodes in
     let whole = held_so_far octets start end kept mark in
     let closes = some_then (Closes number octets end nodes) c.in-Ok-keep_canonical.closed c.in-Some.taken c.in-Some.is c.in-Ok-keep_canonical.ensures.closes in

@@ -1,4 +1,4 @@
-use Rattle.std.proofs.Common.{◌≤◌, subst}
+use Rattle.std.proofs.Common.{subst}
 use Rattle.bac_data.specs.HeldLists.{IsSound}
 use Rattle.bac_data.proofs.held.Held.octets.Goals as goal
 

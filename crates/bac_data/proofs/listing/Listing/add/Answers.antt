@@ -1,18 +1,16 @@
-use Rattle.std.proofs.Common.{◌≡◌, ◌≤◌, ◌-◌, ℕ, List, [], ◌∷◌, ◌++◌, length, refl, sym, ◌∙◌, ap, subst, arith}
+use Rattle.std.proofs.Common.{◌≡◌, ◌-◌, ℕ, List, [], ◌∷◌, ◌++◌, length, refl, sym, ◌∙◌, ap, subst, arith}
 use Rattle.bac_value.specs.declared.prim.PrimitiveValue.{PrimitiveValue}
 use Rattle.bac_value.specs.Laws.PrimOfContents.{prim_of_contents_is}
 use Rattle.bac_tag.specs.Spelling.{IsLeast}
 use Rattle.bac_data.specs.declared.items.Item.{Item}
 use Rattle.bac_data.specs.declared.items.Item.TheVariants as item
 use Rattle.bac_data.specs.declared.listing.Listing.{Listing}
-use Rattle.bac_data.specs.declared.nodes.Node.{Node}
 use Rattle.bac_data.specs.declared.nodes.Node.TheVariants as node
 use Rattle.bac_data.specs.Events.{Event, application}
 use Rattle.bac_data.specs.Spells.{SpellsPrimitive}
 use Rattle.bac_data.specs.Listings.{Lists, MayAdd}
-use Rattle.bac_data.specs.NodeEvents.{NodeFor}
 use Rattle.bac_data.specs.Reading.{item_event, IsItem}
-use Rattle.bac_data.proofs.LinkLemmas.{primitive_lists, short_for}
+use Rattle.bac_data.proofs.LinkLemmas.{primitive_lists}
 use Rattle.bac_data.proofs.MarkLemmas.{written_small}
 use Rattle.bac_data.proofs.NodeLemmas.{primitive_fits, context_fits}
 use Rattle.bac_data.proofs.ResultLemmas.{on_ok, on_ok_all}

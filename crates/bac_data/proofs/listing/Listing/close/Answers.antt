@@ -1,4 +1,4 @@
-use Rattle.std.proofs.Common.{◌≡◌, ◌-◌, ℕ, List, [], ◌∷◌, ◌++◌, set, length, sym, ◌∙◌, ap, arith}
+use Rattle.std.proofs.Common.{◌≡◌, ◌-◌, ℕ, List, [], ◌∷◌, ◌++◌, set, length, ◌∙◌, ap, arith}
 use Rattle.bac_data.specs.declared.nodes.Node.{Node}
 use Rattle.bac_data.specs.declared.nodes.Node.TheVariants as node
 use Rattle.bac_data.specs.Building.{closing_number}
@@ -23,8 +23,7 @@ number_of_innermost-self-requires-clause-linked c =
     let l = c.args.self.now in
     let (value, es, octets, more, before, behind, m) = c.requires.may in
     let i = ended value c.args.number c.args.end l es octets more before behind m in
-    let deep = ended_deep value c.args.number c.args.end l es octets more before behind m in
-    (
+    let deep = ended_deep value c.args.number c.args.end l es octets more before behind m in (
       i.others,
       behind,
       omega (arith, deep, c.set.ensures.groups.depth),

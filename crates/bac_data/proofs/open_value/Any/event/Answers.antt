@@ -7,6 +7,9 @@ use Rattle.bac_data.proofs.HeldLemmas.{held_events, held_count}
 use Rattle.bac_data.proofs.NodeLemmas.{event_there, lies_there}
 use Rattle.bac_data.proofs.open_value.Any.event.Goals as goal
 
+pub returns-then-index-count-clause-event : goal.returns-then-index-count-clause-event
+returns-then-index-count-clause-event c = omega (arith, held_count (octets_of c.self.inside.held) (nodes_of c.self.inside.held) c.args.self.now c.self.invariant.1 c.self.view_is)
+
 pub event_at-requires : goal.event_at-requires
 event_at-requires c = subst (λ (b : List ℕ). Lies b c.node.result) (sym c.octets.ensures) (lies_there (octets_of c.self.inside.held) (nodes_of c.self.inside.held) c.args.index c.node.result c.self.invariant.1.are_nodes.lie c.node.ensures)
 
