@@ -282,17 +282,20 @@ fn quick_least(octets: &[u8], room: bool, closing: u8) -> Option<(Item<'_>, usiz
     ensures { IfSome result (λ found. StandsLeast room closing octets.now found.0 found.1) }
 {
     let (head, start) = quick_head(octets)?;
-    if start != head_len(head) {
-        return None;
-    }
     match head {
         TagHead::Close(number) => {
+            if start != head_len(head) {
+                return None;
+            }
             if number != closing {
                 return None;
             }
             Some((Item::Close(number), start))
         }
         TagHead::Open(number) => {
+            if start != head_len(head) {
+                return None;
+            }
             if !room {
                 return None;
             }
@@ -300,7 +303,7 @@ fn quick_least(octets: &[u8], room: bool, closing: u8) -> Option<(Item<'_>, usiz
         }
         TagHead::Ctx { number, len } => {
             let size = len as usize;
-            if size > Octets::LONGEST {
+            if start != head_len(head) || size > Octets::LONGEST {
                 return None;
             }
             let octets = octets[start..].get(..size)?;
@@ -309,6 +312,9 @@ fn quick_least(octets: &[u8], room: bool, closing: u8) -> Option<(Item<'_>, usiz
         TagHead::App { number, len } => {
             let size = len as usize;
             let contents = octets[start..].get(..size)?;
+            if start != head_len(head) {
+                return None;
+            }
             if !are_written(number, contents) {
                 return None;
             }

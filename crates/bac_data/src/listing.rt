@@ -225,7 +225,7 @@ impl Listing {
     ///
     /// # Errors
     /// `OutOfMemory` if memory is refused.
-    #[inline(never)]
+    #[inline(always)]
     fn close(&mut self, number: u8, end: usize) -> Result<(), OutOfMemory>
         requires may { (value : ℕ) × (es : List Event) × (octets : List ℕ) × (more : List ℕ) × (before : List ℕ) × (behind : List ℕ) × MayAdd value (closing number) end self.old es octets more before behind }
         ensures { OnOk result ((value : ℕ) (es : List Event) (octets more before behind : List ℕ) → MayAdd value (closing number) end self.old es octets more before behind → Lists value self.new (es ++ closing number ∷ []) (octets ++ more) behind) }

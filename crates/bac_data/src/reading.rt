@@ -158,7 +158,6 @@ fn read_opening(octets: &[u8], number: u8) -> Result<(usize, Option<usize>), Ref
 ///
 /// # Errors
 /// `OutOfMemory` if memory is refused.
-#[inline(always)]
 fn read_canonical(
     octets: &[u8],
     number: u8,
@@ -258,7 +257,6 @@ fn finish(
 ///
 /// # Errors
 /// `OutOfMemory` if memory is refused.
-#[inline(always)]
 fn keep_item(
     octets: &[u8],
     start: usize,
