@@ -17,7 +17,7 @@ mod DepthLemmas
 pub mod ValueLemmas
 mod PartLemmas
 mod ShortLemmas
-mod HeldLemmas
+pub mod HeldLemmas
 mod NodeLemmas
 mod HeldSteps
 mod WalkLemmas
