@@ -1,6 +1,6 @@
 //! Laws of the definitions.
 
-ghost use Rattle.std.specs.Prelude.{◌≡◌, ◌↔◌, ◌⊎◌, ◌<◌, ℕ, List, [], true, false, IsTrue, IsNone};
+ghost use Rattle.std.specs.Prelude.{◌≡◌, ◌↔◌, ◌⊎◌, ◌<◌, ℕ, Some, None, List, [], true, false, IsTrue, IsNone};
 ghost use Rattle.bac_tag.specs.Octets.{IsOctets};
 ghost use Rattle.bac_tag.specs.Spelling.{IsLeast, IsViable, IsPartway};
 ghost use Rattle.bac_data.specs.Spells.{SpellsOpen};
@@ -9,8 +9,8 @@ ghost use Rattle.bac_productions.specs.Contents.{ApplicationEnumerated};
 ghost use Rattle.bac_service.specs.declared.kind.Kind.{Kind};
 ghost use Rattle.bac_service.specs.ErrorCause.{SpellsErrorCause};
 ghost use Rattle.bac_service.specs.PropertyResult.{SpellsReadResult};
-ghost use Rattle.bac_service.specs.ServiceTable.{IsUnchanged};
-ghost use Rattle.bac_service.specs.Services.{ServiceValue, opaque, value_of, SpellsService, IsPlaced};
+ghost use Rattle.bac_service.specs.ServiceTable.{ServiceProduction, IsUnchanged, production_of};
+ghost use Rattle.bac_service.specs.Services.{ServiceValue, opaque, value_of, SpellsBy, SpellsService, IsPlaced};
 
 use crate::service::{Service, productions_are_well_spelled};
 use bac_productions::field::ApplicationField;
@@ -84,6 +84,13 @@ pub fn former_services_are_kept()
 {
     services_have_canonical_octets();
 }
+
+/// A list begins a service of a kind and a choice exactly where it begins what the production that they name is spelled
+/// by. If they name none, it does so exactly where it has only octets.
+pub fn services_are_viable_by_their_production()
+    ensures typed { (kind : Kind) (choice : ℕ) (production : ServiceProduction) (b : List ℕ) → choice < 256 → production_of true kind choice ≡ Some production → IsViable (SpellsService true 32 kind choice) b ↔ IsViable (SpellsBy 32 production) b }
+    ensures opaque { (kind : Kind) (choice : ℕ) (b : List ℕ) → choice < 256 → production_of true kind choice ≡ None → IsViable (SpellsService true 32 kind choice) b ↔ IsOctets b }
+{}
 
 /// A list begins the result of reading a property (clause 21) exactly where it begins a value, or an error between its
 /// tags.

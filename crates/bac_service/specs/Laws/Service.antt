@@ -23,7 +23,8 @@ no_row (Some p) e = cc
 pub spelled_as : (k : Kind) (c : ℕ) (p : ServiceProduction) (v : SaidBy p) → c < 256 → production_of true k c ≡ Some p → (b : List ℕ) → SpellsBy 32 p v b ↔ SpellsService true 32 k c (typed k c p v) b
 spelled_as k c p v fits e b = (λ s. record { kind_is = refl; choice_is = refl; choice_fits = fits; production_is = sym e; spelled = s }, λ s. s.spelled)
 
-said_alike : (q r : Option ServiceProduction) (e : q ≡ r) (s : Said q) (b : List ℕ) → SpellsSaid 32 q s b → (t : Said r) × SpellsSaid 32 r t b
+-- what is said by a production is said by the same production under another name
+pub said_alike : (q r : Option ServiceProduction) (e : q ≡ r) (s : Said q) (b : List ℕ) → SpellsSaid 32 q s b → (t : Said r) × SpellsSaid 32 r t b
 said_alike q r e s b h = subst (λ (r : Option ServiceProduction). (t : Said r) × SpellsSaid 32 r t b) e (s, h)
 
 pub serves : (k : Kind) (c : ℕ) (p : ServiceProduction) → c < 256 → production_of true k c ≡ Some p → IsServiceOf (SpellsBy 32 p) k c
