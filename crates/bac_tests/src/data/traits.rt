@@ -35,16 +35,21 @@ fn is_event(rt: &impl Abort, found: &Option<Event<'_>>, event: &Option<Event<'_>
     assert_same_of(rt, *found == *event, true, "an event");
 }
 
+/// Compares the event with that index.
+fn is_at(rt: &impl Abort, value: &Any, index: usize, event: &Option<Event<'_>>) {
+    is_event(rt, &value.event(index), event);
+}
+
 #[test]
 fn events_are_found_by_their_indices(rt: HostRuntime) {
     let value = value_of(&rt, rt.alloc(), "3E 7E 21 05 FE C8 FF C8 7F 3F");
     let five = PrimRef::Unsigned(Unsigned(5));
-    is_event(&rt, &value.event(0), &Some(Event::Open(7)));
-    is_event(&rt, &value.event(1), &Some(Event::App(five)));
-    is_event(&rt, &value.event(2), &Some(Event::Open(200)));
-    is_event(&rt, &value.event(3), &Some(Event::Close(200)));
-    is_event(&rt, &value.event(4), &Some(Event::Close(7)));
-    is_event(&rt, &value.event(5), &None);
+    is_at(&rt, &value, 0, &Some(Event::Open(7)));
+    is_at(&rt, &value, 1, &Some(Event::App(five)));
+    is_at(&rt, &value, 2, &Some(Event::Open(200)));
+    is_at(&rt, &value, 3, &Some(Event::Close(200)));
+    is_at(&rt, &value, 4, &Some(Event::Close(7)));
+    is_at(&rt, &value, 5, &None);
 }
 
 // Of two groups with one inside, the walk passes over the first, and over the one inside the second.
