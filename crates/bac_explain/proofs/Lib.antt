@@ -1,0 +1,4 @@
+mod RoomLemmas
+mod ElementLemmas
+mod NestLemmas
+mod TileLemmas
