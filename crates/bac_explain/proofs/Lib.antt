@@ -2,3 +2,7 @@ mod RoomLemmas
 mod ElementLemmas
 mod NestLemmas
 mod TileLemmas
+mod PartLemmas
+mod FrontLemmas
+mod ExplainLemmas
+mod FieldLemmas

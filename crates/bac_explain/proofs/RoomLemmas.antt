@@ -1,6 +1,9 @@
 -- Lemmas on what is put into a room.
-use Rattle.std.proofs.Common.{◌≡◌, ℕ, ◌+◌, List, [], ◌∷◌, ◌++◌, length, ap, arith, ◌∙◌}
-use Rattle.std.proofs.Math.ListN.{length-append}
+use Rattle.std.proofs.Common.{◌≡◌, ◌≤◌, ◌<◌, ℕ, suc, ◌+◌, List, [], ◌∷◌, ◌++◌, length, take, drop, refl, sym, ap, ◌∙◌, append_assoc, arith}
+use Rattle.std.proofs.Math.ListN.{set, length-append}
+use Rattle.std.specs.Prelude.{nat_lt}
+use Rattle.std.proofs.lemmas.Bool.{cond-true, lt-ltb}
+use Rattle.std.proofs.lemmas.List.{take-append-drop, take_more_set, drop-set-lt, length-set}
 use Rattle.bac_explain.specs.declared.piece.Piece.{Piece}
 use Rattle.bac_explain.specs.Room.{with_piece, with_pieces, Puts}
 
@@ -15,3 +18,24 @@ puts-append ps qs old mid new from at to first second = record {
   room = second.room ∙ (ap (λ room. with_pieces room at qs) first.room ∙ with_pieces-append old from ps qs at first.count);
   count = omega (arith, first.count, second.count, length-append ps qs);
 }
+
+-- One piece more.
+one_more : (room new : List Piece) (at m : ℕ) (p : Piece) (ps : List Piece) → at < length room → m ≡ length ps → new ≡ take (at + 1) (with_piece room at p) ++ (ps ++ drop ((at + 1) + m) (with_piece room at p)) → new ≡ take at room ++ ((p ∷ ps) ++ drop (at + suc m) room)
+one_more room new at m p ps lt e is =
+    let stored : with_piece room at p ≡ set room at p = cond-true (nat_lt at (length room)) (set room at p) room (lt-ltb at (length room) lt) in
+    let rest : drop ((at + 1) + m) (set room at p) ≡ drop (at + suc m) room =
+    ap (λ n. drop n (set room at p)) (let n : (at + 1) + m ≡ at + suc m = omega arith in n) ∙ drop-set-lt (at + suc m) room at p (omega arith) in
+    is ∙ ap (λ r. take (at + 1) r ++ (ps ++ drop ((at + 1) + m) r)) stored ∙ ap (λ r. take (at + 1) (set room at p) ++ (ps ++ r)) rest
+    ∙ ap (λ r. r ++ (ps ++ drop (at + suc m) room)) (take_more_set room at p lt) ∙ append_assoc (take at room) (p ∷ []) (ps ++ drop (at + suc m) room)
+
+-- Pieces that fit are one after the other, and what was before and behind them stays.
+with_pieces-at : (room : List Piece) (at : ℕ) (ps : List Piece) → at + length ps ≤ length room → with_pieces room at ps ≡ take at room ++ (ps ++ drop (at + length ps) room)
+with_pieces-at room at [] fit = sym (ap (λ n. take at room ++ drop n room) (let n : at + 0 ≡ at = omega arith in n) ∙ take-append-drop at room)
+with_pieces-at room at (p ∷ ps) fit =
+    let lt : at < length room = omega arith in
+    let stored : with_piece room at p ≡ set room at p = cond-true (nat_lt at (length room)) (set room at p) room (lt-ltb at (length room) lt) in
+    one_more room _ at (length ps) p ps lt refl (with_pieces-at (with_piece room at p) (at + 1) ps (omega (arith, ap length stored, length-set room at p)))
+
+-- Pieces that fit are at the front of the room.
+pub with_pieces-fit : (room : List Piece) (ps : List Piece) (count : ℕ) → count ≡ length ps → count ≤ length room → with_pieces room 0 ps ≡ ps ++ drop count room
+with_pieces-fit room ps count e fit = with_pieces-at room 0 ps (omega (arith, e)) ∙ ap (λ n. ps ++ drop n room) (let n : 0 + length ps ≡ count = omega (arith, e) in n)

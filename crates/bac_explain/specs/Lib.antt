@@ -5,3 +5,10 @@ pub mod PutParts
 pub mod Elements
 pub mod Nests
 pub mod Refusals
+pub mod Typed
+pub mod Verdicts
+pub mod HeadParts
+pub mod Known
+pub mod Fronts
+pub mod Explained
+pub mod FieldPieces

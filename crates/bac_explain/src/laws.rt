@@ -1,7 +1,11 @@
 //! Laws of the definitions.
 
 ghost use Rattle.std.specs.Prelude.{◌≡◌, ◌<◌, ◌∷◌, ℕ, List, [], filter, length};
+ghost use Rattle.bac_tag.specs.Spelling.{IsLeast};
+ghost use Rattle.bac_npdu_parts.specs.Frames.{FrameValue, SpellsFrame};
+ghost use Rattle.bac_fields.specs.FrameFields.{placed_fields};
 ghost use Rattle.bac_explain.specs.declared.piece.Piece.{Piece};
+ghost use Rattle.bac_explain.specs.FieldPieces.{HaveOnePiece};
 ghost use Rattle.bac_explain.specs.Tiles.{Tiles, covers, joined};
 
 /// Pieces that cover all octets are the octets if they are joined, in their order.
@@ -13,3 +17,10 @@ pub fn the_pieces_joined_are_the_octets()
 pub fn each_octet_is_in_one_piece()
     ensures { (octets : List ℕ) (pieces : List Piece) (place : ℕ) → Tiles 0 pieces (length octets) → place < length octets → (p : Piece) × (filter (covers place) pieces ≡ p ∷ []) }
 {}
+
+/// If pieces cover the canonical octets of a frame, each field of the frame that has octets begins in exactly one of them.
+pub fn each_field_begins_in_one_piece()
+    ensures { (f : FrameValue) (octets : List ℕ) (pieces : List Piece) → IsLeast (SpellsFrame f) octets → Tiles 0 pieces (length octets) → HaveOnePiece pieces (placed_fields f) }
+{
+    bac_fields::laws::the_places_are_right();
+}

@@ -1,34 +1,55 @@
-//! What each octet of a frame is, also of a frame that is refused. A [`Piece`] has the place of some octets, how many they
-//! are, and what they are: a tag head and its contents, or a part of a head.
+//! What each octet of a frame is, also of a frame that is refused. [`explain`] writes the pieces of octets into a slice of the
+//! caller's. A [`Piece`] has the place of some octets, how many they are, and what they are: a part of a head, or a tag
+//! head and its contents.
+//!
+//! In the examples `rt` is the program's `HostRuntime`.
 //!
 //! # How it works
 //!
-//! Pieces are written one after the other into a slice of the caller's. A piece that does not fit is only counted
-//! (`cursor.rt`), so this crate needs no memory. Each piece but that of a refusal has an octet, so octets have at most as
-//! many pieces as they are, and one more.
+//! [`judge`] decodes the octets, and keeps only the verdict. The octets that begin a frame are all of them or, if they are
+//! refused, those before the place (`pieces.rt`). What `read_known` of bac_head knows of their head are parts with so many
+//! octets each (`heads.rt`), which are laid out one after the other (`parts.rt`). What is after the head is a service, or
+//! one piece (`front.rt`). The octets of a service are walked tag by tag (`elements.rt`): a piece is a head that `read_head`
+//! of bac_tag reads, with the contents that it says. No message has a layout here: a service that is refused has a
+//! production, so its octets up to the place are tags; and a service without one is walked so only if its octets are
+//! elements as an open value has them (`nests.rt`). At the place of a refusal the octet there is a piece of its own
+//! (`refusals.rt`).
 //!
-//! The octets of a service are walked tag by tag (`elements.rt`): a piece is a head that `read_head` of bac_tag reads, with
-//! the contents that it says. Parts whose octets are known by their number are laid out one after the other (`parts.rt`).
-//! `nests.rt` tests whether octets are elements as an open value has them. At the place of a refusal the octet there is a
-//! piece of its own (`refusals.rt`).
+//! A piece that does not fit in the slice is only counted (`cursor.rt`), so this crate needs no memory for pieces. Each piece
+//! but that of a refusal has an octet, so octets have at most as many pieces as they are, and one more.
 //!
-//! The laws (`laws.rt`) say what it means that pieces cover octets: joined they are the octets, and each octet is in
-//! exactly one of them.
+//! Fields of a frame have places in its canonical octets, so they are attached to pieces by place: [`begins_in`].
+//!
+//! The laws (`laws.rt`) say what it means that pieces cover octets: joined they are the octets, each octet is in exactly
+//! one of them, and each field with octets begins in exactly one of them.
 //!
 //! Where it is, in `src`, and after the semicolon in `specs`:
 //!
-//! - a piece, and the room for pieces: `piece.rt`, `cursor.rt`; `Tiles.antt`, `Room.antt`
+//! - a piece, and the slice for pieces: `piece.rt`, `cursor.rt`; `Tiles.antt`, `Room.antt`
+//! - the verdict: `verdict.rt`; `Verdicts.antt`, `Typed.antt`
+//! - all pieces: `explaining.rt`, `pieces.rt`, `front.rt`; `Explained.antt`, `Fronts.antt`
+//! - the head: `heads.rt`, `parts.rt`; `HeadParts.antt`, `Known.antt`, `Parts.antt`, `PutParts.antt`
 //! - tags and contents: `elements.rt`, `nests.rt`; `Elements.antt`, `Nests.antt`
-//! - parts: `parts.rt`; `Parts.antt`, `PutParts.antt`
 //! - a refusal: `refusals.rt`; `Refusals.antt`
+//! - fields: `fields.rt`; `FieldPieces.antt`
 #![tactic(auto)]
 
 mod cursor;
 mod elements;
+mod explaining;
+mod fields;
+mod front;
+mod heads;
 pub mod laws;
 mod nests;
 mod parts;
 mod piece;
+mod pieces;
 mod refusals;
+mod verdict;
 
+pub use explaining::{Explained, explain};
+pub use fields::begins_in;
 pub use piece::{Kind, Piece};
+pub use pieces::write_pieces;
+pub use verdict::{Verdict, judge};

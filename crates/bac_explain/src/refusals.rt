@@ -20,7 +20,8 @@ pub(crate) fn put_refusal(
 ) -> usize
     requires ready { IsReady (length octets.now) cursor }
     requires place { cursor.place ≡ refusal.place }
-    ensures { Puts (refusal_pieces (length octets.now) refusal) room.old cursor.count room.new result }
+    ensures put { Puts (refusal_pieces (length octets.now) refusal) room.old cursor.count room.new result }
+    ensures few { result ≤ length octets.now + 1 }
 {
     let end = octets.len();
     let arrow = Piece {
