@@ -1,19 +1,18 @@
 -- APDUs with a service behind their head.
-use Rattle.std.specs.Prelude.{◌≡◌, ℕ, ◌<◌, ◌≤◌, true, List, [], ◌++◌, length, take, drop, Option, None, refl}
+use Rattle.std.specs.Prelude.{◌≡◌, ℕ, ◌<◌, ◌≤◌, true, false, Result, Ok, Err, slice_index, List, [], ◌++◌, length, take, drop, Option, None, refl}
 use Rattle.std.proofs.Common.{sym, ◌∙◌, ap, subst}
 use Rattle.std.proofs.lemmas.List.{length-take-le}
 use Rattle.bac_tag.specs.declared.refusals.Refusal.{Refusal}
 use Rattle.bac_tag.specs.Octets.{IsMark, joined_mark}
 use Rattle.bac_tag.specs.Refusals.{behind}
-use Rattle.bac_tag.specs.Laws.Spelling.{unmarked_least}
-use Rattle.bac_tag.specs.Spelling.{HasMark, IsWholeRefusal, IsCanonical}
+use Rattle.bac_tag.specs.Spelling.{HasMark, IsWholeRefusal}
 use Rattle.bac_service.specs.declared.kind.Kind.{Kind}
 use Rattle.bac_service.specs.ServiceTable.{production_of, is_small as is_small_service}
 use Rattle.bac_service.specs.Services.{ServiceValue, opaque, SpellsService}
 use Rattle.bac_tag.specs.HeadOctets.{least_head}
-use Rattle.bac_apdu.specs.FirstOctet.{HasType, HasSeg, HasGoodWindow}
+use Rattle.bac_apdu.specs.FirstOctet.{HasType, HasSeg, HasGoodWindow, seg_at}
 use Rattle.bac_apdu.specs.Apdus.{ApduValue, head_of, SpellsServiceOf, SpellsBody, SpellsApdu}
-use Rattle.bac_apdu.specs.Decoded.{small_of, IsRefused, IsServiceBehind, IsRefusedBehind}
+use Rattle.bac_apdu.specs.Decoded.{small_of, IsApduChecked, IsBehindChecked, IsRefused, IsServiceBehind, IsRefusedBehind, IsVisited}
 use Rattle.bac_tag.proofs.HeadOctetLemmas.{headed_mark}
 use Rattle.bac_tag.proofs.BehindLemmas.{whole_body}
 use Rattle.bac_tag.proofs.FilledLemmas.{filled, filled_taken, filled_split}
@@ -61,20 +60,13 @@ module _ (k : Kind) (c : ℕ) (b least : List ℕ) (long : length least ≤ leng
       let mark_at : HasMark (SpellsApdu v) (filled n b ++ drop n b) mark = subst (HasMark (SpellsApdu v) (filled n b ++ drop n b)) (ap (λ (k : ℕ). joined_mark f.first k f.second) size ∙ sym f.mark_is) m in
       (subst (SpellsApdu v) at s, subst (λ (l : List ℕ). HasMark (SpellsApdu v) l mark) at mark_at)
 
--- a head in its least octets, and canonical octets of a service behind it
-pub canonical_behind : (k : Kind) (c : ℕ) (b least : List ℕ) → take (length least) b ≡ least → IsCanonical (SpellsService true 32 k c) (drop (length least) b) → (service : ServiceValue) × IsServiceBehind k c b least service None
-canonical_behind k c b least e (service, l) = (
-  service,
-  record {
-    spelled = l.member;
-    first = None;
-    second = None;
-    of_head = e;
-    of_service = record { least = drop (length least) b; is_least = l; is_mark = refl };
-    mark_is = refl;
-  },
-)
+-- what was checked behind a head
+pub checked_behind : (k : Kind) (c : ℕ) (b least : List ℕ) (r : Result (Option ℕ) Refusal) → IsBehindChecked k c b least r
+    → ((s : ServiceValue) (m : Option ℕ) → IsServiceBehind k c b least s m → (v : ApduValue) × (SpellsApdu v b × HasMark (SpellsApdu v) b m)) → ((refusal : Refusal) → IsRefusedBehind k c b least refusal → IsRefused b refusal) → IsApduChecked b r
+checked_behind k c b least (Ok mark) (s, f) found refused = let (v, p) = found s mark f in record { value = v; spelled = p.0; marked = p.1 }
+checked_behind k c b least (Err refusal) (h, other) found refused = (refused refusal h, other)
 
--- an APDU without a mark is canonical
-pub canonical_apdu : (v : ApduValue) (b : List ℕ) → SpellsApdu v b × HasMark (SpellsApdu v) b None → IsCanonical SpellsApdu b
-canonical_apdu v b (s, m) = (v, unmarked_least None refl m)
+-- what ends after its head needs no memory
+pub checked_short : {P : Type 0} (t : ℕ) (b : List ℕ) (old new : P) (r : Result (Option ℕ) Refusal) → HasType t b → small_of t (seg_at (slice_index b 0)) b ≡ true → IsVisited (λ value mark old new made. made ≡ mark) b old new r → IsApduChecked b r
+checked_short t b old new (Ok mark) h small made = record { value = made.value; spelled = made.spelled; marked = subst (HasMark (SpellsApdu made.value) b) (sym made.made_of) made.marked }
+checked_short t b old new (Err refusal) h small (refused, same) = (refused, λ e. let i : true ≡ false = sym small ∙ sym (begins_small_as t (seg_at (slice_index b 0)) b h refl) ∙ (refused.memory e).1 in cc)

@@ -12,6 +12,7 @@ mod ErrorPduLemmas
 mod RejectLemmas
 mod AbortLemmas
 mod SegmentLemmas
+mod StartLemmas
 mod OnceLemmas
 mod LawLemmas
 pub mod CaseLemmas

@@ -1,11 +1,12 @@
 -- What decoding an APDU gives.
-use Rattle.std.specs.Prelude.{◌≡◌, ◌≢◌, ◌↔◌, ◌⊎◌, ℕ, ◌<◌, Bool, true, false, Option, Some, None, List, length, take, drop, slice_index, Result, Ok, Err}
+use Rattle.std.specs.Prelude.{◌≡◌, ◌≢◌, ◌↔◌, ◌⊎◌, ℕ, ◌<◌, ◌≤◌, Bool, true, false, Option, Some, None, List, length, take, drop, slice_index, Result, Ok, Err}
 use Rattle.bac_tag.specs.declared.refusals.Refusal.{Refusal}
 use Rattle.bac_tag.specs.declared.refusals.Why.{Why}
 use Rattle.bac_tag.specs.declared.refusals.Why.TheVariants.{Trailing, PduType, Window, OutOfMemory}
 use Rattle.bac_tag.specs.Octets.{IsMark, joined_mark}
 use Rattle.bac_tag.specs.Refusals.{behind}
 use Rattle.bac_tag.specs.Spelling.{HasMark, IsWholeRefusal}
+use Rattle.bac_productions.specs.Productions.{IsMarked}
 use Rattle.bac_productions.specs.Reasons.{IsServiceReason}
 use Rattle.bac_service.specs.declared.kind.Kind.{Kind}
 use Rattle.bac_service.specs.declared.kind.Kind.TheVariants.{Confirmed, Unconfirmed, ComplexAck, Error}
@@ -13,6 +14,7 @@ use Rattle.bac_service.specs.declared.service.Service.{Service}
 use Rattle.bac_service.specs.ServiceTable.{is_small as is_small_service}
 use Rattle.bac_service.specs.Services.{ServiceValue, value_of as service_of, SpellsService}
 use Rattle.bac_apdu.specs.FirstOctet.{Behind, a_service, a_piece, nothing, HeadRow, row_of, type_at, seg_at, IsTypePlace, IsWindowPlace}
+use Rattle.bac_apdu.specs.declared.segment.SegmentStart.{SegmentStart}
 use Rattle.bac_apdu.specs.Apdus.{ApduValue, confirmed_request, unconfirmed_request, simple_ack, complex_ack, segment_ack, error, reject, abort, segment, SpellsApdu}
 
 -- Whether an APDU is small: it ends after its head, or it carries a small service.
@@ -106,9 +108,35 @@ abbrev pub IsBehind : Kind → ℕ → List ℕ → List ℕ → Result (Service
 IsBehind kind choice octets head (Ok found) = IsServiceBehind kind choice octets head (service_of found.0) found.1
 IsBehind kind choice octets head (Err refusal) = IsRefusedBehind kind choice octets head refusal
 
+-- The clauses on a service after a head that is checked and not made, in one word: some service is there by IsServiceBehind,
+-- with the mark of head and service. Or none is, by IsRefusedBehind, and not for want of memory.
+abbrev pub IsBehindChecked : Kind → ℕ → List ℕ → List ℕ → Result (Option ℕ) Refusal → Type 0
+IsBehindChecked kind choice octets head (Ok mark) = (service : ServiceValue) × IsServiceBehind kind choice octets head service mark
+IsBehindChecked kind choice octets head (Err refusal) = IsRefusedBehind kind choice octets head refusal × (refusal.why ≢ OutOfMemory)
+
 -- The clauses on a head that nothing may follow, in one word, for the functions below visit_apdu. The octets end after a
 -- head with these least octets, and the mark is that of the octets against them. Or the octets continue, and they are
 -- refused with Trailing at the first octet after the head.
 abbrev pub IsEnded : List ℕ → List ℕ → Result (Option ℕ) Refusal → Type 0
 IsEnded octets head (Ok mark) = (length octets ≡ length head) × IsMark octets head mark
 IsEnded octets head (Err refusal) = (length head < length octets) × (refusal ≡ record { place = length head; why = Trailing })
+
+-- The result of checking octets as an APDU is a mark or a refusal. With a mark the octets spell some APDU, and the mark is that
+-- against its canonical octets. With a refusal they spell none, and the reason is no want of memory.
+abbrev pub IsApduChecked : List ℕ → Result (Option ℕ) Refusal → Type 0
+IsApduChecked octets (Ok mark) = IsMarked SpellsApdu octets mark
+IsApduChecked octets (Err refusal) = IsRefused octets refusal × (refusal.why ≢ OutOfMemory)
+
+-- Before the piece of a segment are so many octets, and what they say is this. The octets with the piece spell the segment and
+-- have the mark. If there is no memory for the piece, the refusal is right.
+pub record IsSegmentStart (octets : List ℕ) (size : ℕ) (start : SegmentStart) : Type 0 where
+  pub within : size ≤ length octets
+  pub spelled : SpellsApdu (segment start.head start.seq start.window start.more start.choice (drop size octets)) octets
+  pub marked : HasMark (SpellsApdu (segment start.head start.seq start.window start.more start.choice (drop size octets))) octets start.mark
+  pub memory : IsRefused octets (record { place = 0; why = OutOfMemory })
+
+-- The result of reading what is before the piece of a segment, which are so many octets: IsSegmentStart of it, or IsRefused of
+-- the refusal, and not for want of memory.
+abbrev pub IsStartRead : List ℕ → ℕ → Result SegmentStart Refusal → Type 0
+IsStartRead octets size (Ok start) = IsSegmentStart octets size start
+IsStartRead octets size (Err refusal) = IsRefused octets refusal × (refusal.why ≢ OutOfMemory)

@@ -1,15 +1,15 @@
 //! Answers with contents (ComplexACK, clause 20.1.5).
 
 ghost use Rattle.std.specs.Prelude.{◌≡◌, ◌↔◌, IsTrue, IsOk, IfOk, IfErr, OnOk, OnErr};
-ghost use Rattle.bac_tag.specs.Spelling.{AppendsLeast, IsCanonical};
+ghost use Rattle.bac_tag.specs.Spelling.{AppendsLeast};
 ghost use Rattle.bac_service.specs.declared.kind.Kind.TheVariants.{ComplexAck as of_complex_ack};
 ghost use Rattle.bac_service.specs.Services.{value_of as service_of};
 ghost use Rattle.bac_apdu.specs.FirstOctet.{HasType, HasSeg};
 ghost use Rattle.bac_apdu.specs.Apdus.{complex_ack, SpellsApdu};
-ghost use Rattle.bac_apdu.specs.Decoded.{IsVisited};
+ghost use Rattle.bac_apdu.specs.Decoded.{IsApduChecked, IsVisited};
 
 use crate::apdu::Apdu;
-use crate::services::{append_behind, decode_behind, is_canonical_behind};
+use crate::services::{append_behind, check_behind, decode_behind};
 use crate::visiting::ApduVisitor;
 use bac_service::{Kind, Service};
 use bac_tag::{OutOfMemory, Refusal, Why};
@@ -98,23 +98,17 @@ impl ComplexAck {
     }
 }
 
-/// Returns true if the octets are found at once to be the canonical ones of an answer in one piece. False is
-/// inconclusive.
-pub(crate) fn is_canonical_complex_ack(alloc: Global, octets: &[u8]) -> bool
+/// Checks an answer in one piece.
+pub(crate) fn check_complex_ack(alloc: Global, octets: &[u8]) -> Result<Option<usize>, Refusal>
     requires pdu { HasType 3 octets.now }
     requires whole { HasSeg 0 octets.now }
-    ensures { IsTrue result → IsCanonical SpellsApdu octets.now }
+    ensures { IsApduChecked octets.now result }
 {
     let [_, invoke, choice, ..] = octets else {
-        return false;
+        return Err(Why::Short.at(octets.len()));
     };
-    is_canonical_behind(
-        alloc,
-        Kind::ComplexAck,
-        *choice,
-        octets,
-        &[0x30, *invoke, *choice],
-    )
+    let least = [0x30, *invoke, *choice];
+    check_behind(alloc, Kind::ComplexAck, *choice, octets, &least)
 }
 
 /// Decodes an answer in one piece.

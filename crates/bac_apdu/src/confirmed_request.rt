@@ -2,19 +2,19 @@
 
 ghost use Rattle.std.specs.Prelude.{◌≡◌, ◌↔◌, ◌/◌, ◌%◌, ◌^◌, IsTrue, IsOk, IfOk, IfErr, OnOk, OnErr};
 ghost use Rattle.bac_tag.specs.HeadOctets.{bit_of, least_head};
-ghost use Rattle.bac_tag.specs.Spelling.{AppendsLeast, IsCanonical};
+ghost use Rattle.bac_tag.specs.Spelling.{AppendsLeast};
 ghost use Rattle.bac_service.specs.declared.kind.Kind.TheVariants.{Confirmed};
 ghost use Rattle.bac_service.specs.Services.{value_of as service_of};
 ghost use Rattle.bac_apdu.specs.ConfirmedRequest.{confirmed_request_head};
 ghost use Rattle.bac_apdu.specs.FirstOctet.{HasType, HasSeg};
 ghost use Rattle.bac_apdu.specs.Apdus.{confirmed_request, SpellsApdu};
-ghost use Rattle.bac_apdu.specs.Decoded.{IsVisited};
+ghost use Rattle.bac_apdu.specs.Decoded.{IsApduChecked, IsVisited};
 
 use crate::apdu::Apdu;
 use crate::heads::{first_octet, has_bit};
 use crate::max_resp::MaxResp;
 use crate::max_segs::MaxSegs;
-use crate::services::{append_behind, decode_behind, is_canonical_behind};
+use crate::services::{append_behind, check_behind, decode_behind};
 use crate::visiting::ApduVisitor;
 use bac_service::{Kind, Service};
 use bac_tag::{OutOfMemory, Refusal, Why};
@@ -145,18 +145,20 @@ fn read_head(first: u8, limits: u8, invoke: u8, choice: u8) -> (RequestHead, [u8
     (head, least)
 }
 
-/// Returns true if the octets are found at once to be the canonical ones of a request in one piece. False is
-/// inconclusive.
-pub(crate) fn is_canonical_confirmed_request(alloc: Global, octets: &[u8]) -> bool
+/// Checks a request in one piece.
+pub(crate) fn check_confirmed_request(
+    alloc: Global,
+    octets: &[u8],
+) -> Result<Option<usize>, Refusal>
     requires pdu { HasType 0 octets.now }
     requires whole { HasSeg 0 octets.now }
-    ensures { IsTrue result → IsCanonical SpellsApdu octets.now }
+    ensures { IsApduChecked octets.now result }
 {
     let [first, limits, invoke, choice, ..] = octets else {
-        return false;
+        return Err(Why::Short.at(octets.len()));
     };
     let (_, least) = read_head(*first, *limits, *invoke, *choice);
-    is_canonical_behind(alloc, Kind::Confirmed, *choice, octets, &least)
+    check_behind(alloc, Kind::Confirmed, *choice, octets, &least)
 }
 
 /// Decodes a request in one piece.

@@ -6,10 +6,10 @@ ghost use Rattle.bac_service.specs.declared.kind.Kind.TheVariants.{Error as of_e
 ghost use Rattle.bac_service.specs.Services.{value_of as service_of};
 ghost use Rattle.bac_apdu.specs.FirstOctet.{HasType};
 ghost use Rattle.bac_apdu.specs.Apdus.{error, SpellsApdu};
-ghost use Rattle.bac_apdu.specs.Decoded.{IsVisited};
+ghost use Rattle.bac_apdu.specs.Decoded.{IsApduChecked, IsVisited};
 
 use crate::apdu::Apdu;
-use crate::services::{append_behind, decode_behind};
+use crate::services::{append_behind, check_behind, decode_behind};
 use crate::visiting::ApduVisitor;
 use bac_service::{Kind, Service};
 use bac_tag::{OutOfMemory, Refusal, Why};
@@ -96,6 +96,18 @@ impl ErrorPdu {
         let octets = [0x50, self.invoke(), service.choice()];
         append_behind(&octets, service, out)
     }
+}
+
+/// Checks an error.
+pub(crate) fn check_error_pdu(alloc: Global, octets: &[u8]) -> Result<Option<usize>, Refusal>
+    requires { HasType 5 octets.now }
+    ensures { IsApduChecked octets.now result }
+{
+    let [_, invoke, choice, ..] = octets else {
+        return Err(Why::Short.at(octets.len()));
+    };
+    let least = [0x50, *invoke, *choice];
+    check_behind(alloc, Kind::Error, *choice, octets, &least)
 }
 
 /// Decodes an error.

@@ -15,9 +15,8 @@
 //!
 //! The reader passes the APDU with its mark to an `ApduVisitor` (`visiting.rt`), and returns what the visitor made of
 //! it. The visitor is a type parameter, so each use has a decoder of its own, in which an APDU is moved no further than
-//! the use needs. [`decode_apdu_marked`] keeps both; bac_npdu has a visitor of its own. `is_canonical_apdu`
-//! (`canonical.rt`) finds that the octets of an APDU in one piece are canonical, by its head and by what bac_service
-//! reports of the service, and decodes neither. [`append_apdu`] writes the same canonical head, and appends the service or
+//! the use needs. [`decode_apdu_marked`] keeps both; bac_npdu has a visitor of its own. [`layers::check_apdu`]
+//! (`apdu_checking.rt`) reads the same heads, and has the service checked; it makes no APDU. [`append_apdu`] writes the same canonical head, and appends the service or
 //! the piece to the same vector.
 //!
 //! In `specs` an APDU is a table: `head_of` (`Apdus.antt`) lists its octets, each a number, or flags without their free
@@ -28,9 +27,9 @@
 
 mod abort;
 mod apdu;
+mod apdu_checking;
 mod apdu_decoding;
 mod apdu_encoding;
-mod canonical;
 mod complex_ack;
 mod confirmed_request;
 mod error_pdu;

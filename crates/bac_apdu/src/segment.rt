@@ -4,7 +4,7 @@ ghost use Rattle.std.specs.Prelude.{◌≡◌, ◌++◌, OnOk, OnErr};
 ghost use Rattle.bac_tag.specs.Spelling.{AppendsLeast};
 ghost use Rattle.bac_apdu.specs.FirstOctet.{HasType, HasSeg};
 ghost use Rattle.bac_apdu.specs.Apdus.{segment, SpellsApdu};
-ghost use Rattle.bac_apdu.specs.Decoded.{IsVisited};
+ghost use Rattle.bac_apdu.specs.Decoded.{IsApduChecked, IsSegmentStart, IsStartRead, IsVisited};
 
 use crate::apdu::Apdu;
 use crate::confirmed_request::RequestHead;
@@ -95,16 +95,23 @@ impl Segment {
     }
 }
 
-/// Decodes a segment of a request.
-pub(crate) fn decode_request_segment<V: ApduVisitor>(
-    alloc: Global,
-    octets: &[u8],
-    visitor: V,
-    place: &mut V::Place,
-) -> Result<V::Made, Refusal>
+/// What is before the piece of a segment, and the mark of all its octets. The piece has no other spelling.
+#[derive(Clone, Copy)]
+pub(crate) struct SegmentStart {
+    head: SegHead,
+    seq: u8,
+    window: Window,
+    more: bool,
+    choice: u8,
+    mark: Option<usize>,
+}
+
+/// Reads what is before the piece of a segment of a request: six octets.
+#[inline(always)]
+fn read_request_start(octets: &[u8]) -> Result<SegmentStart, Refusal>
     requires pdu { HasType 0 octets.now }
     requires segmented { HasSeg 1 octets.now }
-    ensures { IsVisited (V.makes visitor) octets.now place.old place.new result }
+    ensures { IsStartRead octets.now 6 result }
 {
     let [first, limits, invoke, seq, size, ..] = octets else {
         return Err(Why::Short.at(octets.len()));
@@ -130,31 +137,22 @@ pub(crate) fn decode_request_segment<V: ApduVisitor>(
         *size,
         *choice,
     ];
-    let mark = first_difference(&octets[..6], &least);
-    let Ok(piece) = Vec::from_slice(alloc, &octets[6..]) else {
-        return Err(Refusal::out_of_memory());
-    };
-    let segment = Segment {
+    Ok(SegmentStart {
         head: SegHead::Request(head),
         seq: *seq,
         window,
         more,
         choice: *choice,
-        piece,
-    };
-    Ok(visitor.visit(Apdu::Segment(segment), mark, place))
+        mark: first_difference(&octets[..6], &least),
+    })
 }
 
-/// Decodes a segment of an answer.
-pub(crate) fn decode_ack_segment<V: ApduVisitor>(
-    alloc: Global,
-    octets: &[u8],
-    visitor: V,
-    place: &mut V::Place,
-) -> Result<V::Made, Refusal>
+/// Reads what is before the piece of a segment of an answer: five octets.
+#[inline(always)]
+fn read_ack_start(octets: &[u8]) -> Result<SegmentStart, Refusal>
     requires pdu { HasType 3 octets.now }
     requires segmented { HasSeg 1 octets.now }
-    ensures { IsVisited (V.makes visitor) octets.now place.old place.new result }
+    ensures { IsStartRead octets.now 5 result }
 {
     let [first, invoke, seq, size, ..] = octets else {
         return Err(Why::Short.at(octets.len()));
@@ -173,17 +171,93 @@ pub(crate) fn decode_ack_segment<V: ApduVisitor>(
         *size,
         *choice,
     ];
-    let mark = first_difference(&octets[..5], &least);
-    let Ok(piece) = Vec::from_slice(alloc, &octets[5..]) else {
-        return Err(Refusal::out_of_memory());
-    };
-    let segment = Segment {
+    Ok(SegmentStart {
         head: SegHead::Ack { invoke: *invoke },
         seq: *seq,
         window,
         more,
         choice: *choice,
-        piece,
+        mark: first_difference(&octets[..5], &least),
+    })
+}
+
+/// Gives the visitor the segment with this start, which has `size` octets, and with the piece after it.
+#[inline(always)]
+fn visit_segment<V: ApduVisitor>(
+    alloc: Global,
+    octets: &[u8],
+    size: usize,
+    start: SegmentStart,
+    visitor: V,
+    place: &mut V::Place,
+) -> Result<V::Made, Refusal>
+    requires { IsSegmentStart octets.now size start }
+    ensures { IsVisited (V.makes visitor) octets.now place.old place.new result }
+{
+    let Ok(piece) = Vec::from_slice(alloc, &octets[size..]) else {
+        return Err(Refusal::out_of_memory());
     };
-    Ok(visitor.visit(Apdu::Segment(segment), mark, place))
+    let segment = Segment {
+        piece,
+        head: start.head,
+        seq: start.seq,
+        window: start.window,
+        more: start.more,
+        choice: start.choice,
+    };
+    Ok(visitor.visit(Apdu::Segment(segment), start.mark, place))
+}
+
+/// Decodes a segment of a request.
+pub(crate) fn decode_request_segment<V: ApduVisitor>(
+    alloc: Global,
+    octets: &[u8],
+    visitor: V,
+    place: &mut V::Place,
+) -> Result<V::Made, Refusal>
+    requires pdu { HasType 0 octets.now }
+    requires segmented { HasSeg 1 octets.now }
+    ensures { IsVisited (V.makes visitor) octets.now place.old place.new result }
+{
+    let start = read_request_start(octets)?;
+    visit_segment(alloc, octets, 6, start, visitor, place)
+}
+
+/// Decodes a segment of an answer.
+pub(crate) fn decode_ack_segment<V: ApduVisitor>(
+    alloc: Global,
+    octets: &[u8],
+    visitor: V,
+    place: &mut V::Place,
+) -> Result<V::Made, Refusal>
+    requires pdu { HasType 3 octets.now }
+    requires segmented { HasSeg 1 octets.now }
+    ensures { IsVisited (V.makes visitor) octets.now place.old place.new result }
+{
+    let start = read_ack_start(octets)?;
+    visit_segment(alloc, octets, 5, start, visitor, place)
+}
+
+/// Checks a segment of a request.
+pub(crate) fn check_request_segment(octets: &[u8]) -> Result<Option<usize>, Refusal>
+    requires pdu { HasType 0 octets.now }
+    requires segmented { HasSeg 1 octets.now }
+    ensures { IsApduChecked octets.now result }
+{
+    match read_request_start(octets) {
+        Ok(start) => Ok(start.mark),
+        Err(refusal) => Err(refusal),
+    }
+}
+
+/// Checks a segment of an answer.
+pub(crate) fn check_ack_segment(octets: &[u8]) -> Result<Option<usize>, Refusal>
+    requires pdu { HasType 3 octets.now }
+    requires segmented { HasSeg 1 octets.now }
+    ensures { IsApduChecked octets.now result }
+{
+    match read_ack_start(octets) {
+        Ok(start) => Ok(start.mark),
+        Err(refusal) => Err(refusal),
+    }
 }

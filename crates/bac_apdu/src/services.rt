@@ -1,11 +1,11 @@
 //! Services after a head.
 
-ghost use Rattle.std.specs.Prelude.{◌≡◌, ◌≤◌, ◌++◌, length, true, None, IsTrue, OnOk, OnErr};
+ghost use Rattle.std.specs.Prelude.{◌≡◌, ◌≤◌, ◌++◌, length, true, OnOk, OnErr};
 ghost use Rattle.bac_tag.specs.Spelling.{AppendsLeast};
-ghost use Rattle.bac_service.specs.Services.{ServiceValue, value_of as service_of, SpellsService};
-ghost use Rattle.bac_apdu.specs.Decoded.{IsBehind, IsServiceBehind};
+ghost use Rattle.bac_service.specs.Services.{value_of as service_of, SpellsService};
+ghost use Rattle.bac_apdu.specs.Decoded.{IsBehind, IsBehindChecked};
 
-use bac_service::layers::is_canonical_service;
+use bac_service::layers::check_service;
 use bac_service::{Kind, Service, append_service, decode_service_marked};
 use bac_tag::layers::{first_difference, joined_marks, or_cut_back};
 use bac_tag::{OutOfMemory, Refusal, Why};
@@ -35,21 +35,24 @@ pub(crate) fn decode_behind(
     }
 }
 
-/// Returns true if the octets are found at once to be those of `head`, the canonical ones of a head, and after them the
-/// canonical ones of a service. False is inconclusive.
+/// Checks the service after a head whose canonical octets are `head`. Returns the mark of all the octets.
 #[inline(always)]
-pub(crate) fn is_canonical_behind(
+pub(crate) fn check_behind(
     alloc: Global,
     kind: Kind,
     choice: u8,
     octets: &[u8],
     head: &[u8],
-) -> bool
+) -> Result<Option<usize>, Refusal>
     requires { length head.now ≤ length octets.now }
-    ensures { IsTrue result → (service : ServiceValue) × IsServiceBehind kind choice octets.now head.now service None }
+    ensures { IsBehindChecked kind choice octets.now head.now result }
 {
-    let (front, rest) = octets.split_at(head.len());
-    front == head && is_canonical_service(alloc, kind, choice, rest)
+    let count = head.len();
+    let (front, rest) = octets.split_at(count);
+    match check_service(alloc, kind, choice, rest) {
+        Ok(mark) => Ok(joined_marks(first_difference(front, head), count, mark)),
+        Err(refusal) => Err(refusal.behind(count)),
+    }
 }
 
 /// Appends the octets of a head, and the canonical ones of a service after it. If memory is refused, `out` stays as it

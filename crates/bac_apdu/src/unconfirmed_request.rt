@@ -1,15 +1,15 @@
 //! Requests that want no answer (Unconfirmed-Request, clause 20.1.3).
 
 ghost use Rattle.std.specs.Prelude.{◌≡◌, ◌↔◌, IsTrue, IsOk, IfOk, IfErr, OnOk, OnErr};
-ghost use Rattle.bac_tag.specs.Spelling.{AppendsLeast, IsCanonical};
+ghost use Rattle.bac_tag.specs.Spelling.{AppendsLeast};
 ghost use Rattle.bac_service.specs.declared.kind.Kind.TheVariants.{Unconfirmed};
 ghost use Rattle.bac_service.specs.Services.{value_of as service_of};
 ghost use Rattle.bac_apdu.specs.FirstOctet.{HasType};
 ghost use Rattle.bac_apdu.specs.Apdus.{unconfirmed_request, SpellsApdu};
-ghost use Rattle.bac_apdu.specs.Decoded.{IsVisited};
+ghost use Rattle.bac_apdu.specs.Decoded.{IsApduChecked, IsVisited};
 
 use crate::apdu::Apdu;
-use crate::services::{append_behind, decode_behind, is_canonical_behind};
+use crate::services::{append_behind, check_behind, decode_behind};
 use crate::visiting::ApduVisitor;
 use bac_service::{Kind, Service};
 use bac_tag::{OutOfMemory, Refusal, Why};
@@ -86,16 +86,18 @@ impl UnconfirmedRequest {
     }
 }
 
-/// Returns true if the octets are found at once to be the canonical ones of a request that wants no answer. False is
-/// inconclusive.
-pub(crate) fn is_canonical_unconfirmed_request(alloc: Global, octets: &[u8]) -> bool
+/// Checks a request that wants no answer.
+pub(crate) fn check_unconfirmed_request(
+    alloc: Global,
+    octets: &[u8],
+) -> Result<Option<usize>, Refusal>
     requires { HasType 1 octets.now }
-    ensures { IsTrue result → IsCanonical SpellsApdu octets.now }
+    ensures { IsApduChecked octets.now result }
 {
     let [_, choice, ..] = octets else {
-        return false;
+        return Err(Why::Short.at(octets.len()));
     };
-    is_canonical_behind(alloc, Kind::Unconfirmed, *choice, octets, &[0x10, *choice])
+    check_behind(alloc, Kind::Unconfirmed, *choice, octets, &[0x10, *choice])
 }
 
 /// Decodes a request that wants no answer.

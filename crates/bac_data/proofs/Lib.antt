@@ -26,4 +26,4 @@ mod ReadingSteps
 mod StandingLeast
 mod LinkLemmas
 mod ProgressLemmas
-mod CanonicalLemmas
+mod CheckingLemmas

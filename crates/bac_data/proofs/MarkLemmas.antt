@@ -5,7 +5,7 @@ use Rattle.std.proofs.lemmas.List.{append_cancel_left}
 use Rattle.std.specs.Prelude.{false, true, is_some, nat_eq, IsTrue, ◌↔◌, IfNone, IfSome}
 use Rattle.bac_tag.specs.declared.heads.TagHead.TheVariants.{App, AppBool, Ctx, Open, Close}
 use Rattle.bac_tag.specs.Octets.{FirstDifference, IsMark, joined_mark}
-use Rattle.bac_tag.specs.Laws.Octets.{mark-append, mark_first}
+use Rattle.bac_tag.specs.Laws.Octets.{mark-append, mark_by, mark_first}
 use Rattle.bac_tag.specs.Spelling.{IsLeast}
 use Rattle.bac_tag.specs.Laws.Spelling.{IsLeast-one, difference_within}
 use Rattle.bac_tag.specs.Heads.{Heads}
@@ -54,6 +54,22 @@ module _ (number : ℕ) (prim : PrimitiveValue) (contents : List ℕ) (s : Conte
   least_by_contents fits other =
       let l = some_least (App number (length (prim_written prim))) (fits, other) (omega (arith, written_small)) in
       (l.0, l.1, least_by_head other l.0 l.1)
+
+  -- the mark of a head and contents is that of the head, or else that of the contents
+  pub application_marked : number ≤ 12 → number ≢ 1 → (head : List ℕ) → Heads (App number (length contents)) head → (m o : Option ℕ) → ((b : List ℕ) → IsLeast (Heads (App number (length (prim_written prim)))) b → IsMark head b m)
+      → IfNone o (contents ≡ prim_written prim) → IfSome o (FirstDifference contents (prim_written prim)) → (b : List ℕ) → IsLeast (SpellsPrimitive (prim_of_contents number contents)) b → IsMark (head ++ contents) b (joined_mark m (length head) o)
+  application_marked fits other head h m o mark none some b p =
+      let l = least_by_contents fits other in
+      by_least (SpellsPrimitive (prim_of_contents number contents)) (l.0 ++ prim_written prim) b (head ++ contents) (joined_mark m (length head) o) l.2 (by_mark m l.0 (mark l.0 l.1) l.1.member) p
+    where
+      as_long : (n : ℕ) → App number (length contents) ≡ App number n → length contents ≡ n
+      as_long n e = cc
+
+      by_mark : (m : Option ℕ) (least : List ℕ) → IsMark head least m → Heads (App number (length (prim_written prim))) least → IsMark (head ++ contents) (least ++ prim_written prim) (joined_mark m (length head) o)
+      by_mark (Some place) least k q = mark_first head contents least (prim_written prim) place k
+      by_mark None least k q =
+          let same = heads_end (App number (length contents)) (App number (length (prim_written prim))) head least [] [] h q (ap (λ (l : List ℕ). l ++ []) k) in
+          mark-append head contents least (prim_written prim) None o k (mark_by contents (prim_written prim) o (as_long (length (prim_written prim)) same.1) none some)
 
   -- contents that are written of one value are written of each that they spell
   written_alike : contents ≡ prim_written prim → (p : PrimitiveValue) → ContentsOf number p contents → contents ≡ prim_written p
@@ -114,6 +130,17 @@ whole_least (item.Context number octets) (fits, within) head h whole =
     (subst (IsLeast (Heads (Ctx number (length octets.now)))) (sym ends.0) l.1, tt)
 whole_least (item.Open number) is head h whole = (rw (append-nil head) at whole, tt)
 whole_least (item.Close number) is head h whole = (rw (append-nil head) at whole, tt)
+
+-- if its contents are the least, its mark is that of its head
+pub head_marked : (i : Item) → IsItem i → HasLeastContents i → (head : List ℕ) → Heads (item_head i) head → (m : Option ℕ) → ((b : List ℕ) → IsLeast (Heads (item_head i)) b → IsMark head b m) → (b : List ℕ) → IsLeast (SpellsEvent (item_event i)) b
+    → IsMark (head ++ item_contents i) b m
+head_marked i is least head h m mark b p =
+    let l = some_least (item_head i) h.valid (fits_spelled (item_head i) head h) in
+    by_least (SpellsEvent (item_event i)) (l.0 ++ item_contents i) b (head ++ item_contents i) m (least_whole i is l.0 l.1 least) (with_contents l.0 m (mark l.0 l.1)) p
+  where
+    with_contents : (c : List ℕ) (m : Option ℕ) → IsMark head c m → IsMark (head ++ item_contents i) (c ++ item_contents i) m
+    with_contents c (Some place) k = mark_first head (item_contents i) c (item_contents i) place k
+    with_contents c None k = ap (λ (l : List ℕ). l ++ item_contents i) k
 
 -- a head is the least one where it is as long
 pub least_as_long : (i : Item) → IsItem i → (head : List ℕ) → Heads (item_head i) head → (n : ℕ) → ((b : List ℕ) → IsLeast (Heads (item_head i)) b → n ≡ length b) → HasLeastContents i

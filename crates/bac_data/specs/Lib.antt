@@ -12,6 +12,7 @@ pub mod Refusals
 pub mod Under
 pub mod Reading
 pub mod Marks
+pub mod Checked
 pub mod Listings
 pub mod KeptOctets
 pub mod Progress

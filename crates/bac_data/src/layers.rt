@@ -1,4 +1,4 @@
-//! For the layers above: canonical octets that are found without a value. A program that handles whole messages needs
-//! none of it.
+//! For the layers above: open values that are checked and not made. A program that handles whole messages needs none of
+//! it.
 
-pub use crate::canonical::canonical_any_len;
+pub use crate::checking::check_any;

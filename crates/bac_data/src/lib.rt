@@ -13,7 +13,7 @@
 //! and `Laws/Events.antt` proves that the tree has these events again.
 //!
 //! A node (`nodes.rt`) has the kind of its event, the number of the tag, the range of the contents in the octets, and
-//! for an opening the index of its closing. What it stands for is `node_event` (`NodeEvents.antt`). The invariant of a
+//! for an opening the index of its closing. What it says is `node_event` (`NodeEvents.antt`). The invariant of a
 //! value is `IsHeld`: the octets are the least that spell the events of the nodes; ranges lie within the octets, and
 //! contents of application primitives are the written ones (`Lies`); at most 32 groups nest (`Opens`); and each opening
 //! has the index of its own closing (`IsGroup`). A value of at most 6 nodes and 24 octets lies in itself (`Held` in
@@ -35,8 +35,8 @@
 //! is the mark of the value. Contents of application primitives are appended as they are written (`append_written` of
 //! bac_value), without a value.
 //!
-//! `canonical_any_len` (`canonical.rt`) goes over octets that may be canonical, and makes no value, so a long value
-//! needs no copy. It takes what is next only in canonical octets (`least_item`), so it has no refusals to report.
+//! [`layers::check_any`] (`checking.rt`) goes over the same octets with the same refusals and makes no value, so it takes
+//! no memory. The mark of an item that is not in canonical octets is that of its head or its contents (`mark_item`).
 //!
 //! Where it is, in `src`, and after the semicolon in `specs`:
 //!
@@ -47,13 +47,13 @@
 //!   `Events.antt`, `Walks.antt`
 //! - reading and marks: `reading.rt`, `items.rt`, `listing.rt`, `kept.rt`; `Spells.antt`, `Refusals.antt`,
 //!   `Reading.antt`, `Under.antt`, `Marks.antt`, `Listings.antt`, `KeptOctets.antt`, `Progress.antt`
-//! - canonical octets without a value: `canonical.rt`; `Reading.antt`, and `Spelling.antt` of bac_tag
+//! - checking without a value: `checking.rt`; `Checked.antt`, `Reading.antt`, `Marks.antt`
 //! - writing, and the laws: `writing.rt`, `laws.rt`; `Spells.antt`, `Parts.antt`
 #![tactic(auto)]
 
 mod build_faults;
 mod building;
-mod canonical;
+mod checking;
 mod held;
 mod items;
 mod kept;

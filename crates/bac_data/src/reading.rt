@@ -136,7 +136,7 @@ fn held_len(mark: Option<usize>, front: usize, kept: &Kept) -> usize
 /// # Errors
 /// As those of `bac_tag::read_one_of`.
 #[inline(always)]
-fn read_opening(octets: &[u8], number: u8) -> Result<(usize, Option<usize>), Refusal>
+pub(crate) fn read_opening(octets: &[u8], number: u8) -> Result<(usize, Option<usize>), Refusal>
     requires { number ≤ 254 }
     ensures within { IfOk result (λ found. found.0 ≤ length octets.now) }
     ensures opened { IfOk result (λ found. Heads (Open number) (take found.0 octets.now)) }

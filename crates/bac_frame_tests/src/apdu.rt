@@ -1,7 +1,7 @@
 //! Of APDUs. If memory is refused, a call is made again, so that the tests can be run with each allocation refused in
 //! turn (`rt try --test --fail-alloc N`).
 
-mod canonical;
+mod checking;
 mod constructors;
 mod examples;
 

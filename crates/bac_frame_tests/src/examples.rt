@@ -3,8 +3,8 @@
 use bac_apdu::{Apdu, SegHead, decode_apdu, encode_apdu};
 use bac_fields::{Name, append_fields, append_octets};
 use bac_npdu::{
-    Body, Frame, NetMessage, NetPriority, Side, decode_frame, decode_strict, encode_frame,
-    normalise_frame, same_meaning,
+    Body, Frame, NetMessage, NetPriority, Side, check_frame, decode_frame, decode_strict,
+    encode_frame, normalise_frame, same_meaning,
 };
 use bac_segment::{CutPlan, Desk, Key, Taken, cut};
 use bac_tag::Why;
@@ -117,6 +117,17 @@ fn a_canonical_frame_is_decoded(rt: HostRuntime) -> Result<(), Fail> {
     let refused = decode_strict(rt.alloc(), &[0x01, 0xD0, 0x12]);
     assert_eq!(rt; refused.err(), Some(Why::NotCanonical.at(1)));
     Ok(())
+}
+
+// Of `bac_npdu::check_frame`.
+#[test]
+fn a_frame_is_checked(rt: HostRuntime) {
+    // The number of this network is asked for; then with ignored bits of the control octet set.
+    assert_eq!(rt; check_frame(rt.alloc(), &[0x01, 0x80, 0x12]), Ok(None));
+    assert_eq!(rt; check_frame(rt.alloc(), &[0x01, 0xD0, 0x12]), Ok(Some(1)));
+    // The octets end before the type of the message.
+    let refused = check_frame(rt.alloc(), &[0x01, 0x80]);
+    assert_eq!(rt; refused, Err(Why::Short.at(2)));
 }
 
 // Of `bac_npdu::normalise_frame`.

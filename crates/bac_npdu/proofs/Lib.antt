@@ -1,1 +1,2 @@
+mod StepLemmas
 mod MeaningLemmas

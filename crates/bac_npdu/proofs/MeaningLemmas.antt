@@ -1,8 +1,12 @@
 -- What two lists mean, and canonical octets of what was read.
-use Rattle.std.specs.Prelude.{◌≡◌, ◌↔◌, ℕ, Option, Some, None, MatchOption, List}
+use Rattle.std.specs.Prelude.{◌≡◌, ◌≢◌, ◌↔◌, ℕ, Option, Some, None, MatchOption, List, Result, Ok, Err, IfOk, IfErr}
 use Rattle.std.proofs.Common.{sym, ◌∙◌, subst}
-use Rattle.bac_tag.specs.Spelling.{IsLeast, HasMark}
-use Rattle.bac_tag.specs.Laws.Spelling.{IsLeast-one}
+use Rattle.bac_tag.specs.declared.refusals.Refusal.{Refusal}
+use Rattle.bac_tag.specs.declared.refusals.Why.TheVariants.{OutOfMemory}
+use Rattle.bac_tag.specs.Spelling.{IsCanonical, IsLeast, IsWholeRefusal, HasMark}
+use Rattle.bac_tag.specs.Laws.Spelling.{IsLeast-one, unmarked_least}
+use Rattle.bac_productions.specs.Productions.{IsMarked}
+use Rattle.bac_npdu_parts.specs.Decoded.{IsFrameChecked, IsReasoned}
 use Rattle.bac_npdu_parts.specs.Frames.{FrameValue, SpellsFrame}
 use Rattle.bac_npdu.specs.Meanings.{IsNormalised, MeanTheSame, IsNormalOf}
 
@@ -35,3 +39,25 @@ module _ (frames : (f g : FrameValue) (b : List ℕ) → SpellsFrame f b → Spe
   -- canonical octets of canonical octets are the same
   pub normal_once : (b c d : List ℕ) → IsNormalOf b c → IsNormalOf c d → c ≡ d
   normal_once b c d p q = let same = frames p.0 q.0 c p.2.member q.1 in IsLeast-one (SpellsFrame q.0) c d (subst (λ (f : FrameValue). IsLeast (SpellsFrame f) c) same p.2) q.2
+
+-- ---- a frame that is checked
+
+pub checked_found : (b : List ℕ) (r : Result (Option ℕ) Refusal) → IsFrameChecked b r → IfOk r (IsMarked SpellsFrame b)
+checked_found b (Ok mark) h = h
+checked_found b (Err e) h = tt
+
+pub checked_refused : (b : List ℕ) (r : Result (Option ℕ) Refusal) → IsFrameChecked b r → IfErr r (IsWholeRefusal SpellsFrame b)
+checked_refused b (Ok mark) h = tt
+checked_refused b (Err e) (h, other) = h.refused other
+
+pub checked_memory : (b : List ℕ) (r : Result (Option ℕ) Refusal) → IsFrameChecked b r → IfErr r (λ e. e.why ≢ OutOfMemory)
+checked_memory b (Ok mark) h = tt
+checked_memory b (Err e) (h, other) = other
+
+pub checked_reasons : (b : List ℕ) (r : Result (Option ℕ) Refusal) → IsFrameChecked b r → IfErr r (IsReasoned b)
+checked_reasons b (Ok mark) h = tt
+checked_reasons b (Err e) (h, other) = h.reasoned
+
+-- octets without a mark are canonical
+pub unmarked_canonical : (b : List ℕ) (m : Option ℕ) → m ≡ None → IsMarked SpellsFrame b m → IsCanonical SpellsFrame b
+unmarked_canonical b m e h = (h.value, unmarked_least m e h.marked)

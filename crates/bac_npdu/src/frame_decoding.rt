@@ -9,27 +9,16 @@ ghost use Rattle.bac_npdu_parts.specs.Frames.{SpellsFrame, body_value, value_of}
 ghost use Rattle.bac_npdu_parts.specs.Heads.{IsVersionPlace, IsAddressPlace};
 ghost use Rattle.bac_npdu_parts.specs.Decoded.{begins_small, IsPduTypePlace, IsFrameWindowPlace, IsFrameReason, IsMade, IsVisited, IsDecoded, IsDecodedAlone};
 ghost use Rattle.bac_npdu_parts.specs.HeadsRead.{IsBehind, IsBodyVisited};
+ghost use Rattle.bac_npdu.specs.Steps.{IsBodyDecoded};
 
+use crate::local::{behind_head, is_local, joined, local_frame, visit_local};
 use crate::visiting::FrameVisitor;
-use bac_apdu::Apdu;
 use bac_apdu::layers::{ApduVisitor, visit_apdu};
+use bac_apdu::{Apdu, decode_apdu_marked};
 use bac_npdu_parts::layers::{decode_message, mark_of, read_head};
 use bac_npdu_parts::{Body, Frame, FrameHead};
 use bac_tag::{Refusal, Why};
 use std::alloc::Global;
-
-/// Returns the mark of a head of `size` octets with a body after it. `first` is the mark of only the head, and
-/// `second` that of only the body. A mark is a place within the octets, so the sum does not wrap.
-#[inline(always)]
-fn joined(first: Option<usize>, size: usize, second: Option<usize>) -> Option<usize>
-    ensures { IsBehind size second → result ≡ joined_mark first size second }
-{
-    if first.is_some() {
-        return first;
-    }
-    let place = second?;
-    Some(size.wrapping_add(place))
-}
 
 /// What is before a body, and the visitor that is given the body.
 #[derive(Drop)]
@@ -145,42 +134,67 @@ pub fn visit_frame<V: FrameVisitor>(
     visit_any(alloc, octets, visitor, place)
 }
 
-/// Keeps the frame and its mark.
-#[derive(Drop)]
-struct Keep {
+/// Decodes the APDU or the network message after a head, and returns it with its mark.
+#[inline(always)]
+fn decode_body(
     alloc: Global,
-}
-
-impl FrameVisitor for Keep {
-    ghost use Rattle.bac_npdu_parts.specs.Decoded.{IsKept};
-
-    type Place = ();
-
-    type Made = Result<(Frame, Option<usize>), Refusal>;
-
-    ghost makes = { λ _ value mark _ _ made. IsKept value mark made };
-
-    #[inline(always)]
-    fn visit(
-        self,
-        head: &FrameHead<'_>,
-        body: Body,
-        mark: Option<usize>,
-        _place: &mut (),
-    ) -> Result<(Frame, Option<usize>), Refusal> {
-        match head.frame(self.alloc, body) {
-            Ok(frame) => Ok((frame, mark)),
-            Err(_) => Err(Refusal::out_of_memory()),
-        }
+    is_message: bool,
+    octets: &[u8],
+) -> Result<(Body, Option<usize>), Refusal>
+    ensures { IsBodyDecoded is_message octets.now result }
+{
+    if is_message {
+        let message = decode_message(alloc, octets)?;
+        return Ok((Body::Net(message), None));
     }
+    let (apdu, mark) = decode_apdu_marked(alloc, octets)?;
+    Ok((Body::Apdu(apdu), mark))
 }
 
 /// Decodes a frame, and returns it with its mark.
 #[inline(always)]
-fn decode_any(alloc: Global, octets: &[u8]) -> Result<(Frame, Option<usize>), Refusal>
+pub(crate) fn decode_any(alloc: Global, octets: &[u8]) -> Result<(Frame, Option<usize>), Refusal>
     ensures { IsDecoded octets.now result }
 {
-    visit_any(alloc, octets, Keep { alloc }, &mut ())?
+    let front = read_head(octets)?;
+    let (_, rest) = octets.split_at(front.size);
+    let (body, mark) = match decode_body(alloc, front.control.has_message(), rest) {
+        Ok(found) => found,
+        Err(refusal) => return Err(behind_head(refusal, front.size)),
+    };
+    let head = front.head();
+    match head.frame(alloc, body) {
+        Ok(frame) => Ok((frame, joined(mark_of(front.control), front.size, mark))),
+        Err(_) => Err(Refusal::out_of_memory()),
+    }
+}
+
+/// Decodes a frame with addresses or with a network message, and returns it with its mark.
+#[inline(never)]
+fn decode_other_marked(alloc: Global, octets: &[u8]) -> Result<(Frame, Option<usize>), Refusal>
+    ensures { IsDecoded octets.now result }
+{
+    decode_any(alloc, octets)
+}
+
+/// Keeps the APDU of a frame and its mark.
+// Each visitor of an APDU is used at one call alone. So the call is inlined, and the APDU is not moved.
+#[derive(Drop)]
+struct KeepMarkedApdu;
+
+impl ApduVisitor for KeepMarkedApdu {
+    ghost use Rattle.bac_apdu.specs.Apdus.{value_of as apdu_value};
+
+    type Place = ();
+
+    type Made = (Apdu, Option<usize>);
+
+    ghost makes = { λ _ value mark _ _ made. (apdu_value made.0 ≡ value) × (made.1 ≡ mark) };
+
+    #[inline(always)]
+    fn visit(self, apdu: Apdu, mark: Option<usize>, _place: &mut ()) -> (Apdu, Option<usize>) {
+        (apdu, mark)
+    }
 }
 
 /// Decodes the frame that all the octets spell. Returns it with its mark: the place of the first octet that differs
@@ -199,45 +213,44 @@ pub fn decode_marked(alloc: Global, octets: &[u8]) -> Result<(Frame, Option<usiz
     ensures windows { IfErr result (λ refusal. (refusal.why ≡ Why.Window) ↔ IsFrameWindowPlace octets.now refusal.place) }
     ensures reasons { IfErr result (λ refusal. IsFrameReason refusal.why) }
 {
-    decode_any(alloc, octets)
+    // A frame is large. It is put together once, after its APDU. What is rare is decoded by a call, which is not inlined,
+    // and has a name, so that it does not write where the frame is put together.
+    let front = read_head(octets)?;
+    if !is_local(&front) {
+        let other = decode_other_marked(alloc, octets);
+        return other;
+    }
+    let (apdu, mark) = visit_local(alloc, &front, octets, KeepMarkedApdu, &mut ())?;
+    let mark = joined(mark_of(front.control), front.size, mark);
+    Ok((local_frame(&front, apdu), mark))
 }
 
-/// Keeps only the frame, without a mark that would be moved with it.
+/// Decodes a frame with addresses or with a network message, and returns it without its mark.
+#[inline(never)]
+fn decode_other(alloc: Global, octets: &[u8]) -> Result<Frame, Refusal>
+    ensures { IsDecodedAlone octets.now result }
+{
+    let (frame, _) = decode_any(alloc, octets)?;
+    Ok(frame)
+}
+
+/// Keeps the APDU of a frame without its mark.
 #[derive(Drop)]
-struct KeepFrame {
-    alloc: Global,
-}
+struct KeepApdu;
 
-impl FrameVisitor for KeepFrame {
-    ghost use Rattle.bac_npdu_parts.specs.Decoded.{IsKeptAlone};
+impl ApduVisitor for KeepApdu {
+    ghost use Rattle.bac_apdu.specs.Apdus.{value_of as apdu_value};
 
     type Place = ();
 
-    type Made = Result<Frame, Refusal>;
+    type Made = Apdu;
 
-    ghost makes = { λ _ value _ _ _ made. IsKeptAlone value made };
+    ghost makes = { λ _ value _ _ _ made. apdu_value made ≡ value };
 
     #[inline(always)]
-    fn visit(
-        self,
-        head: &FrameHead<'_>,
-        body: Body,
-        _mark: Option<usize>,
-        _place: &mut (),
-    ) -> Result<Frame, Refusal> {
-        match head.frame(self.alloc, body) {
-            Ok(frame) => Ok(frame),
-            Err(_) => Err(Refusal::out_of_memory()),
-        }
+    fn visit(self, apdu: Apdu, _mark: Option<usize>, _place: &mut ()) -> Apdu {
+        apdu
     }
-}
-
-/// Decodes a frame, and returns it without its mark.
-#[inline(always)]
-fn decode_alone(alloc: Global, octets: &[u8]) -> Result<Frame, Refusal>
-    ensures { IsDecodedAlone octets.now result }
-{
-    visit_any(alloc, octets, KeepFrame { alloc }, &mut ())?
 }
 
 /// Decodes the frame that all the octets spell.
@@ -279,5 +292,12 @@ pub fn decode_frame(alloc: Global, octets: &[u8]) -> Result<Frame, Refusal>
     ensures windows { IfErr result (λ refusal. (refusal.why ≡ Why.Window) ↔ IsFrameWindowPlace octets.now refusal.place) }
     ensures reasons { IfErr result (λ refusal. IsFrameReason refusal.why) }
 {
-    decode_alone(alloc, octets)
+    // As in `decode_marked`.
+    let front = read_head(octets)?;
+    if !is_local(&front) {
+        let other = decode_other(alloc, octets);
+        return other;
+    }
+    let apdu = visit_local(alloc, &front, octets, KeepApdu, &mut ())?;
+    Ok(local_frame(&front, apdu))
 }

@@ -15,23 +15,32 @@
 //! count out of the octets, as the control octet says. `visit_behind` decodes the body, as bit 7 of the control octet
 //! says, and joins two marks: that of the control octet and that of the body. No other octet of a head can differ from
 //! the canonical one. A `FrameVisitor` (`visiting.rt`) gets the head ([`FrameHead`]), the body and the mark. A refusal of
-//! the body for want of memory stays at place 0; every other one is moved by the octets of the head. [`decode_marked`]
-//! keeps the frame, with copies of the addresses, and [`decode_frame`] does so without the mark.
+//! the body for want of memory stays at place 0; every other one is moved by the octets of the head.
 //!
-//! [`decode_strict`] is [`decode_marked`] with a look at the mark. [`normalise_frame`] keeps no frame: where the frame was
-//! decoded, it copies octets without a mark, and writes the others into a vector with capacity for as many octets. More
-//! than 4,096 octets are first tested for being canonical, without a value (`is_canonical_frame`), so a long value is
-//! copied once and not twice. [`same_meaning`] compares canonical octets.
+//! A frame is large, and to move it takes longer than to read a short one. So [`decode_frame`], [`decode_marked`] and
+//! [`decode_strict`] put it together once. If the head has two octets, they visit the APDU (`visit_local`) and make the
+//! frame of it (`local_frame`). Every other frame is decoded by a call (`decode_any`), which copies the addresses.
+//! [`decode_strict`] also looks at the mark.
+//!
+//! [`normalise_frame`] keeps no frame: where the frame was decoded, it copies octets without a mark, and writes the others
+//! into a vector with capacity for as many octets. More than 4,096 octets are first checked, so a long value is copied once
+//! and not twice. [`same_meaning`] compares canonical octets.
+//!
+//! [`check_frame`] reads the same head, and has the body checked by the crates below. It makes no value, so it takes no
+//! memory.
 //!
 //! Where it is, in `src`, and after the semicolon in `specs`:
 //!
-//! - decoding: `frame_decoding.rt`, `visiting.rt`; `Decoded.antt` of bac_npdu_parts
+//! - decoding: `frame_decoding.rt`, `local.rt`, `visiting.rt`; `Decoded.antt` of bac_npdu_parts, `Steps.antt`
+//! - checking: `frame_checking.rt`; `Decoded.antt` of bac_npdu_parts
 //! - strict decoding, normalising, comparing: `strict.rt`, `meaning.rt`; `Meanings.antt`
 #![tactic(auto)]
 
+mod frame_checking;
 mod frame_decoding;
 pub mod laws;
 pub mod layers;
+mod local;
 mod meaning;
 mod strict;
 mod visiting;
@@ -40,6 +49,7 @@ pub use bac_npdu_parts::{
     Addressed, Body, Dest, DestRef, Frame, FrameHead, Mac, MacFault, NetFault, NetMessage,
     NetPriority, OpaqueNet, Port, Ports, Source, append_frame, encode_frame,
 };
+pub use frame_checking::check_frame;
 pub use frame_decoding::{decode_frame, decode_marked};
 pub use meaning::{Side, same_meaning};
 pub use strict::{decode_strict, normalise_frame};

@@ -7,6 +7,7 @@ ghost use Rattle.bac_npdu_parts.specs.Frames.{SpellsFrame, value_of};
 ghost use Rattle.bac_npdu_parts.specs.Decoded.{begins_small, IsReasoned};
 ghost use Rattle.bac_npdu.specs.Meanings.{IsNormalOf, IsShortOfMemory, MeanTheSame};
 
+use crate::frame_checking::check_frame;
 use crate::frame_decoding::decode_marked;
 use crate::laws::canonical_octets_tell_the_meaning;
 use bac_npdu_parts::{Frame, encode_frame};
@@ -47,8 +48,8 @@ fn encoded(alloc: Global, side: Side, frame: &Frame) -> Result<Vec<u8>, (Side, R
     encode_frame(alloc, frame).map_err(|_refused| (side, Refusal::out_of_memory()))
 }
 
-/// Returns the canonical octets of the frame that one side spells, or None if they are the octets of the side: octets
-/// without a mark are not written again.
+/// Returns the canonical octets of the frame that one side spells, or None if they are the octets of the side: then no
+/// frame is made, and nothing is written.
 fn rewritten(alloc: Global, side: Side, octets: &[u8]) -> Result<Option<Vec<u8>>, (Side, Refusal)>
     ensures spelled { IfOk result (λ _. IsSpelling SpellsFrame octets.now) }
     ensures normal { IfOk result (λ written. MatchOption written (IsNormalOf octets.now octets.now) (λ new. IsNormalOf octets.now new.items)) }
@@ -57,10 +58,13 @@ fn rewritten(alloc: Global, side: Side, octets: &[u8]) -> Result<Option<Vec<u8>>
     ensures memory { IfErr result (λ told. told.1.why ≡ OutOfMemory → (told.1.place ≡ 0) × IsShortOfMemory octets.now) }
     ensures reasons { IfErr result (λ told. IsReasoned octets.now told.1) }
 {
-    let (frame, mark) = read(alloc, side, octets)?;
-    match mark {
-        None => Ok(None),
-        Some(_) => Ok(Some(encoded(alloc, side, &frame)?)),
+    match check_frame(alloc, octets) {
+        Ok(None) => Ok(None),
+        Ok(Some(_)) => {
+            let (frame, _) = read(alloc, side, octets)?;
+            Ok(Some(encoded(alloc, side, &frame)?))
+        }
+        Err(refusal) => Err((side, refusal)),
     }
 }
 

@@ -6,14 +6,58 @@ ghost use Rattle.bac_npdu_parts.specs.Frames.{SpellsFrame, value_of};
 ghost use Rattle.bac_npdu_parts.specs.Heads.{IsVersionPlace, IsAddressPlace};
 ghost use Rattle.bac_npdu_parts.specs.Decoded.{begins_small, IsPduTypePlace, IsFrameWindowPlace, IsFrameReason, IsReasoned};
 ghost use Rattle.bac_npdu.specs.Meanings.{IsNormalOf, IsFirstFlaw, IsShortOfMemory};
+ghost use Rattle.bac_npdu.specs.Steps.{IsStrictlyDecoded};
 
-use crate::frame_decoding::{decode_marked, visit_frame};
+use crate::frame_checking::check_frame;
+use crate::frame_decoding::{decode_any, visit_frame};
+use crate::local::{is_local, joined, local_frame, visit_local};
 use crate::visiting::FrameVisitor;
-use bac_apdu::layers::is_canonical_apdu;
+use bac_apdu::Apdu;
+use bac_apdu::layers::ApduVisitor;
 use bac_npdu_parts::layers::{mark_of, read_head};
 use bac_npdu_parts::{Body, Frame, FrameHead};
 use bac_tag::{OutOfMemory, Refusal, Why};
 use std::alloc::Global;
+
+/// Keeps the APDU of a frame and its mark.
+#[derive(Drop)]
+struct KeepStrictApdu;
+
+impl ApduVisitor for KeepStrictApdu {
+    ghost use Rattle.bac_apdu.specs.Apdus.{value_of as apdu_value};
+
+    type Place = ();
+
+    type Made = (Apdu, Option<usize>);
+
+    ghost makes = { λ _ value mark _ _ made. (apdu_value made.0 ≡ value) × (made.1 ≡ mark) };
+
+    #[inline(always)]
+    fn visit(self, apdu: Apdu, mark: Option<usize>, _place: &mut ()) -> (Apdu, Option<usize>) {
+        (apdu, mark)
+    }
+}
+
+/// Decodes the frame with addresses or with a network message whose canonical octets these are.
+#[inline(never)]
+fn decode_other_strict(alloc: Global, octets: &[u8]) -> Result<Frame, Refusal>
+    ensures { IsStrictlyDecoded octets.now result }
+{
+    let (frame, mark) = decode_any(alloc, octets)?;
+    match mark {
+        None => Ok(frame),
+        Some(place) => Err(Why::NotCanonical.at(place)),
+    }
+}
+
+/// Returns the refusal of an APDU that is not canonical.
+// It is a call, since an APDU is dropped in many steps.
+#[inline(never)]
+fn not_canonical(_apdu: Apdu, place: usize) -> Refusal
+    ensures { result ≡ record { place = place; why = Why.NotCanonical } }
+{
+    Why::NotCanonical.at(place)
+}
 
 /// Decodes the frame whose canonical octets these are.
 ///
@@ -44,30 +88,28 @@ pub fn decode_strict(alloc: Global, octets: &[u8]) -> Result<Frame, Refusal>
     ensures windows { IfErr result (λ refusal. refusal.why ≢ Why.NotCanonical → (refusal.why ≡ Why.Window) ↔ IsFrameWindowPlace octets.now refusal.place) }
     ensures reasons { IfErr result (λ refusal. refusal.why ≢ Why.NotCanonical → IsFrameReason refusal.why) }
 {
-    let (frame, mark) = decode_marked(alloc, octets)?;
-    match mark {
-        None => Ok(frame),
-        Some(place) => Err(Why::NotCanonical.at(place)),
+    // As in `decode_marked`.
+    let front = read_head(octets)?;
+    if !is_local(&front) {
+        let other = decode_other_strict(alloc, octets);
+        return other;
     }
+    let (apdu, mark) = visit_local(alloc, &front, octets, KeepStrictApdu, &mut ())?;
+    if let Some(place) = joined(mark_of(front.control), front.size, mark) {
+        return Err(not_canonical(apdu, place));
+    }
+    Ok(local_frame(&front, apdu))
 }
 
-/// Returns true if the octets are found at once to be the canonical ones of a frame (clause 6.2) with an APDU that
-/// carries a service. False is inconclusive.
+/// Returns true if the octets are the canonical ones of a frame (clause 6.2).
 fn is_canonical_frame(alloc: Global, octets: &[u8]) -> bool
     ensures { IsTrue result → IsCanonical SpellsFrame octets.now }
 {
-    let Ok(read) = read_head(octets) else {
-        return false;
-    };
-    if read.control.has_message() || mark_of(read.control).is_some() {
-        return false;
-    }
-    let (_, rest) = octets.split_at(read.size);
-    is_canonical_apdu(alloc, rest)
+    matches!(check_frame(alloc, octets), Ok(None))
 }
 
-/// A frame of more octets is first tested for being canonical. If it is found to be, it is copied once: going through a
-/// long string is faster than copying it.
+/// A frame of more octets is first tested for being canonical. If it is, it is copied once: going through a long string is
+/// faster than copying it.
 const LONG: usize = 4096;
 
 /// Writes the canonical octets of a frame where it was decoded, so that the frame is not put together and moved.

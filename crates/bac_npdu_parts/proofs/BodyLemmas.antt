@@ -1,5 +1,5 @@
 -- Bodies of frames: APDUs and network messages.
-use Rattle.std.specs.Prelude.{◌≡◌, ◌≢◌, ◌↔◌, ℕ, true, false, Option, None, List, [], ◌∷◌, Result, Ok, Err, IfOk, IfErr, OnErr, refl}
+use Rattle.std.specs.Prelude.{◌≡◌, ◌≢◌, ◌↔◌, ℕ, true, false, Option, None, List, [], Result, Ok, Err, IfOk, IfErr, OnErr, refl}
 use Rattle.std.proofs.Common.{inl, inr, sym, ◌∙◌, ap, subst, arith}
 use Rattle.bac_tag.specs.declared.refusals.Refusal.{Refusal}
 use Rattle.bac_tag.specs.declared.refusals.Why.{Why}
@@ -7,18 +7,17 @@ use Rattle.bac_tag.specs.declared.refusals.Why.TheVariants.{Short, Trailing, Pdu
 use Rattle.bac_tag.specs.Laws.Octets.{NoGreater-same}
 use Rattle.bac_tag.specs.Refusals.{behind}
 use Rattle.bac_tag.specs.Spelling.{HasMark, IsWholeRefusal}
-use Rattle.bac_tag.specs.HeadOctets.{Part, octet, Headed, least_head}
 use Rattle.bac_tag.proofs.BehindLemmas.{whole_body}
 use Rattle.bac_data.specs.Refusals.{IsItemReason}
 use Rattle.bac_apdu.specs.FirstOctet.{IsTypePlace, IsWindowPlace}
 use Rattle.bac_apdu.specs.Apdus.{ApduValue, SpellsApdu}
-use Rattle.bac_apdu.specs.Decoded.{IsApduReason, IsMade, begins_small as begins_small_apdu}
+use Rattle.bac_apdu.specs.Decoded.{IsApduChecked, IsApduReason, IsMade, begins_small as begins_small_apdu}
 use Rattle.bac_npdu_parts.specs.declared.message.NetMessage.{NetMessage}
 use Rattle.bac_npdu_parts.specs.Messages.{MessageValue, octets_of, SpellsMessage, message_value}
 use Rattle.bac_npdu_parts.specs.Frames.{BodyValue, apdu, message}
-use Rattle.bac_npdu_parts.specs.Decoded.{IsMessageReason, IsMessageRefused}
-use Rattle.bac_npdu_parts.specs.HeadsRead.{SpellsBodyOf, IsBodyFound, IsBodyRefused, IsBodyVisited}
-use Rattle.bac_npdu_parts.proofs.NumberLemmas.{AreNumbers, message_numbers}
+use Rattle.bac_npdu_parts.specs.Decoded.{AreMessageOctets, IsMessageReason, IsMessageRefused, IsNoMessage}
+use Rattle.bac_npdu_parts.specs.HeadsRead.{SpellsBodyOf, IsBodyChecked, IsBodyFound, IsBodyRefused, IsBodyVisited}
+use Rattle.bac_npdu_parts.proofs.NumberLemmas.{numbers_told, message_numbers}
 
 -- what spells the same lists refuses the same
 whole_as : {X Y : Type 0} (T : X → List ℕ → Type 0) (S : Y → List ℕ → Type 0) (b : List ℕ) (r : Refusal) → ((y : Y) (c : List ℕ) → S y c → (x : X) × T x c) → ((x : X) (c : List ℕ) → T x c → (y : Y) × S y c) → IsWholeRefusal S b r → IsWholeRefusal T b r
@@ -59,13 +58,6 @@ message_refused b r h = record {
   reason = message_reason r.why h.reason;
 }
 
--- parts that are numbers have one spelling
-numbers_told : (ps : List Part) (b : List ℕ) → AreNumbers ps → Headed ps (λ rest. rest ≡ []) b → b ≡ least_head ps
-numbers_told [] b n h = h
-numbers_told (p ∷ ps) [] n h = absurd h
-numbers_told (octet k ∷ ps) (o ∷ b) n h = ap (λ (x : ℕ). x ∷ b) h.0.0 ∙ ap (λ (l : List ℕ). k ∷ l) (numbers_told ps b n h.1)
-numbers_told (p ∷ ps) (o ∷ b) n h = absurd n
-
 pub message_once : (m : MessageValue) (b c : List ℕ) → SpellsMessage m b → SpellsMessage m c → b ≡ c
 message_once m b c p q = numbers_told (octets_of m) b (message_numbers m) p.1 ∙ sym (numbers_told (octets_of m) c (message_numbers m) q.1)
 
@@ -103,3 +95,22 @@ pub apdu_visited : {P M : Type 0} (f : ApduValue → Option ℕ → P → P → 
     → IfErr r (λ e. (e.why ≡ Window) ↔ IsWindowPlace b e.place) → IfErr r (λ e. IsApduReason e.why) → OnErr r (new ≡ old) → IsBodyVisited g false b old new r
 apdu_visited f g b old new (Ok made) every m refused memory types windows reasons same = record { body = apdu m.value; mark = m.mark; found = apdu_found m.value b m.mark m.spelled m.marked; made_of = every m.value m.mark made m.made_of }
 apdu_visited f g b old new (Err e) every m refused memory types windows reasons same = (apdu_refused b e refused memory types windows reasons, same)
+
+-- ---- bodies that are checked and not made
+
+pub message_checked : (b : List ℕ) → AreMessageOctets b → (x : BodyValue) × IsBodyFound true b x None
+message_checked b h = (
+  message h.message,
+  record {
+    is = refl;
+    spelled = h.spelled;
+    marked = record { least = b; is_least = record { member = h.spelled; least = λ c p. NoGreater-same b c (message_once h.message b c h.spelled p) }; is_mark = refl };
+  },
+)
+
+pub message_no_memory : (b : List ℕ) (r : Refusal) → IsNoMessage b r → IsBodyRefused true b r × (r.why ≢ OutOfMemory)
+message_no_memory b r h = (message_refused b r (record { refused = λ w. h.refused; memory = λ e. absurd (h.memory e); reason = h.reason }), h.memory)
+
+pub apdu_checked : (b : List ℕ) (r : Result (Option ℕ) Refusal) → IsApduChecked b r → IsBodyChecked false b r
+apdu_checked b (Ok mark) h = (apdu h.value, apdu_found h.value b mark h.spelled h.marked)
+apdu_checked b (Err e) (h, other) = (apdu_refused b e h.refused h.memory h.reasoned.of_type h.reasoned.of_window h.reasoned.others, other)

@@ -1,6 +1,5 @@
 -- Frames behind heads that were read.
 use Rattle.std.specs.Prelude.{◌≡◌, ◌≢◌, ℕ, ◌+◌, ◌/◌, ◌%◌, ◌^◌, ◌<◌, ◌≤◌, nat_eq, nat_le, cond, ◌&&◌, ◌⊎◌, Bool, true, false, Option, Some, None, List, [], ◌∷◌, ◌++◌, length, drop, slice_index, Result, Ok, Err, refl}
-use Rattle.std.specs.Option.{is_some}
 use Rattle.std.proofs.Common.{inl, inr, sym, ◌∙◌, ap, subst, append_assoc, arith}
 use Rattle.std.proofs.lemmas.List.{length-append}
 use Rattle.std.proofs.Math.Seq.{drop-append_seam}
@@ -11,18 +10,18 @@ use Rattle.bac_tag.specs.declared.refusals.Why.TheVariants.{Trailing, Version, A
 use Rattle.bac_tag.specs.Octets.{IsOctets, IsMark, joined_mark}
 use Rattle.bac_tag.specs.Laws.Octets.{octets_at, octets_front, octets_back, mark-append, differs_at}
 use Rattle.bac_tag.specs.Refusals.{behind}
-use Rattle.bac_tag.specs.Laws.Spelling.{unmarked_least}
-use Rattle.bac_tag.specs.Spelling.{IsLeast, HasMark, IsWholeRefusal, IsCanonical}
+use Rattle.bac_tag.specs.Spelling.{IsLeast, HasMark, IsWholeRefusal}
 use Rattle.bac_tag.specs.HeadOctets.{HasBit}
 use Rattle.bac_tag.proofs.BehindLemmas.{whole_body}
 use Rattle.bac_apdu.specs.FirstOctet.{IsTypePlace, IsWindowPlace}
 use Rattle.bac_apdu.specs.Decoded.{IsApduReason, begins_small as begins_small_apdu}
 use Rattle.bac_npdu_parts.specs.declared.frame.Frame.{Frame}
+use Rattle.bac_productions.specs.Productions.{IsMarked}
 use Rattle.bac_npdu_parts.specs.Addresses.{SourceValue, DestinationValue, HasAddress, address_of, source_octets, hops_octets}
 use Rattle.bac_npdu_parts.specs.Control.{least_control, least_of}
 use Rattle.bac_npdu_parts.specs.Frames.{BodyValue, FrameValue, is_there, is_message, control_of, SpellsBody, SpellsFrame}
 use Rattle.bac_npdu_parts.specs.Heads.{says_message, says_destination, says_source, source_place, body_place, HasHead}
-use Rattle.bac_npdu_parts.specs.Decoded.{few_octets, begins_small_message, begins_small, IsReasoned, IsRefused, IsKept, IsKeptAlone, IsDecoded, IsDecodedAlone}
+use Rattle.bac_npdu_parts.specs.Decoded.{few_octets, begins_small_message, begins_small, IsReasoned, IsRefused}
 use Rattle.bac_npdu_parts.specs.FrameHeads.{HeadValue, frame_with, IsLong, IsShort}
 use Rattle.bac_npdu_parts.specs.HeadsRead.{behind_control, IsHead, control_at, IsControlMark, IsBehind, SpellsBodyOf, IsBodyFound, IsBodyRefused}
 use Rattle.bac_npdu_parts.proofs.HeadLemmas.{addresses_agree, flag_once, flag_told}
@@ -271,16 +270,11 @@ module _ (octets : List ℕ) (small : (k : ℕ) → slice_index octets k < 256) 
       let same : frame_with v x ≡ frame_of c d s x = frame_is c v x reply priority ∙ ap (λ (y : Option DestinationValue). frame_of c y v.source x) to ∙ ap (λ (y : Option SourceValue). frame_of c d y x) from in
       (subst (λ (f : FrameValue). SpellsFrame f octets) (sym same) p.0, subst (λ (f : FrameValue). HasMark (SpellsFrame f) octets (joined_mark o n mark)) (sym same) p.1)
 
-  -- where the head has no mark, and the body is canonical, the frame is
-  pub behind_canonical : (x : BodyValue) (o : Option ℕ) → is_message x ≡ m → IsLeast (SpellsBody x) back → IsControlMark c o → is_some o ≡ false → IsCanonical SpellsFrame octets
-  behind_canonical x o is least control none =
-      let found : IsBodyFound m rest x None = subst (λ (l : List ℕ). IsBodyFound m l x None) back_is (record { is = is; spelled = least.member; marked = record { least = back; is_least = least; is_mark = refl } }) in
-      let marked = (body_found octets small c d s rest h m (flag_told 7 c m bit) bit n x None None size found (no_mark c o control none)).1 in
-      (frame_of c d s x, unmarked_least None refl marked)
-    where
-      no_mark : (c : ℕ) (o : Option ℕ) → IsControlMark c o → is_some o ≡ false → IsControlMark c None
-      no_mark c None h e = h
-      no_mark c (Some place) h e = absurd (let i : true ≡ false = e in cc)
+  -- a frame that is checked, by its body
+  pub behind_checked : (x : BodyValue) (o mark joined : Option ℕ) → IsBodyFound m back x mark → IsControlMark c o → joined ≡ joined_mark o n mark → IsMarked SpellsFrame octets joined
+  behind_checked x o mark joined e control is =
+      let p = body_found octets small c d s rest h m (flag_told 7 c m bit) bit n x o mark size (subst (λ (l : List ℕ). IsBodyFound m l x mark) back_is e) control in
+      record { value = frame_of c d s x; spelled = p.0; marked = subst (HasMark (SpellsFrame (frame_of c d s x)) octets) (sym is) p.1 }
 
 -- the mark of a body lies within it
 pub within : (X : BodyValue → List ℕ → Type 0) (x : BodyValue) (b : List ℕ) (size : ℕ) (mark : Option ℕ) → size + length b < 2 ^ 64 → HasMark (X x) b mark → IsBehind size mark
@@ -314,12 +308,3 @@ kept_memory (v ∷ c ∷ b) small f p long = told long
     told : IsLong (address_of f.destination) ⊎ IsLong f.source → IsRefused (v ∷ c ∷ b) (record { place = 0; why = OutOfMemory })
     told (inl l) = destination_memory (v ∷ c ∷ b) small c f.destination f.source head.0 head.1 l
     told (inr l) = source_memory (v ∷ c ∷ b) small c f.destination f.source head.0 head.1 l
-
--- what keeping a frame gives is what decoding it gives
-pub kept_decoded : (octets : List ℕ) → ((k : ℕ) → slice_index octets k < 256) → (f : FrameValue) (mark : Option ℕ) (made : Result (Frame × Option ℕ) Refusal) → SpellsFrame f octets → HasMark (SpellsFrame f) octets mark → IsKept f mark made → IsDecoded octets made
-kept_decoded octets small f mark (Ok found) p h e = record { spelled = subst (λ (g : FrameValue). SpellsFrame g octets) (sym e.0) p; marked = subst (λ (g : FrameValue). HasMark (SpellsFrame g) octets found.1) (sym e.0) (subst (HasMark (SpellsFrame f) octets) (sym e.1) h) }
-kept_decoded octets small f mark (Err refusal) p h e = subst (IsRefused octets) (sym e.0) (kept_memory octets small f p e.1)
-
-pub kept_alone_decoded : (octets : List ℕ) → ((k : ℕ) → slice_index octets k < 256) → (f : FrameValue) (made : Result Frame Refusal) → SpellsFrame f octets → IsKeptAlone f made → IsDecodedAlone octets made
-kept_alone_decoded octets small f (Ok frame) p e = subst (λ (g : FrameValue). SpellsFrame g octets) (sym e) p
-kept_alone_decoded octets small f (Err refusal) p e = subst (IsRefused octets) (sym e.0) (kept_memory octets small f p e.1)

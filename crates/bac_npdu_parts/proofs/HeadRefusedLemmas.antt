@@ -20,6 +20,17 @@ use Rattle.bac_npdu_parts.proofs.FrameLemmas.{framed_tail, framed_long}
 use Rattle.bac_npdu_parts.proofs.HeadLemmas.{addresses_then, from_agrees, flag_once, flag_told, flag_is}
 use Rattle.bac_npdu_parts.proofs.PlaceLemmas.{at_source, at_hops, length_at, as_address, behind_at, source_near, source_far, hops_far}
 
+-- ---- reasons that are no want of memory
+
+pub short_other : Short ≢ OutOfMemory
+short_other e = cc
+
+pub version_other : Version ≢ OutOfMemory
+version_other e = cc
+
+pub address_other : Address ≢ OutOfMemory
+address_other e = cc
+
 -- ---- a frame for every head
 
 -- the frame with these flags and priority of the control octet

@@ -8,6 +8,7 @@ mod NetworksLemmas
 mod TablesLemmas
 mod UntypedLemmas
 mod WhoIsRouterLemmas
+mod CheckedLemmas
 mod LawLemmas
 mod CaseLemmas
 mod SameLemmas

@@ -1,5 +1,5 @@
 -- Messages of networks: two octets each behind the type.
-use Rattle.std.specs.Prelude.{◌≡◌, ℕ, zero, suc, ◌+◌, ◌*◌, ◌/◌, ◌%◌, ◌<◌, nat_eq, ◌||◌, Bool, true, false, List, [], ◌∷◌, ◌++◌, length, drop, slice_index, refl}
+use Rattle.std.specs.Prelude.{◌≡◌, ℕ, zero, suc, ◌+◌, ◌*◌, ◌/◌, ◌%◌, ◌<◌, true, false, List, [], ◌∷◌, ◌++◌, length, drop, slice_index, refl}
 use Rattle.std.proofs.Common.{inl, inr, sym, ◌∙◌, ap, subst, arith}
 use Rattle.std.proofs.lemmas.List.{length-append, drop_more}
 use Rattle.std.proofs.lemmas.Grind.{get_or_after_one}
@@ -7,15 +7,11 @@ use Rattle.bac_tag.specs.declared.refusals.Refusal.{Refusal}
 use Rattle.bac_tag.specs.declared.refusals.Why.TheVariants.{Short, OutOfMemory}
 use Rattle.bac_tag.specs.HeadOctets.{Headed}
 use Rattle.bac_tag.proofs.BehindLemmas.{whole_short}
-use Rattle.bac_npdu_parts.specs.MessageTypes.{is_typed}
+use Rattle.bac_npdu_parts.specs.MessageTypes.{is_typed, has_networks}
 use Rattle.bac_npdu_parts.specs.Messages.{MessageValue, i_am_router, router_busy, router_available, opaque, networks_of, type_of, SpellsMessage}
 use Rattle.bac_npdu_parts.specs.Decoded.{small_message, IsMessageRefused}
-use Rattle.bac_npdu_parts.specs.Refused.{IsNetworksRefusal}
+use Rattle.bac_npdu_parts.specs.Refused.{IsHalfNetwork, IsNetworksRefusal}
 use Rattle.bac_npdu_parts.proofs.MessageLemmas.{not_typed, high_octet, low_octet}
-
--- the types of messages of networks
-abbrev pub has_networks : ℕ → Bool
-has_networks k = nat_eq k 1 || (nat_eq k 4 || nat_eq k 5)
 
 not_these : {P : Type 0} (o k : ℕ) → o ≡ k → has_networks k ≡ false → has_networks o ≡ true → P
 not_these o k e f g = absurd (let i : true ≡ false = sym g ∙ ap has_networks e ∙ f in cc)
@@ -35,7 +31,7 @@ are_even (n ∷ ns) (x ∷ []) h = absurd h.1
 are_even (n ∷ ns) (x ∷ y ∷ b) h = let e = are_even ns b h.1.1 in omega (arith, e)
 
 -- and any two octets are a network
-networks_in : (b : List ℕ) → ((k : ℕ) → slice_index b k < 256) → length b % 2 ≡ 0 → (ns : List ℕ) × Headed (networks_of ns) (λ rest. rest ≡ []) b
+pub networks_in : (b : List ℕ) → ((k : ℕ) → slice_index b k < 256) → length b % 2 ≡ 0 → (ns : List ℕ) × Headed (networks_of ns) (λ rest. rest ≡ []) b
 networks_in [] small e = ([], refl)
 networks_in (x ∷ []) small e = absurd (omega (arith, e))
 networks_in (x ∷ y ∷ b) small e =
@@ -83,8 +79,11 @@ module _ (k : ℕ) (t : is_typed k ≡ true) (n : has_networks k ≡ true) (larg
     reason = inl refl;
   }
 
+  pub half_refused : (b : List ℕ) → ((k : ℕ) → slice_index b k < 256) → 0 < length b → slice_index b 0 ≡ k → (r : Refusal) → IsHalfNetwork b r → IsMessageRefused b r
+  half_refused b small some e r w = subst (IsMessageRefused b) (sym w.1) (odd_refused b small some e w.0)
+
   pub networks_refused : (b : List ℕ) → ((k : ℕ) → slice_index b k < 256) → 0 < length b → slice_index b 0 ≡ k → (r : Refusal) → IsNetworksRefusal b r → IsMessageRefused b r
-  networks_refused b small some e r (inl w) = subst (IsMessageRefused b) (sym w.1) (odd_refused b small some e w.0)
+  networks_refused b small some e r (inl w) = half_refused b small some e r w
   networks_refused b small some e r (inr w) = subst (IsMessageRefused b) (sym w) (record {
     refused = λ f. absurd (f refl);
     memory = λ _. (refl, ap (λ (o : ℕ). small_message o (length b)) e ∙ large (length b));

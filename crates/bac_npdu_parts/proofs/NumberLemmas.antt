@@ -1,7 +1,8 @@
 -- Parts that are numbers, each in an octet of its own.
-use Rattle.std.specs.Prelude.{ℕ, Option, Some, None, List, [], ◌∷◌, ◌++◌, map}
+use Rattle.std.specs.Prelude.{◌≡◌, ℕ, Option, Some, None, List, [], ◌∷◌, ◌++◌, map}
+use Rattle.std.proofs.Common.{◌∙◌, ap}
 use Rattle.bac_tag.specs.Octets.{IsOctets}
-use Rattle.bac_tag.specs.HeadOctets.{Part, octet, least_head, AreParts}
+use Rattle.bac_tag.specs.HeadOctets.{Part, octet, Headed, least_head, AreParts}
 use Rattle.bac_npdu_parts.specs.declared.messages.port.Port.{Port}
 use Rattle.bac_npdu_parts.specs.Messages.{MessageValue, who_is_router, i_am_router, router_busy, router_available, init_table, init_table_ack, opaque, networks_of, network_or_none, ports_of, table_or_none, octets_of}
 
@@ -15,6 +16,13 @@ pub numbers_parts : (ps : List Part) → AreNumbers ps → IsOctets (least_head 
 numbers_parts [] n o = tt
 numbers_parts (octet k ∷ ps) n o = (o.0, numbers_parts ps n o.1)
 numbers_parts (p ∷ ps) n o = absurd n
+
+-- parts that are numbers have one spelling
+pub numbers_told : (ps : List Part) (b : List ℕ) → AreNumbers ps → Headed ps (λ rest. rest ≡ []) b → b ≡ least_head ps
+numbers_told [] b n h = h
+numbers_told (p ∷ ps) [] n h = absurd h
+numbers_told (octet k ∷ ps) (o ∷ b) n h = ap (λ (x : ℕ). x ∷ b) h.0.0 ∙ ap (λ (l : List ℕ). k ∷ l) (numbers_told ps b n h.1)
+numbers_told (p ∷ ps) (o ∷ b) n h = absurd n
 
 octets_then : (xs : List ℕ) (ps : List Part) → AreNumbers ps → AreNumbers (map octet xs ++ ps)
 octets_then [] ps n = n

@@ -16,7 +16,7 @@ use Rattle.bac_npdu_parts.specs.declared.messages.port.Port.{Port}
 use Rattle.bac_npdu_parts.specs.MessageTypes.{is_typed}
 use Rattle.bac_npdu_parts.specs.Messages.{MessageValue, init_table, init_table_ack, opaque, ports_of, table_of, type_of, SpellsMessage}
 use Rattle.bac_npdu_parts.specs.Decoded.{small_message, IsMessageRefused}
-use Rattle.bac_npdu_parts.specs.Refused.{EndsInPort, IsPortRefusal, LacksPorts, GoesOn, IsTableRefusal}
+use Rattle.bac_npdu_parts.specs.Refused.{EndsInPort, IsHalfPort, IsPortRefusal, IsTable, LacksPorts, GoesOn, IsNoTable, IsTableRefusal}
 use Rattle.bac_npdu_parts.proofs.WrittenLemmas.{ports_append}
 use Rattle.bac_npdu_parts.proofs.MessageLemmas.{not_typed, high_octet, low_octet}
 use Rattle.bac_npdu_parts.proofs.PartLemmas.{headed_weaker, headed_next, headed_then, headed_split, headed_octets, behind_octets}
@@ -51,9 +51,18 @@ table_read [] ps place small long n le h = absurd (omega arith)
 table_read (o ∷ []) ps place small long n le h = absurd (omega arith)
 table_read (o ∷ k ∷ b) ps place small long n le h = ((sym n, small 1), subst (λ (r : List ℕ). Headed (ports_of ps) (λ rest. rest ≡ r) b) (drop_of_length-le (o ∷ k ∷ b) le) h)
 
+-- a port that ends early lacks, where it is not the last
+pub port_lacks : (b : List ℕ) (ps : List Port) (place i : ℕ) (r : Refusal) → length ps ≡ i → i < slice_index b 1 → Headed (ports_of ps) (λ rest. rest ≡ drop place b) (drop 2 b) → IsHalfPort b place r → IsNoTable b r
+port_lacks b ps place i r n lt h w = inl (inr (ps, omega (arith, n), headed_weaker (ports_of ps) (λ rest. rest ≡ drop place b) EndsInPort (drop 2 b) (λ c e. subst EndsInPort (sym e) w.0) h), w.1)
+
 pub port_missing : (b : List ℕ) (ps : List Port) (place i : ℕ) (r : Refusal) → length ps ≡ i → i < slice_index b 1 → Headed (ports_of ps) (λ rest. rest ≡ drop place b) (drop 2 b) → IsPortRefusal b place r → IsTableRefusal b r
-port_missing b ps place i r n lt h (inl w) = inl (inr (ps, omega (arith, n), headed_weaker (ports_of ps) (λ rest. rest ≡ drop place b) EndsInPort (drop 2 b) (λ c e. subst EndsInPort (sym e) w.0) h), w.1)
-port_missing b ps place i r n lt h (inr w) = inr (inr w)
+port_missing b ps place i r n lt h (inl w) = inl (port_lacks b ps place i r n lt h w)
+port_missing b ps place i r n lt h (inr w) = inr w
+
+pub table_count : (b : List ℕ) (count : ℕ) → IsTable b count → slice_index b 1 ≡ count
+table_count [] count t = absurd t.spelled
+table_count (o ∷ []) count t = absurd t.spelled
+table_count (o ∷ c ∷ b) count t = t.spelled.0.0 ∙ t.number
 
 -- a port has four octets and its information
 port_whole : (p : Port) (ps : List Port) (B : List ℕ → Type 0) (b : List ℕ) → Headed (ports_of (p ∷ ps)) B b → (4 + slice_index b 3 ≤ length b) × Headed (ports_of ps) B (drop (slice_index b 3) (drop 4 b))
@@ -94,6 +103,17 @@ more_alone rs ps o r b e h g =
     let i = ports_behind rs ps (λ rest. rest ≡ o ∷ r) (λ rest. rest ≡ []) b (omega (arith, e)) h g in
     let f : [] ≡ o ∷ r = sym (none_left i.0 (λ rest. rest ≡ []) i.1 (omega (arith, i.4, e)) i.3) ∙ i.2 in
     (cc)
+
+-- the ports that are kept of a table are all of it
+pub table_kept : (b : List ℕ) (ps : List Port) (place count : ℕ) → IsTable b count → length ps ≡ count → Headed (ports_of ps) (λ rest. rest ≡ drop place b) (drop 2 b) → Headed (table_of ps) (λ rest. rest ≡ []) (drop 1 b)
+table_kept [] ps place count t n h = absurd t.spelled
+table_kept (o ∷ []) ps place count t n h = absurd t.spelled
+table_kept (o ∷ c ∷ b) ps place count t n h =
+    let behind = drop place (o ∷ c ∷ b) in
+    let same : length t.ports ≡ length ps = t.number ∙ sym n in
+    let i = ports_behind ps t.ports (λ rest. rest ≡ behind) (λ rest. rest ≡ []) b (omega (arith, same)) h t.spelled.1 in
+    let none : i.1 ≡ [] = none_left i.0 (λ rest. rest ≡ []) i.1 (omega (arith, i.4, same)) i.3 in
+    ((t.spelled.0.0 ∙ same, t.spelled.0.1), subst (λ (r : List ℕ). Headed (ports_of ps) (λ rest. rest ≡ r) b) (sym i.2 ∙ none) h)
 
 -- ---- ports that are missing
 
@@ -213,12 +233,19 @@ module _ (k : ℕ) (t : is_typed k ≡ true) (n : has_table k ≡ true) (make : 
         reason = inr (inl refl);
       }
 
-  pub table_refused : (b : List ℕ) → ((k : ℕ) → slice_index b k < 256) → 0 < length b → slice_index b 0 ≡ k → small_message k (length b) ≡ false → (length b ≡ 1 → k ≢ 7) → (r : Refusal) → IsTableRefusal b r → IsMessageRefused b r
-  table_refused b small some e large more r (inl w) = subst (IsMessageRefused b) (sym w.1) (lacks_refused b small some e more w.0)
-  table_refused b small some e large more r (inr (inl w)) =
+  pub table_spelled : (ps : List Port) (b : List ℕ) → 0 < length b → slice_index b 0 ≡ k → Headed (table_of ps) (λ rest. rest ≡ []) (drop 1 b) → SpellsMessage (make ps) b
+  table_spelled ps [] some e h = absurd (omega (arith, some))
+  table_spelled ps (o ∷ b) some e h = spelled ps o b e h
+
+  pub no_table_refused : (b : List ℕ) → ((k : ℕ) → slice_index b k < 256) → 0 < length b → slice_index b 0 ≡ k → (length b ≡ 1 → k ≢ 7) → (r : Refusal) → IsNoTable b r → IsMessageRefused b r
+  no_table_refused b small some e more r (inl w) = subst (IsMessageRefused b) (sym w.1) (lacks_refused b small some e more w.0)
+  no_table_refused b small some e more r (inr w) =
       let same : r ≡ record { place = r.place; why = Trailing } = ap (λ (why : Why). record { place = r.place; why = why }) w.1 in
       subst (IsMessageRefused b) (sym same) (goes_refused b r.place small e w.0)
-  table_refused b small some e large more r (inr (inr w)) = subst (IsMessageRefused b) (sym w) (record {
+
+  pub table_refused : (b : List ℕ) → ((k : ℕ) → slice_index b k < 256) → 0 < length b → slice_index b 0 ≡ k → small_message k (length b) ≡ false → (length b ≡ 1 → k ≢ 7) → (r : Refusal) → IsTableRefusal b r → IsMessageRefused b r
+  table_refused b small some e large more r (inl w) = no_table_refused b small some e more r w
+  table_refused b small some e large more r (inr w) = subst (IsMessageRefused b) (sym w) (record {
     refused = λ f. absurd (f refl);
     memory = λ _. (refl, ap (λ (o : ℕ). small_message o (length b)) e ∙ large);
     reason = inr (inr refl);

@@ -18,10 +18,10 @@ who_told (opaque x) o b f p = not_typed o x.kind p.1.0.0 p.0.0 (ap is_typed f)
 who_told _ o b f p = absurd (omega (arith, f, p.1.0.0))
 
 module _ (b : List ℕ) (small : (k : ℕ) → slice_index b k < 256) (h : BeginsWith 0 b) where
-  abbrev begun : MessageValue
+  abbrev pub begun : MessageValue
   begun = who_is_router (Some (256 * slice_index b 1 + slice_index b 2))
 
-  some_spelled : SpellsMessage begun (filled 3 b)
+  pub some_spelled : SpellsMessage begun (filled 3 b)
   some_spelled = (tt, ((h.1, small 0), ((high_octet (slice_index b 1) (slice_index b 2) (small 2), small 1), ((low_octet (slice_index b 1) (slice_index b 2) (small 2), small 2), refl))))
 
   two_alone : (x : MessageValue) (c : List ℕ) → slice_index c 0 ≡ 0 → length c ≡ 2 → SpellsMessage x c → ⊥

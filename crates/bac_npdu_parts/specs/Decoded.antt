@@ -4,13 +4,14 @@ use Rattle.bac_tag.specs.declared.refusals.Refusal.{Refusal}
 use Rattle.bac_tag.specs.declared.refusals.Why.{Why}
 use Rattle.bac_tag.specs.declared.refusals.Why.TheVariants.{Short, Trailing, Version, Address, PduType, Window, OutOfMemory}
 use Rattle.bac_tag.specs.Spelling.{HasMark, IsWholeRefusal}
+use Rattle.bac_tag.specs.HeadOctets.{least_head}
+use Rattle.bac_productions.specs.Productions.{IsMarked}
 use Rattle.bac_apdu.specs.FirstOctet.{IsTypePlace, IsWindowPlace}
 use Rattle.bac_apdu.specs.Decoded.{IsApduReason, begins_small as begins_small_apdu, is_small as is_small_apdu}
 use Rattle.bac_npdu_parts.specs.declared.frame.Frame.{Frame}
 use Rattle.bac_npdu_parts.specs.declared.message.NetMessage.{NetMessage}
 use Rattle.bac_npdu_parts.specs.Addresses.{SourceValue, address_of}
-use Rattle.bac_npdu_parts.specs.Messages.{MessageValue, i_am_router, router_busy, router_available, init_table, init_table_ack, opaque, SpellsMessage, message_value}
-use Rattle.bac_npdu_parts.specs.FrameHeads.{IsLong}
+use Rattle.bac_npdu_parts.specs.Messages.{MessageValue, i_am_router, router_busy, router_available, init_table, init_table_ack, opaque, octets_of, SpellsMessage, message_value}
 use Rattle.bac_npdu_parts.specs.Frames as frames
 use Rattle.bac_npdu_parts.specs.Frames.{BodyValue, FrameValue, SpellsFrame, value_of}
 use Rattle.bac_npdu_parts.specs.Heads.{says_message, says_destination, says_source, source_place, body_place, HasHead, IsVersionPlace, IsAddressPlace}
@@ -52,6 +53,25 @@ pub record IsMessageRefused (octets : List ℕ) (refusal : Refusal) : Type 0 whe
 abbrev pub IsMessageDecoded : List ℕ → Result NetMessage Refusal → Type 0
 IsMessageDecoded octets (Ok message) = SpellsMessage (message_value message) octets
 IsMessageDecoded octets (Err refusal) = IsMessageRefused octets refusal
+
+-- The octets are those of a network message: there is one that they spell, and they are its octets_of. No other octets spell
+-- it, so they are the canonical ones.
+pub record AreMessageOctets (octets : List ℕ) : Type 0 where
+  pub message : MessageValue
+  pub spelled : SpellsMessage message octets
+  pub octets_are : octets ≡ least_head (octets_of message)
+
+-- The octets spell no network message. This is the same as IsMessageRefused, where no memory is asked for.
+pub record IsNoMessage (octets : List ℕ) (refusal : Refusal) : Type 0 where
+  pub refused : IsWholeRefusal SpellsMessage octets refusal
+  pub memory : refusal.why ≢ OutOfMemory
+  pub reason : IsMessageReason refusal.why
+
+-- What checking a network message gives: the octets are those of a message (AreMessageOctets), or a refusal (IsNoMessage). Both
+-- decoding and checking refuse such octets at the place that IsWholeRefusal says, so for the same reason.
+abbrev pub IsMessageChecked : List ℕ → Result Unit Refusal → Type 0
+IsMessageChecked octets (Ok done) = AreMessageOctets octets
+IsMessageChecked octets (Err refusal) = IsNoMessage octets refusal
 
 -- ---- frames
 
@@ -138,18 +158,11 @@ abbrev pub IsVisited : {P M : Type 0} → (FrameValue → Option ℕ → P → P
 IsVisited makes octets old new (Ok made) = IsMade makes octets old new made
 IsVisited makes octets old new (Err refusal) = IsRefused octets refusal × (new ≡ old)
 
--- ---- a frame that is kept
-
--- The frame and its mark were kept, or memory was refused to a long address. A long address has more
--- than seven octets (IsLong).
-abbrev pub IsKept : FrameValue → Option ℕ → Result (Frame × Option ℕ) Refusal → Type 0
-IsKept value mark (Ok found) = (value_of found.0 ≡ value) × (found.1 ≡ mark)
-IsKept value mark (Err refusal) = (refusal ≡ record { place = 0; why = OutOfMemory }) × (IsLong (address_of value.destination) ⊎ IsLong value.source)
-
--- The frame was kept without its mark, or memory was refused to a long address. This is the same as IsKept, without a mark.
-abbrev pub IsKeptAlone : FrameValue → Result Frame Refusal → Type 0
-IsKeptAlone value (Ok frame) = value_of frame ≡ value
-IsKeptAlone value (Err refusal) = (refusal ≡ record { place = 0; why = OutOfMemory }) × (IsLong (address_of value.destination) ⊎ IsLong value.source)
+-- What checking a frame gives: the octets spell some frame and have this mark, or they spell none and the reason is the one
+-- that belongs to the place (IsRefused). No refusal is for want of memory.
+abbrev pub IsFrameChecked : List ℕ → Result (Option ℕ) Refusal → Type 0
+IsFrameChecked octets (Ok mark) = IsMarked SpellsFrame octets mark
+IsFrameChecked octets (Err refusal) = IsRefused octets refusal × (refusal.why ≢ OutOfMemory)
 
 -- The octets spell the frame, and have the mark. This is a clause of decode_marked, for the functions below it.
 pub record IsFound (octets : List ℕ) (frame : Frame) (mark : Option ℕ) : Type 0 where

@@ -48,10 +48,11 @@ pub record IsHeadOf (octets : List ℕ) (head : HeadRead) : Type 0 where
   pub is_head : IsHead octets (control_octet head.control) (destination_read head.destination) (address_read head.source) rest
   pub size : length octets ≡ head.size + length rest
 
--- What reading a head gives: the head that the octets begin with (IsHeadOf), or a refusal (IsRefused).
+-- What reading a head gives: the head that the octets begin with (IsHeadOf), or a refusal (IsRefused) that is not for want of
+-- memory.
 abbrev pub IsHeadRead : List ℕ → Result HeadRead Refusal → Type 0
 IsHeadRead octets (Ok head) = IsHeadOf octets head
-IsHeadRead octets (Err refusal) = IsRefused octets refusal
+IsHeadRead octets (Err refusal) = IsRefused octets refusal × (refusal.why ≢ OutOfMemory)
 
 -- ---- the body
 
@@ -86,6 +87,12 @@ pub record IsBodyMade {P M : Type 0} (makes : BodyValue → Option ℕ → P →
   pub found : IsBodyFound m octets body mark
   pub made_of : makes body mark old new made
 
+-- What checking a body gives: some body of this kind that the octets spell, and their mark (IsBodyFound), or a refusal
+-- (IsBodyRefused) that is not for want of memory.
+abbrev pub IsBodyChecked : Bool → List ℕ → Result (Option ℕ) Refusal → Type 0
+IsBodyChecked m octets (Ok mark) = (body : BodyValue) × IsBodyFound m octets body mark
+IsBodyChecked m octets (Err refusal) = IsBodyRefused m octets refusal × (refusal.why ≢ OutOfMemory)
+
 -- What visiting a body gives: what is made of it (IsBodyMade), or a refusal (IsBodyRefused) with nothing changed. This is the
 -- same as IsVisited, of a body.
 abbrev pub IsBodyVisited : {P M : Type 0} → (BodyValue → Option ℕ → P → P → M → Type 0) → Bool → List ℕ → P → P → Result M Refusal → Type 0
@@ -94,7 +101,8 @@ IsBodyVisited makes m octets old new (Err refusal) = IsBodyRefused m octets refu
 
 -- ---- version and control octet
 
--- What reading the version and the control octet gives: the control octet after a version 1, or a refusal (IsRefused).
+-- What reading the version and the control octet gives: the control octet after a version 1, or a refusal (IsRefused) that is
+-- not for want of memory.
 abbrev pub IsControlRead : List ℕ → Result Control Refusal → Type 0
 IsControlRead octets (Ok control) = (rest : List ℕ) × (octets ≡ 1 ∷ control_octet control ∷ rest)
-IsControlRead octets (Err refusal) = IsRefused octets refusal
+IsControlRead octets (Err refusal) = IsRefused octets refusal × (refusal.why ≢ OutOfMemory)

@@ -8,6 +8,10 @@ use Rattle.std.specs.Coded.{Coded, code_by, coded×, coded_ℕ, coded_list, code
 abbrev pub is_typed : ℕ → Bool
 is_typed kind = nat_lt kind 10 || (nat_eq kind 18 || nat_eq kind 19)
 
+-- Whether network messages of this type are a list of networks. Those of the types 1, 4 and 5 are.
+abbrev pub has_networks : ℕ → Bool
+has_networks kind = nat_eq kind 1 || (nat_eq kind 4 || nat_eq kind 5)
+
 -- Types from 128 on have a vendor, and no others.
 abbrev pub IsVendored : ℕ → Option ℕ → Type 0
 IsVendored kind None = kind < 128

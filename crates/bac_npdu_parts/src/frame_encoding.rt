@@ -43,8 +43,11 @@ fn control_of(head: &FrameHead<'_>, body: &Body) -> Control
     )
 }
 
-/// Appends the octets before the body. If memory is refused, `out` may hold some of them.
-fn append_head(head: &FrameHead<'_>, body: &Body, out: &mut Vec<u8>) -> Result<(), OutOfMemory>
+/// Appends the canonical octets before the body: version, control, addresses and hop count.
+///
+/// # Errors
+/// `OutOfMemory` if memory is refused. `out` may then hold some of them.
+pub fn append_head(head: &FrameHead<'_>, body: &Body, out: &mut Vec<u8>) -> Result<(), OutOfMemory>
     ensures written { OnOk result (out.new.items ≡ out.old.items ++ 1 ∷ least_of (control_said (frame_with head.now (body_value body.now))) ∷ addresses_of (frame_with head.now (body_value body.now))) }
     ensures addressed { OnOk result (HasAddress head.now.source) }
     ensures range { OnOk result (head.now.priority < 4) }

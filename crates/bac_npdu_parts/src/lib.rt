@@ -9,8 +9,9 @@
 //! `read_head` (`frame_heads.rt`) cuts destination, source and hop count out of the octets, as the control octet says. It
 //! takes no memory: the addresses are slices. No octet of a head but the control octet can differ from the canonical
 //! one, so the mark of a head is that of the control octet (`mark_of`). `decode_message` (`message.rt`) reads
-//! the network message that all the octets spell. No other octets spell it, so it has no mark. A [`FrameHead`] is a head
-//! that was read, or the one that a frame lends.
+//! the network message that all the octets spell. No other octets spell it, so it has no mark. `check_message` refuses
+//! what `decode_message` refuses, and takes no memory: in `messages` what finds the parts of a message, and refuses
+//! octets, is apart from what copies a list. A [`FrameHead`] is a head that was read, or the one that a frame lends.
 //!
 //! An address ([`Mac`]) of at most seven octets needs no memory. A [`Source`] cannot hold an empty address, nor
 //! [`Ports`] more than 255 ports, nor an [`OpaqueNet`] a type that has a layout. Each of these is an invariant of its

@@ -4,12 +4,13 @@
 ghost use Rattle.std.specs.Prelude.{◌≡◌, ◌/◌, ◌%◌, [], ◌∷◌, ◌++◌, OnOk};
 ghost use Rattle.bac_tag.specs.HeadOctets.{least_head};
 ghost use Rattle.bac_tag.specs.Octets.{Extends};
-ghost use Rattle.bac_npdu_parts.specs.Decoded.{IsMessageDecoded};
+ghost use Rattle.bac_npdu_parts.specs.Decoded.{IsMessageChecked, IsMessageDecoded};
 ghost use Rattle.bac_npdu_parts.specs.Messages.{networks_of, octets_of, message_value, IsMessage};
 ghost use Rattle.bac_npdu_parts.specs.MessageTypes.{is_typed};
 
 use crate::messages::networks::{
-    append_network, append_networks, decode_who_is_router, read_networks,
+    append_network, append_networks, check_networks, check_who_is_router, decode_who_is_router,
+    read_networks,
 };
 use crate::messages::opaque_net::OpaqueNet;
 use crate::messages::ports::Ports;
@@ -17,9 +18,11 @@ use crate::messages::single_numbers::{
     decode_disconnect, decode_establish, decode_i_could_be_router, decode_network_number_is,
     decode_reject_message, decode_what_is_network_number,
 };
-use crate::messages::tables::{append_ports, decode_init_table, decode_init_table_ack};
-use crate::messages::untyped::{append_opaque_net, decode_opaque_net};
-use crate::octets::octets_of_number;
+use crate::messages::tables::{
+    append_ports, check_init_table, check_init_table_ack, decode_init_table, decode_init_table_ack,
+};
+use crate::messages::untyped::{append_opaque_net, check_opaque_net, decode_opaque_net};
+use crate::octets::{octets_of_number, sized};
 use bac_tag::{OutOfMemory, Refusal, Why};
 use std::alloc::Global;
 
@@ -107,6 +110,31 @@ pub fn decode_message(alloc: Global, octets: &[u8]) -> Result<NetMessage, Refusa
         18 => decode_what_is_network_number(octets),
         19 => decode_network_number_is(octets),
         _ => decode_opaque_net(alloc, octets),
+    }
+}
+
+/// Checks that all the octets spell a network message. It takes no memory.
+///
+/// # Errors
+/// As those of [`decode_message`], but never `OutOfMemory`.
+pub fn check_message(octets: &[u8]) -> Result<(), Refusal>
+    ensures { IsMessageChecked octets.now result }
+{
+    let [kind, ..] = octets else {
+        return Err(Why::Short.at(octets.len()));
+    };
+    match *kind {
+        0 => check_who_is_router(octets),
+        1 | 4 | 5 => check_networks(octets),
+        2 => sized(octets, 4),
+        3 => sized(octets, 4),
+        6 => check_init_table(octets),
+        7 => check_init_table_ack(octets),
+        8 => sized(octets, 4),
+        9 => sized(octets, 3),
+        18 => sized(octets, 1),
+        19 => sized(octets, 4),
+        _ => check_opaque_net(octets),
     }
 }
 

@@ -18,4 +18,4 @@ pub mod OpenValue
 pub mod HasLeast
 pub mod Whole
 pub mod Viable
-pub mod Canonical
+pub mod Checked

@@ -8,7 +8,7 @@ use Rattle.bac_tag.specs.declared.heads.TagHead.TheVariants.{Open, Close}
 use Rattle.bac_tag.specs.Heads.{Heads}
 use Rattle.bac_tag.specs.declared.refusals.Refusal.{Refusal}
 use Rattle.bac_tag.specs.declared.refusals.Why.TheVariants.{Short}
-use Rattle.bac_tag.specs.Spelling.{IsLeast, IsFurthest, Joins}
+use Rattle.bac_tag.specs.Spelling.{HasMark, IsLeast, IsFurthest, Joins}
 use Rattle.bac_data.specs.Spells.{Encloses}
 use Rattle.bac_productions.specs.declared.choice.Choice.{Choice}
 use Rattle.bac_productions.specs.declared.choice.Choice.TheVariants.{First, Second}
@@ -101,6 +101,19 @@ pub record IsLongest {V : Type 0} (spells : V → List ℕ → Type 0) (input : 
   pub within : n ≤ length input
   pub spelled : spells v (take n input)
   pub most : (w : V) (c y : List ℕ) → input ≡ c ++ y → spells w c → length c ≤ n
+
+-- The first taken octets of the input spell some value, no longer front of the input spells any, and the mark is that of these
+-- octets against the canonical ones of the value.
+pub record IsChecked {V : Type 0} (spells : V → List ℕ → Type 0) (input : List ℕ) (taken : ℕ) (mark : Option ℕ) : Type 0 where
+  pub value : V
+  pub longest : IsLongest spells input value taken
+  pub marked : HasMark (spells value) (take taken input) mark
+
+-- The octets spell some value, and have the mark against its canonical ones.
+pub record IsMarked {V : Type 0} (spells : V → List ℕ → Type 0) (octets : List ℕ) (mark : Option ℕ) : Type 0 where
+  pub value : V
+  pub spelled : spells value octets
+  pub marked : HasMark (spells value) octets mark
 
 -- The place is the furthest one of the input, and the reason is Short exactly where the place is the length of the input.
 -- So it says how far the input begins a spelling.

@@ -42,6 +42,8 @@ impl<A: Production, B: Production> Production for Choice<A, B> {
 
     ghost wants_memory = { A.wants_memory || B.wants_memory };
 
+    ghost has_long_contents = { A.has_long_contents || B.has_long_contents };
+
     fn read_spelling(alloc: Global, octets: &[u8], wanted: bool) -> Option<Spelling<Choice<A, B>>> {
         if let Some(found) = A::read_spelling(alloc, octets, wanted) {
             let (part, found) = found.split();
@@ -50,13 +52,6 @@ impl<A: Production, B: Production> Production for Choice<A, B> {
         let found = B::read_spelling(alloc, octets, wanted)?;
         let (part, found) = found.split();
         Some(found.with(Choice::Second(part)))
-    }
-
-    fn canonical_len(alloc: Global, octets: &[u8]) -> Option<usize> {
-        match A::canonical_len(alloc, octets) {
-            Some(taken) => Some(taken),
-            None => B::canonical_len(alloc, octets),
-        }
     }
 
     fn read(alloc: Global, octets: &[u8]) -> Result<Front<Choice<A, B>>, ReadFault> {
@@ -71,6 +66,24 @@ impl<A: Production, B: Production> Production for Choice<A, B> {
         match B::read(alloc, octets) {
             Ok(front) => Ok(Front {
                 value: Choice::Second(front.value),
+                taken: front.taken,
+                mark: front.mark,
+                reach: front.reach.farther(refused),
+            }),
+            Err(ReadFault::Refused(refusal)) => Err(ReadFault::Refused(refused.farther(refusal))),
+            Err(ReadFault::OutOfMemory) => Err(ReadFault::OutOfMemory),
+        }
+    }
+
+    fn check(alloc: Global, octets: &[u8]) -> Result<Front<()>, ReadFault> {
+        let refused = match A::check(alloc, octets) {
+            Ok(front) => return Ok(front),
+            Err(ReadFault::Refused(refusal)) => refusal,
+            Err(ReadFault::OutOfMemory) => return Err(ReadFault::OutOfMemory),
+        };
+        match B::check(alloc, octets) {
+            Ok(front) => Ok(Front {
+                value: (),
                 taken: front.taken,
                 mark: front.mark,
                 reach: front.reach.farther(refused),

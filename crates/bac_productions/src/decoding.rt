@@ -1,7 +1,8 @@
 //! Decoding a value that takes all the octets.
 
 ghost use Rattle.std.specs.Prelude.{◌≡◌, ◌≢◌, [], IsTrue, IfOk, IfErr};
-ghost use Rattle.bac_tag.specs.Spelling.{HasMark, IsWholeRefusal, IsCanonical};
+ghost use Rattle.bac_tag.specs.Spelling.{HasMark, IsWholeRefusal};
+ghost use Rattle.bac_productions.specs.Productions.{IsMarked};
 ghost use Rattle.bac_productions.specs.Reasons.{IsServiceReason};
 
 use crate::production::{Production, ReadFault};
@@ -65,11 +66,29 @@ pub fn decode<P: Production>(alloc: Global, octets: &[u8]) -> Result<(P, Option<
     decode_part_by_part(alloc, octets)
 }
 
-/// Returns true if all the octets are found at once to be the canonical ones of a value. False is
-/// inconclusive.
-pub fn are_canonical<P: Production>(alloc: Global, octets: &[u8]) -> bool
+/// Checks that all the octets spell a value, and makes none. Returns the mark of the octets.
+///
+/// # Errors
+/// As those of [`decode`], but memory is needed only for contents of fields.
+pub fn check<P: Production>(alloc: Global, octets: &[u8]) -> Result<Option<usize>, Refusal>
     requires { P.collisions ≡ [] }
-    ensures { IsTrue result → IsCanonical P.spells octets.now }
+    ensures found { IfOk result (IsMarked P.spells octets.now) }
+    ensures refused { IfErr result (λ refusal. refusal.why ≢ Why.OutOfMemory → IsWholeRefusal P.spells octets.now refusal) }
+    ensures memory { IfErr result (λ refusal. refusal.why ≡ Why.OutOfMemory → (refusal.place ≡ 0) × IsTrue P.has_long_contents) }
+    ensures reasons { IfErr result (λ refusal. IsServiceReason refusal.why) }
 {
-    P::canonical_len(alloc, octets) == Some(octets.len())
+    let front = match P::check(alloc, octets) {
+        Ok(front) => front,
+        Err(ReadFault::Refused(refusal)) => return Err(refusal),
+        Err(ReadFault::OutOfMemory) => {
+            return Err(Refusal::out_of_memory());
+        }
+    };
+    if front.taken == octets.len() {
+        return Ok(front.mark);
+    }
+    if front.reach.place == front.taken {
+        return Err(Why::Trailing.at(front.taken));
+    }
+    Err(front.reach)
 }

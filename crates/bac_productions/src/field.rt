@@ -3,7 +3,7 @@
 ghost use Rattle.std.specs.Prelude.{◌≡◌, ◌↔◌, ◌≤◌, ◌<◌, ◌&&◌, ◌∷◌, ◌++◌, [], false, not, nat_le, nat_eq, Some, None, Err, IsTrue, IfSome, IfOk, IfErr, OnOk, length, take};
 ghost use Rattle.bac_tag.specs.Heads.{Heads};
 ghost use Rattle.bac_tag.specs.Short.{BeginsShort};
-ghost use Rattle.bac_tag.specs.Spelling.{IsLeast, IsRefusal, Takes, HasMark, AppendsLeast, TakesLeast};
+ghost use Rattle.bac_tag.specs.Spelling.{IsLeast, IsRefusal, Takes, HasMark, AppendsLeast};
 ghost use Rattle.bac_value.specs.Primitives.{OfSize};
 ghost use Rattle.bac_tag.specs.Octets.{Extends};
 ghost use Rattle.bac_productions.specs.Leads.{context, application};
@@ -319,23 +319,6 @@ fn find_field<T: Primitive>(
     })
 }
 
-/// Returns how many octets the field at the front takes, if they are its canonical ones and it is found at once. None
-/// is inconclusive.
-fn canonical_field_len<T: Primitive>(
-    alloc: Global,
-    octets: &[u8],
-    context: Option<u8>,
-) -> Option<usize>
-    requires { IsHeading context T.APP }
-    ensures { IfSome result (TakesLeast (IsField (heading context T.APP) T.contents) octets.now) }
-{
-    let found = find_field::<T>(alloc, octets, context, true)?;
-    match found.mark() {
-        None => Some(found.taken),
-        Some(_) => None,
-    }
-}
-
 /// Appends the least octets of a field. If memory is refused, `out` may hold some of the octets.
 #[inline(always)]
 fn write_field<T: Primitive>(
@@ -379,6 +362,8 @@ impl<T: Primitive, const N: u8> Production for Field<T, N> {
 
     ghost wants_memory = { T.wants_memory };
 
+    ghost has_long_contents = { T.wants_memory };
+
     #[inline(always)]
     fn read_spelling(alloc: Global, octets: &[u8], wanted: bool) -> Option<Spelling<Field<T, N>>> {
         let found = find_field::<T>(alloc, octets, Some(N), wanted)?;
@@ -386,15 +371,17 @@ impl<T: Primitive, const N: u8> Production for Field<T, N> {
         Some(found.with(Field(value)))
     }
 
-    fn canonical_len(alloc: Global, octets: &[u8]) -> Option<usize> {
-        canonical_field_len::<T>(alloc, octets, Some(N))
-    }
-
     #[inline(always)]
     fn read(alloc: Global, octets: &[u8]) -> Result<Front<Field<T, N>>, ReadFault> {
         let front = read_field::<T>(alloc, octets, Some(N))?;
         let (value, front) = front.split();
         Ok(front.with(Field(value)))
+    }
+
+    #[inline(always)]
+    fn check(alloc: Global, octets: &[u8]) -> Result<Front<()>, ReadFault> {
+        let (_, front) = read_field::<T>(alloc, octets, Some(N))?.split();
+        Ok(front)
     }
 
     #[inline(always)]
@@ -430,6 +417,8 @@ impl<T: Primitive> Production for ApplicationField<T> {
 
     ghost wants_memory = { T.wants_memory };
 
+    ghost has_long_contents = { T.wants_memory };
+
     #[inline(always)]
     fn read_spelling(
         alloc: Global,
@@ -441,15 +430,17 @@ impl<T: Primitive> Production for ApplicationField<T> {
         Some(found.with(ApplicationField(value)))
     }
 
-    fn canonical_len(alloc: Global, octets: &[u8]) -> Option<usize> {
-        canonical_field_len::<T>(alloc, octets, None)
-    }
-
     #[inline(always)]
     fn read(alloc: Global, octets: &[u8]) -> Result<Front<ApplicationField<T>>, ReadFault> {
         let front = read_field::<T>(alloc, octets, None)?;
         let (value, front) = front.split();
         Ok(front.with(ApplicationField(value)))
+    }
+
+    #[inline(always)]
+    fn check(alloc: Global, octets: &[u8]) -> Result<Front<()>, ReadFault> {
+        let (_, front) = read_field::<T>(alloc, octets, None)?.split();
+        Ok(front)
     }
 
     #[inline(always)]

@@ -55,6 +55,8 @@ impl<P: Production, const N: u8> Production for Group<P, N> {
 
     ghost wants_memory = { P.wants_memory };
 
+    ghost has_long_contents = { P.has_long_contents };
+
     #[inline(always)]
     fn read_spelling(alloc: Global, octets: &[u8], wanted: bool) -> Option<Spelling<Group<P, N>>> {
         let found = <(Edge<N, true>, (P, Edge<N, false>))>::read_spelling(alloc, octets, wanted)?;
@@ -62,15 +64,16 @@ impl<P: Production, const N: u8> Production for Group<P, N> {
         Some(found.with(Group(part)))
     }
 
-    fn canonical_len(alloc: Global, octets: &[u8]) -> Option<usize> {
-        <(Edge<N, true>, (P, Edge<N, false>))>::canonical_len(alloc, octets)
-    }
-
     #[inline(always)]
     fn read(alloc: Global, octets: &[u8]) -> Result<Front<Group<P, N>>, ReadFault> {
         let front = <(Edge<N, true>, (P, Edge<N, false>))>::read(alloc, octets)?;
         let ((_, (part, _)), front) = front.split();
         Ok(front.with(Group(part)))
+    }
+
+    #[inline(always)]
+    fn check(alloc: Global, octets: &[u8]) -> Result<Front<()>, ReadFault> {
+        <(Edge<N, true>, (P, Edge<N, false>))>::check(alloc, octets)
     }
 
     #[inline(always)]

@@ -26,8 +26,10 @@
 //! Most octets are a spelling, and need no reach. So [`decode`](decoding::decode) first asks only for a spelling
 //! (`read_spelling`), and goes through the octets again, with reaches, only if no spelling takes them all.
 //! `read_spelling` may give up anywhere: what it finds is right, and `read` decides the rest. Heads and tags of one octet
-//! are recognised by the calls of bac_tag for them, and longer heads by `long_head`. `canonical_len` finds canonical
-//! octets without a value of what may be long.
+//! are recognised by the calls of bac_tag for them, and longer heads by `long_head`.
+//!
+//! `check` reports what `read` does, without the value. So it needs memory only where contents of a field do, and
+//! [`check`](decoding::check) of a production without such fields needs none.
 //!
 //! No part knows what follows it. `is_sound` says whether the longest front is the right one. The prover computes it
 //! from heads without their lengths (`Lead`): `openers` begin a spelling, and `continuers` begin what a longer spelling

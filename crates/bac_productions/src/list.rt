@@ -40,6 +40,8 @@ impl<R: Record> Production for Vec<R> {
 
     ghost wants_memory = { true };
 
+    ghost has_long_contents = { R.Parts.has_long_contents };
+
     fn read_spelling(alloc: Global, octets: &[u8], wanted: bool) -> Option<Spelling<Vec<R>>> {
         let Ok(mut items) = Vec::with_capacity(alloc, ROOM) else {
             return None;
@@ -64,14 +66,6 @@ impl<R: Record> Production for Vec<R> {
         })
     }
 
-    fn canonical_len(alloc: Global, octets: &[u8]) -> Option<usize> {
-        let mut taken = 0;
-        while let Some(item) = Fields::<R>::canonical_len(alloc, &octets[taken..]) {
-            taken += item;
-        }
-        Some(taken)
-    }
-
     fn read(alloc: Global, octets: &[u8]) -> Result<Front<Vec<R>>, ReadFault> {
         let Ok(mut items) = Vec::with_capacity(alloc, ROOM) else {
             return Err(ReadFault::OutOfMemory);
@@ -90,6 +84,30 @@ impl<R: Record> Production for Vec<R> {
                 Err(ReadFault::Refused(refusal)) => {
                     return Ok(Front {
                         value: items,
+                        taken,
+                        mark,
+                        reach: refusal.behind(taken).farther(reach),
+                    });
+                }
+                Err(ReadFault::OutOfMemory) => return Err(ReadFault::OutOfMemory),
+            }
+        }
+    }
+
+    fn check(alloc: Global, octets: &[u8]) -> Result<Front<()>, ReadFault> {
+        let mut taken = 0;
+        let mut mark = None;
+        let mut reach = complete_at(octets, 0);
+        loop {
+            match Fields::<R>::check(alloc, &octets[taken..]) {
+                Ok(item) => {
+                    mark = joined_marks(mark, taken, item.mark);
+                    reach = item.reach.behind(taken).farther(reach);
+                    taken += item.taken;
+                }
+                Err(ReadFault::Refused(refusal)) => {
+                    return Ok(Front {
+                        value: (),
                         taken,
                         mark,
                         reach: refusal.behind(taken).farther(reach),

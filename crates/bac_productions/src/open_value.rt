@@ -12,7 +12,7 @@ ghost use Rattle.bac_productions.specs.Collisions.{no_such_number, unless};
 ghost use Rattle.bac_productions.specs.Laws.Collisions.{unless_none};
 
 use crate::production::{Front, Production, ReadFault, Spelling, complete_at, same_octets};
-use bac_data::layers::canonical_any_len;
+use bac_data::layers::check_any;
 use bac_data::{Any, read_any_marked, write_any};
 use bac_tag::{OutOfMemory, Why};
 use std::alloc::Global;
@@ -51,6 +51,8 @@ impl<const N: u8> Production for OpenValue<N> {
 
     ghost wants_memory = { true };
 
+    ghost has_long_contents = { false };
+
     fn read_spelling(
         alloc: Global,
         octets: &[u8],
@@ -64,10 +66,6 @@ impl<const N: u8> Production for OpenValue<N> {
             taken,
             same: same_octets(taken, mark),
         })
-    }
-
-    fn canonical_len(_alloc: Global, octets: &[u8]) -> Option<usize> {
-        canonical_any_len(octets, N)
     }
 
     fn read(alloc: Global, octets: &[u8]) -> Result<Front<OpenValue<N>>, ReadFault> {
@@ -85,6 +83,18 @@ impl<const N: u8> Production for OpenValue<N> {
                     Err(ReadFault::Refused(refusal))
                 }
             }
+        }
+    }
+
+    fn check(_alloc: Global, octets: &[u8]) -> Result<Front<()>, ReadFault> {
+        match check_any(octets, N) {
+            Ok((taken, mark)) => Ok(Front {
+                value: (),
+                taken,
+                mark,
+                reach: complete_at(octets, taken),
+            }),
+            Err(refusal) => Err(ReadFault::Refused(refusal)),
         }
     }
 

@@ -36,6 +36,8 @@ impl<P: Production> Production for Option<P> {
 
     ghost wants_memory = { P.wants_memory };
 
+    ghost has_long_contents = { P.has_long_contents };
+
     #[inline(always)]
     fn read_spelling(alloc: Global, octets: &[u8], wanted: bool) -> Option<Spelling<Option<P>>> {
         let Some(found) = P::read_spelling(alloc, octets, wanted) else {
@@ -49,10 +51,6 @@ impl<P: Production> Production for Option<P> {
         Some(found.with(Some(part)))
     }
 
-    fn canonical_len(alloc: Global, octets: &[u8]) -> Option<usize> {
-        Some(P::canonical_len(alloc, octets).unwrap_or(0))
-    }
-
     #[inline(always)]
     fn read(alloc: Global, octets: &[u8]) -> Result<Front<Option<P>>, ReadFault> {
         match P::read(alloc, octets) {
@@ -62,6 +60,20 @@ impl<P: Production> Production for Option<P> {
             }
             Err(ReadFault::Refused(reach)) => Ok(Front {
                 value: None,
+                taken: 0,
+                mark: None,
+                reach,
+            }),
+            Err(ReadFault::OutOfMemory) => Err(ReadFault::OutOfMemory),
+        }
+    }
+
+    #[inline(always)]
+    fn check(alloc: Global, octets: &[u8]) -> Result<Front<()>, ReadFault> {
+        match P::check(alloc, octets) {
+            Ok(front) => Ok(front),
+            Err(ReadFault::Refused(reach)) => Ok(Front {
+                value: (),
                 taken: 0,
                 mark: None,
                 reach,

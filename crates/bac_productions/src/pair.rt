@@ -33,6 +33,8 @@ impl<A: Production, B: Production> Production for (A, B) {
 
     ghost wants_memory = { A.wants_memory || B.wants_memory };
 
+    ghost has_long_contents = { A.has_long_contents || B.has_long_contents };
+
     #[inline(always)]
     fn read_spelling(alloc: Global, octets: &[u8], wanted: bool) -> Option<Spelling<(A, B)>> {
         let first = A::read_spelling(alloc, octets, wanted)?;
@@ -46,12 +48,6 @@ impl<A: Production, B: Production> Production for (A, B) {
         })
     }
 
-    fn canonical_len(alloc: Global, octets: &[u8]) -> Option<usize> {
-        let first = A::canonical_len(alloc, octets)?;
-        let second = B::canonical_len(alloc, &octets[first..])?;
-        Some(first + second)
-    }
-
     #[inline(always)]
     fn read(alloc: Global, octets: &[u8]) -> Result<Front<(A, B)>, ReadFault> {
         let first = A::read(alloc, octets)?;
@@ -59,6 +55,24 @@ impl<A: Production, B: Production> Production for (A, B) {
         match B::read(alloc, &octets[taken..]) {
             Ok(second) => Ok(Front {
                 value: (first.value, second.value),
+                taken: taken + second.taken,
+                mark: joined_marks(first.mark, taken, second.mark),
+                reach: second.reach.behind(taken).farther(first.reach),
+            }),
+            Err(ReadFault::Refused(refusal)) => Err(ReadFault::Refused(
+                refusal.behind(taken).farther(first.reach),
+            )),
+            Err(ReadFault::OutOfMemory) => Err(ReadFault::OutOfMemory),
+        }
+    }
+
+    #[inline(always)]
+    fn check(alloc: Global, octets: &[u8]) -> Result<Front<()>, ReadFault> {
+        let first = A::check(alloc, octets)?;
+        let taken = first.taken;
+        match B::check(alloc, &octets[taken..]) {
+            Ok(second) => Ok(Front {
+                value: (),
                 taken: taken + second.taken,
                 mark: joined_marks(first.mark, taken, second.mark),
                 reach: second.reach.behind(taken).farther(first.reach),

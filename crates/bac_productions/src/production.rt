@@ -1,11 +1,11 @@
 //! The parts of a production (clause 21): what each is spelled by, how it is read and how it is written.
 
 ghost use Rattle.std.specs.Prelude.{◌≡◌, ◌↔◌, ℕ, ◌+◌, ◌^◌, ◌<◌, ◌≤◌, Bool, List, [], take, length, IsTrue, IfSome, IfNone, IfOk, IfErr, OnOk, Err};
-ghost use Rattle.bac_tag.specs.Spelling.{IsRefusal, Takes, HasMark, AppendsLeast, TakesLeast};
+ghost use Rattle.bac_tag.specs.Spelling.{IsRefusal, Takes, HasMark, AppendsLeast};
 ghost use Rattle.bac_tag.specs.Octets.{Extends};
 ghost use Rattle.bac_productions.specs.Leads.{Lead};
 ghost use Rattle.bac_productions.specs.Collisions.{Collision};
-ghost use Rattle.bac_productions.specs.Productions.{Lawful, IsInhabited, HasLeast, IsLongest, IsReach, mark_within};
+ghost use Rattle.bac_productions.specs.Productions.{Lawful, IsInhabited, HasLeast, IsChecked, IsLongest, IsReach, mark_within};
 ghost use Rattle.bac_productions.specs.Reasons.{IsPartReason, IsReachReason};
 ghost use Rattle.bac_productions.specs.ReadFaults.{IfRefused, EndsOrGoesOn};
 
@@ -227,6 +227,9 @@ pub trait Production: Drop {
     /// Whether reading may need memory.
     ghost wants_memory: { Bool };
 
+    /// Whether contents of a field may need memory. Then checking may need it too.
+    ghost has_long_contents: { Bool };
+
     /// Reads a front of the octets that spells a value, if one is found at once. None is inconclusive. How many of the
     /// octets are canonical is reported only if `wanted` is true.
     ///
@@ -238,12 +241,6 @@ pub trait Production: Drop {
         ensures mark { IfSome result (λ found. IsTrue wanted → HasMark (spells (view found.value)) (take found.taken octets.now) (mark_within found.taken found.same)) }
         ensures same { IfSome result (λ found. found.same ≤ found.taken) };
 
-    /// Returns how many octets at the front are the canonical ones of a value, if that is found at once. None is
-    /// inconclusive. What may be long is checked and not kept.
-    fn canonical_len(alloc: Global, octets: &[u8]) -> Option<usize>
-        requires { IsTrue is_sound }
-        ensures { IfSome result (TakesLeast spells octets.now) };
-
     /// Reads the longest front of the octets that spells a value.
     fn read(alloc: Global, octets: &[u8]) -> Result<Front<Self>, ReadFault>
         requires { IsTrue is_sound }
@@ -254,6 +251,16 @@ pub trait Production: Drop {
         ensures refused { IfErr result (λ fault. IfRefused fault (IsRefusal spells octets.now)) }
         ensures reasons { IfErr result (λ fault. IfRefused fault (λ refusal. IsPartReason refusal.why)) }
         ensures memory { result ≡ Err ReadFault.OutOfMemory → IsTrue wants_memory };
+
+    /// Checks the longest front of the octets that spells a value: what [`Production::read`] returns, without the value.
+    fn check(alloc: Global, octets: &[u8]) -> Result<Front<()>, ReadFault>
+        requires { IsTrue is_sound }
+        ensures found { IfOk result (λ front. IsChecked spells octets.now front.taken front.mark) }
+        ensures reach { IfOk result (λ front. IsReach spells octets.now front.reach) }
+        ensures trailing { IfOk result (λ front. EndsOrGoesOn front.taken front.reach) }
+        ensures refused { IfErr result (λ fault. IfRefused fault (IsRefusal spells octets.now)) }
+        ensures reasons { IfErr result (λ fault. IfRefused fault (λ refusal. IsPartReason refusal.why)) }
+        ensures memory { result ≡ Err ReadFault.OutOfMemory → IsTrue has_long_contents };
 
     /// Appends the least spelling. If memory is refused, `out` may hold some of the octets.
     fn write(&self, out: &mut Vec<u8>) -> Result<(), OutOfMemory>

@@ -62,20 +62,22 @@ impl<R: Record> Production for Fields<R> {
 
     ghost wants_memory = { R.Parts.wants_memory };
 
+    ghost has_long_contents = { R.Parts.has_long_contents };
+
     fn read_spelling(alloc: Global, octets: &[u8], wanted: bool) -> Option<Spelling<Fields<R>>> {
         let found = R::Parts::read_spelling(alloc, octets, wanted)?;
         let (parts, found) = found.split();
         Some(found.with(Fields(R::from_parts(parts))))
     }
 
-    fn canonical_len(alloc: Global, octets: &[u8]) -> Option<usize> {
-        R::Parts::canonical_len(alloc, octets)
-    }
-
     fn read(alloc: Global, octets: &[u8]) -> Result<Front<Fields<R>>, ReadFault> {
         let front = R::Parts::read(alloc, octets)?;
         let (parts, front) = front.split();
         Ok(front.with(Fields(R::from_parts(parts))))
+    }
+
+    fn check(alloc: Global, octets: &[u8]) -> Result<Front<()>, ReadFault> {
+        R::Parts::check(alloc, octets)
     }
 
     fn write(&self, out: &mut Vec<u8>) -> Result<(), OutOfMemory> {

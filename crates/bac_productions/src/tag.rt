@@ -76,6 +76,8 @@ impl<const N: u8, const OPENS: bool> Production for Edge<N, OPENS> {
 
     ghost wants_memory = { false };
 
+    ghost has_long_contents = { false };
+
     #[inline(always)]
     fn read_spelling(
         alloc: Global,
@@ -83,14 +85,6 @@ impl<const N: u8, const OPENS: bool> Production for Edge<N, OPENS> {
         _wanted: bool,
     ) -> Option<Spelling<Edge<N, OPENS>>> {
         Some(Self::read(alloc, octets).ok()?.into_spelling())
-    }
-
-    fn canonical_len(_alloc: Global, octets: &[u8]) -> Option<usize> {
-        if is_short(octets, N, OPENS) {
-            Some(1)
-        } else {
-            None
-        }
     }
 
     #[inline(always)]
@@ -112,6 +106,12 @@ impl<const N: u8, const OPENS: bool> Production for Edge<N, OPENS> {
             }),
             Err(refusal) => Err(ReadFault::Refused(refusal)),
         }
+    }
+
+    #[inline(always)]
+    fn check(alloc: Global, octets: &[u8]) -> Result<Front<()>, ReadFault> {
+        let (_, front) = Self::read(alloc, octets)?.split();
+        Ok(front)
     }
 
     #[inline(always)]

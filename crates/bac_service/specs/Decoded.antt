@@ -4,7 +4,8 @@ use Rattle.std.specs.Prelude.{◌≡◌, ◌≢◌, ℕ, true, false, Option, Li
 use Rattle.bac_tag.specs.declared.refusals.Refusal.{Refusal}
 use Rattle.bac_tag.specs.declared.refusals.Why.TheVariants.{OutOfMemory}
 use Rattle.bac_tag.specs.Spelling.{HasMark, IsWholeRefusal}
-use Rattle.bac_productions.specs.Reasons.{IsServiceReason}
+use Rattle.bac_productions.specs.Productions.{IsMarked}
+use Rattle.bac_productions.specs.Reasons.{IsReachReason, IsServiceReason}
 use Rattle.bac_service.specs.declared.kind.Kind.{Kind}
 use Rattle.bac_service.specs.declared.service.Service.{Service}
 use Rattle.bac_service.specs.ServiceTable.{is_small}
@@ -27,3 +28,9 @@ pub record IsRefused (kind : Kind) (choice : ℕ) (octets : List ℕ) (refusal :
 abbrev pub IsDecoded : Kind → ℕ → List ℕ → Result (Service × Option ℕ) Refusal → Type 0
 IsDecoded kind choice octets (Ok found) = IsFound kind choice octets found.0 found.1
 IsDecoded kind choice octets (Err refusal) = IsRefused kind choice octets refusal
+
+-- The result of checking octets as a service of a kind and a choice is a mark or a refusal. With a mark the octets spell
+-- some such service, and the mark is that against its canonical octets. With a refusal they spell none.
+abbrev pub IsServiceChecked : Kind → ℕ → List ℕ → Result (Option ℕ) Refusal → Type 0
+IsServiceChecked kind choice octets (Ok mark) = IsMarked (SpellsService true 32 kind choice) octets mark
+IsServiceChecked kind choice octets (Err refusal) = IsWholeRefusal (SpellsService true 32 kind choice) octets refusal × IsReachReason refusal.why

@@ -5,4 +5,4 @@ pub mod PropertyValue
 pub mod SubscribeCov
 pub mod PropertyResult
 pub mod Decoded
-pub mod Canonical
+pub mod Checked

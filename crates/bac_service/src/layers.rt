@@ -1,4 +1,4 @@
-//! For the layers above: canonical octets that are found without the service. A program that handles whole messages
-//! needs none of it.
+//! For the layers above: services that are checked and not made. A program that handles whole messages needs none of
+//! it.
 
-pub use crate::canonical::is_canonical_service;
+pub use crate::service_checking::check_service;

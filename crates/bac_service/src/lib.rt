@@ -31,15 +31,16 @@
 //! - which kinds and choices have a production: `kind.rt`, `service.rt`; `ServiceTable.antt`
 //! - services: `service.rt`, which has each match over all of them, `service/opaque.rt`,
 //!   `service/service_error.rt`; `Services.antt`, `Opaques.antt`, `ErrorValues.antt`
-//! - decoding and encoding: `service_decoding.rt`, `service_encoding.rt`, `named.rt`; `Decoded.antt`
+//! - decoding, checking and encoding: `service_decoding.rt`, `service_checking.rt`, `service_encoding.rt`, `named.rt`;
+//!   `Decoded.antt`
 #![tactic(auto)]
 
-mod canonical;
 mod kind;
 pub mod laws;
 pub mod layers;
 mod named;
 mod service;
+mod service_checking;
 mod service_decoding;
 mod service_encoding;
 

@@ -7,8 +7,7 @@ ghost use Rattle.bac_service.specs.declared.kind.Kind.{Kind};
 ghost use Rattle.bac_service.specs.declared.kind.Kind.TheVariants.{Error};
 ghost use Rattle.bac_service.specs.ServiceTable.{service_error, production_of, is_small};
 ghost use Rattle.bac_service.specs.Services.{value_of, notification_kind, notification_choice, SpellsService, IsServiceOf};
-ghost use Rattle.bac_service.specs.Decoded.{IsDecoded};
-ghost use Rattle.bac_tag.specs.Spelling.{IsCanonical};
+ghost use Rattle.bac_service.specs.Decoded.{IsDecoded, IsServiceChecked};
 
 use crate::kind::Kind;
 use crate::service::Service;
@@ -17,7 +16,7 @@ use crate::service::error_cause::ErrorCause;
 use crate::service::opaque::Opaque;
 use crate::service::service_error::ServiceError;
 use bac_productions::Production;
-use bac_productions::decoding::{are_canonical, decode};
+use bac_productions::decoding::{check, decode};
 use bac_productions::record::{Fields, Record};
 use bac_tag::Refusal;
 use std::alloc::Global;
@@ -50,13 +49,23 @@ pub(crate) fn decode_named<S: Named>(alloc: Global, octets: &[u8]) -> Result<Mar
     Ok((part.into_service(), mark))
 }
 
-/// Returns true if the octets are found at once to be the canonical ones of the service that has the fields `S`. False
-/// is inconclusive.
-pub(crate) fn is_canonical_named<S: Named>(alloc: Global, octets: &[u8]) -> bool
-    requires { S.collisions ≡ [] }
-    ensures { IsTrue result → IsCanonical (SpellsService true 32 S.kind S.choice) octets.now }
+/// Checks the service that has the fields `S`, and makes none. Returns the mark of the octets.
+pub(crate) fn check_named<S: Named>(alloc: Global, octets: &[u8]) -> Result<Option<usize>, Refusal>
+    requires sound { S.collisions ≡ [] }
+    requires short { S.has_long_contents ≡ false }
+    ensures { IsServiceChecked S.kind S.choice octets.now result }
 {
-    are_canonical::<S>(alloc, octets)
+    check::<S>(alloc, octets)
+}
+
+/// Checks the service that has the fields `S`, which need no memory: to decode it is faster.
+pub(crate) fn check_small<S: Named>(alloc: Global, octets: &[u8]) -> Result<Option<usize>, Refusal>
+    requires sound { S.collisions ≡ [] }
+    requires small { is_small S.kind S.choice ≡ true }
+    ensures { IsServiceChecked S.kind S.choice octets.now result }
+{
+    let (_, mark) = decode_named::<S>(alloc, octets)?;
+    Ok(mark)
 }
 
 /// A service that is named by one kind and one choice, and that is one list.
@@ -87,13 +96,16 @@ pub(crate) fn decode_list<S: NamedList>(alloc: Global, octets: &[u8]) -> Result<
     Ok((S::into_service(items), mark))
 }
 
-/// Returns true if the octets are found at once to be the canonical ones of a service of type `S`. False is
-/// inconclusive.
-pub(crate) fn is_canonical_list<S: NamedList>(alloc: Global, octets: &[u8]) -> bool
-    requires { of_list S.Item.Parts.collisions S.Item.Parts.may_be_empty S.Item.Parts.openers S.Item.Parts.continuers ≡ [] }
-    ensures { IsTrue result → IsCanonical (SpellsService true 32 S.kind S.choice) octets.now }
+/// Checks a service of type `S`, and makes none. Returns the mark of the octets.
+pub(crate) fn check_list<S: NamedList>(
+    alloc: Global,
+    octets: &[u8],
+) -> Result<Option<usize>, Refusal>
+    requires sound { of_list S.Item.Parts.collisions S.Item.Parts.may_be_empty S.Item.Parts.openers S.Item.Parts.continuers ≡ [] }
+    requires short { S.Item.Parts.has_long_contents ≡ false }
+    ensures { IsServiceChecked S.kind S.choice octets.now result }
 {
-    are_canonical::<Vec<S::Item>>(alloc, octets)
+    check::<Vec<S::Item>>(alloc, octets)
 }
 
 /// Decodes a notification, which a confirmed or an unconfirmed request carries.
@@ -113,11 +125,15 @@ pub(crate) fn decode_notification(
     Ok((Service::CovNotification(notification), mark))
 }
 
-/// Returns true if the octets are found at once to be the canonical ones of a notification. False is inconclusive.
-pub(crate) fn is_canonical_notification(alloc: Global, confirmed: bool, octets: &[u8]) -> bool
-    ensures { IsTrue result → IsCanonical (SpellsService true 32 (notification_kind confirmed) (notification_choice confirmed)) octets.now }
+/// Checks a notification, and makes none. Returns the mark of the octets.
+pub(crate) fn check_notification(
+    alloc: Global,
+    confirmed: bool,
+    octets: &[u8],
+) -> Result<Option<usize>, Refusal>
+    ensures { IsServiceChecked (notification_kind confirmed) (notification_choice confirmed) octets.now result }
 {
-    are_canonical::<Fields<CovNotification>>(alloc, octets)
+    check::<Fields<CovNotification>>(alloc, octets)
 }
 
 /// Decodes the error of a service whose errors are a class and a code. Five choices share this production.
@@ -131,6 +147,19 @@ pub(crate) fn decode_error(alloc: Global, choice: u8, octets: &[u8]) -> Result<M
         Service::ServiceError(ServiceError::of(choice, cause.0)),
         mark,
     ))
+}
+
+/// Checks the error of a service whose errors are a class and a code.
+pub(crate) fn check_error(
+    alloc: Global,
+    choice: u8,
+    octets: &[u8],
+) -> Result<Option<usize>, Refusal>
+    requires { production_of true Error choice ≡ Some service_error }
+    ensures { IsServiceChecked Error choice octets.now result }
+{
+    let (_, mark) = decode_error(alloc, choice, octets)?;
+    Ok(mark)
 }
 
 /// Takes the octets of a service without a production as they are.
@@ -147,4 +176,12 @@ pub(crate) fn decode_opaque(
         Ok(service) => Ok((Service::Opaque(service), None)),
         Err(_) => Err(Refusal::out_of_memory()),
     }
+}
+
+/// Returns the mark of the octets of a service without a production, which have no other spelling: there is none.
+pub(crate) fn check_opaque(kind: Kind, choice: u8, octets: &[u8]) -> Result<Option<usize>, Refusal>
+    requires { IsNone (production_of true kind choice) }
+    ensures { IsServiceChecked kind choice octets.now result }
+{
+    Ok(None)
 }

@@ -5,10 +5,10 @@ ghost use Rattle.std.specs.Prelude.{◌≡◌, ◌↔◌, true, Some, IsTrue, On
 ghost use Rattle.std.specs.Map.{keys_of};
 ghost use Rattle.std.specs.Option.{is_some};
 ghost use Rattle.bac_tag.specs.Octets.{Extends};
-ghost use Rattle.bac_tag.specs.Spelling.{AppendsLeast, IsCanonical};
+ghost use Rattle.bac_tag.specs.Spelling.{AppendsLeast};
 ghost use Rattle.bac_productions.specs.Productions.{IsWellSpelled};
 ghost use Rattle.bac_service.specs.declared.kind.Kind.TheVariants.{Confirmed, Unconfirmed, ComplexAck, Error};
-ghost use Rattle.bac_service.specs.Decoded.{IsDecoded};
+ghost use Rattle.bac_service.specs.Decoded.{IsDecoded, IsServiceChecked};
 ghost use Rattle.bac_service.specs.ServiceTable.{ServiceProduction, service_error, rows, production_of};
 ghost use Rattle.bac_service.specs.Services.{value_of, SpellsBy, SpellsSaid, SpellsService, IsPlaced};
 
@@ -33,8 +33,8 @@ pub(crate) mod write_property_multiple_error;
 
 use crate::kind::Kind;
 use crate::named::{
-    Marked, decode_error, decode_list, decode_named, decode_notification, decode_opaque,
-    is_canonical_list, is_canonical_named, is_canonical_notification,
+    Marked, check_error, check_list, check_named, check_notification, check_opaque, check_small,
+    decode_error, decode_list, decode_named, decode_notification, decode_opaque,
 };
 use crate::service::cov_notification::CovNotification;
 use crate::service::error_cause::ErrorCause;
@@ -214,39 +214,68 @@ pub(crate) fn decode_failure(alloc: Global, choice: u8, octets: &[u8]) -> Result
     }
 }
 
-/// Returns true if the octets are found at once to be the canonical ones of a confirmed request. False is inconclusive.
-pub(crate) fn is_canonical_confirmed(alloc: Global, choice: u8, octets: &[u8]) -> bool
-    ensures { IsTrue result → IsCanonical (SpellsService true 32 Confirmed choice) octets.now }
+/// Checks a confirmed request.
+pub(crate) fn check_confirmed(
+    alloc: Global,
+    choice: u8,
+    octets: &[u8],
+) -> Result<Option<usize>, Refusal>
+    ensures { IsServiceChecked Confirmed choice octets.now result }
 {
     match choice {
-        1 => is_canonical_notification(alloc, true, octets),
-        14 => is_canonical_list::<ReadPropertyMultiple>(alloc, octets),
-        15 => is_canonical_named::<Fields<WriteProperty>>(alloc, octets),
-        16 => is_canonical_list::<WritePropertyMultiple>(alloc, octets),
-        _ => false,
+        1 => check_notification(alloc, true, octets),
+        5 => check_small::<Fields<SubscribeCov>>(alloc, octets),
+        12 => check_small::<Fields<ReadProperty>>(alloc, octets),
+        14 => check_list::<ReadPropertyMultiple>(alloc, octets),
+        15 => check_named::<Fields<WriteProperty>>(alloc, octets),
+        16 => check_list::<WritePropertyMultiple>(alloc, octets),
+        _ => check_opaque(Kind::Confirmed, choice, octets),
     }
 }
 
-/// Returns true if the octets are found at once to be the canonical ones of an unconfirmed request. False is
-/// inconclusive.
-pub(crate) fn is_canonical_unconfirmed(alloc: Global, choice: u8, octets: &[u8]) -> bool
-    ensures { IsTrue result → IsCanonical (SpellsService true 32 Unconfirmed choice) octets.now }
+/// Checks an unconfirmed request.
+pub(crate) fn check_unconfirmed(
+    alloc: Global,
+    choice: u8,
+    octets: &[u8],
+) -> Result<Option<usize>, Refusal>
+    ensures { IsServiceChecked Unconfirmed choice octets.now result }
 {
     match choice {
-        2 => is_canonical_notification(alloc, false, octets),
-        _ => false,
+        0 => check_small::<Fields<IAm>>(alloc, octets),
+        2 => check_notification(alloc, false, octets),
+        8 => check_small::<Fields<WhoIs>>(alloc, octets),
+        _ => check_opaque(Kind::Unconfirmed, choice, octets),
     }
 }
 
-/// Returns true if the octets are found at once to be the canonical ones of an answer with contents. False is
-/// inconclusive.
-pub(crate) fn is_canonical_complex_ack(alloc: Global, choice: u8, octets: &[u8]) -> bool
-    ensures { IsTrue result → IsCanonical (SpellsService true 32 ComplexAck choice) octets.now }
+/// Checks an answer with contents.
+pub(crate) fn check_complex_ack(
+    alloc: Global,
+    choice: u8,
+    octets: &[u8],
+) -> Result<Option<usize>, Refusal>
+    ensures { IsServiceChecked ComplexAck choice octets.now result }
 {
     match choice {
-        12 => is_canonical_named::<Fields<ReadPropertyAck>>(alloc, octets),
-        14 => is_canonical_list::<ReadPropertyMultipleAck>(alloc, octets),
-        _ => false,
+        12 => check_named::<Fields<ReadPropertyAck>>(alloc, octets),
+        14 => check_list::<ReadPropertyMultipleAck>(alloc, octets),
+        _ => check_opaque(Kind::ComplexAck, choice, octets),
+    }
+}
+
+/// Checks the answer to a request that failed.
+pub(crate) fn check_failure(
+    alloc: Global,
+    choice: u8,
+    octets: &[u8],
+) -> Result<Option<usize>, Refusal>
+    ensures { IsServiceChecked Error choice octets.now result }
+{
+    match choice {
+        1 | 5 | 12 | 14 | 15 => check_error(alloc, choice, octets),
+        16 => check_small::<Fields<WritePropertyMultipleError>>(alloc, octets),
+        _ => check_opaque(Kind::Error, choice, octets),
     }
 }
 

@@ -1,7 +1,7 @@
 //! Of open values.
 
 mod building;
-mod canonical;
+mod checking;
 mod marking;
 mod reading;
 mod sizes;

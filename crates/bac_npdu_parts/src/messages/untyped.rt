@@ -1,11 +1,11 @@
-//! Decoding and encoding network messages without a layout (clause 6.2.4).
+//! Checking, decoding and encoding network messages without a layout (clause 6.2.4).
 
-ghost use Rattle.std.specs.Prelude.{◌≡◌, ◌<◌, ◌≤◌, ◌++◌, false, length, slice_index, OnOk};
+ghost use Rattle.std.specs.Prelude.{◌≡◌, ◌<◌, ◌≤◌, ◌++◌, false, length, slice_index, IfOk, IfErr, OnOk};
 ghost use Rattle.bac_tag.specs.HeadOctets.{least_head};
 ghost use Rattle.bac_tag.specs.Octets.{Extends};
 ghost use Rattle.bac_npdu_parts.specs.MessageTypes.{is_typed};
-ghost use Rattle.bac_npdu_parts.specs.Messages.{opaque, octets_of, IsMessage};
-ghost use Rattle.bac_npdu_parts.specs.Decoded.{IsMessageDecoded};
+ghost use Rattle.bac_npdu_parts.specs.Messages.{opaque, octets_of, IsMessage, SpellsMessage};
+ghost use Rattle.bac_npdu_parts.specs.Decoded.{IsNoMessage, IsMessageChecked, IsMessageDecoded};
 
 use crate::message::NetMessage;
 use crate::messages::networks::append_network;
@@ -26,20 +26,50 @@ pub(crate) fn append_opaque_net(message: &OpaqueNet, out: &mut Vec<u8>) -> Resul
     Ok(())
 }
 
-/// Decodes a network message of a type from 128 on: type, vendor (2), data.
-fn decode_vendored(alloc: Global, octets: &[u8]) -> Result<NetMessage, Refusal>
+/// Finds the vendor (2) and the data after a type from 128 on.
+///
+/// # Errors
+/// `Short` if the octets end before the data.
+fn find_vendored(octets: &[u8]) -> Result<(Option<u16>, &[u8]), Refusal>
     requires some { 0 < length octets.now }
     requires untyped { is_typed (slice_index octets.now 0) ≡ false }
     requires vendored { 128 ≤ slice_index octets.now 0 }
-    ensures { IsMessageDecoded octets.now result }
+    ensures found { IfOk result (λ found. SpellsMessage (opaque (record { kind = slice_index octets.now 0; vendor = found.0; octets = found.1.now })) octets.now) }
+    ensures refused { IfErr result (IsNoMessage octets.now) }
 {
-    let [kind, _, _, data @ ..] = octets else {
+    let [_, _, _, data @ ..] = octets else {
         return Err(Why::Short.at(octets.len()));
     };
-    match OpaqueNet::new(alloc, *kind, Some(number_at(octets, 1)), data) {
-        Ok(message) => Ok(NetMessage::Opaque(message)),
-        Err(_) => Err(Refusal::out_of_memory()),
+    Ok((Some(number_at(octets, 1)), data))
+}
+
+/// Finds the vendor, if there is one, and the data after a type without a layout.
+///
+/// # Errors
+/// `Short` if the octets end before the data.
+fn find_opaque(octets: &[u8]) -> Result<(Option<u16>, &[u8]), Refusal>
+    requires some { 0 < length octets.now }
+    requires untyped { is_typed (slice_index octets.now 0) ≡ false }
+    ensures found { IfOk result (λ found. SpellsMessage (opaque (record { kind = slice_index octets.now 0; vendor = found.0; octets = found.1.now })) octets.now) }
+    ensures refused { IfErr result (IsNoMessage octets.now) }
+{
+    let [kind, data @ ..] = octets else {
+        return Err(Why::Short.at(octets.len()));
+    };
+    if *kind >= 128 {
+        return find_vendored(octets);
     }
+    Ok((None, data))
+}
+
+/// Checks a network message of a type without a layout.
+pub(crate) fn check_opaque_net(octets: &[u8]) -> Result<(), Refusal>
+    requires some { 0 < length octets.now }
+    requires untyped { is_typed (slice_index octets.now 0) ≡ false }
+    ensures { IsMessageChecked octets.now result }
+{
+    find_opaque(octets)?;
+    Ok(())
 }
 
 /// Decodes a network message of a type without a layout.
@@ -48,13 +78,8 @@ pub(crate) fn decode_opaque_net(alloc: Global, octets: &[u8]) -> Result<NetMessa
     requires untyped { is_typed (slice_index octets.now 0) ≡ false }
     ensures { IsMessageDecoded octets.now result }
 {
-    let [kind, data @ ..] = octets else {
-        return Err(Why::Short.at(octets.len()));
-    };
-    if *kind >= 128 {
-        return decode_vendored(alloc, octets);
-    }
-    match OpaqueNet::new(alloc, *kind, None, data) {
+    let (vendor, data) = find_opaque(octets)?;
+    match OpaqueNet::new(alloc, octets[0], vendor, data) {
         Ok(message) => Ok(NetMessage::Opaque(message)),
         Err(_) => Err(Refusal::out_of_memory()),
     }

@@ -1,35 +1,8 @@
-use Rattle.std.specs.Prelude.{◌≡◌, ◌-◌, ◌<◌, ℕ, [], ◌∷◌, length, take, drop, slice_index, refl}
-use Rattle.std.proofs.Common.{arith, ◌∙◌, length-drop}
-use Rattle.std.proofs.lemmas.List.{take_all, length-take-le}
-use Rattle.bac_tag.specs.Laws.Octets.{mark_by}
-use Rattle.bac_apdu.proofs.SegmentLemmas.{ack_segment_short, ack_segment_shorter, ack_segment_window, ack_segment_memory, ack_segment_found}
+use Rattle.std.specs.Prelude.{refl}
+use Rattle.std.proofs.lemmas.Result.{err_from_is_err_and}
 use Rattle.bac_apdu.proofs.segment.decode_ack_segment.Goals as goal
 
-pub returns-in_default : goal.returns-in_default
-returns-in_default g c =
-    let small : (k : ℕ) → slice_index c.args.octets.now k < 256 = λ k. omega (arith, c.type_inv.octets k) in
-    rw c.at.ensures (ack_segment_short c.args.octets.now small c.requires.pdu c.requires.segmented c.in_default.len_below, refl)
-
-pub returns-in_default-new : goal.returns-in_default-new
-returns-in_default-new g c =
-    let small : (k : ℕ) → slice_index c.args.octets.now k < 256 = λ k. omega (arith, c.type_inv.octets k) in
-    rw c.at-in_default-new.ensures (ack_segment_window c.args.octets.now small c.requires.pdu c.requires.segmented c.in-len4-up.len_at_least (λ good. let e = c.in_default-new.ensures.some.1 good in cc), refl)
-
-pub returns-in_default-octets : goal.returns-in_default-octets
-returns-in_default-octets g c =
-    let small : (k : ℕ) → slice_index c.args.octets.now k < 256 = λ k. omega (arith, c.type_inv.octets k) in
-    rw c.at-in_default-octets.ensures (ack_segment_shorter c.args.octets.now small c.requires.pdu c.requires.segmented (c.in-Some.ensures.some.0 refl) c.in_default-octets.len_below, refl)
-
-pub returns-in_default-from_slice : goal.returns-in_default-from_slice
-returns-in_default-from_slice g c =
-    let small : (k : ℕ) → slice_index c.args.octets.now k < 256 = λ k. omega (arith, c.type_inv.octets k) in
-    rw c.out_of_memory.ensures (ack_segment_memory c.args.octets.now small c.requires.pdu c.requires.segmented (c.in-Some.ensures.some.0 refl), refl)
-
-pub returns : goal.returns
-returns g c =
-    let b = c.args.octets.now in
-    let small : (k : ℕ) → slice_index c.args.octets.now k < 256 = λ k. omega (arith, c.type_inv.octets k) in
-    let piece : c.in-Ok.piece.items ≡ drop 5 b = c.in-Ok.ensures.items ∙ take_all (length b - 5) (drop 5 b) (omega (arith, length-drop 5 b)) in
-    let mark = mark_by (take 5 b) (c.first_octet.result ∷ slice_index b 1 ∷ slice_index b 2 ∷ slice_index b 3 ∷ slice_index b 4 ∷ []) c.first_difference-mark.result (length-take-le 5 b c.in-len5-up.len_at_least) c.first_difference-mark.ensures.none c.first_difference-mark.ensures.some in
-    let p = ack_segment_found b small c.requires.pdu c.requires.segmented c.has_bit-more.result c.in-Some.window c.first_octet.result c.in-Ok.piece.items c.first_difference-mark.result c.has_bit-more.ensures (c.in-Some.ensures.some.0 refl) c.in-Some.ensures.value c.in-len5-up.len_at_least piece c.first_octet.ensures mark in
-    record { value = _; mark = _; spelled = p.0; marked = p.1; made_of = c.visit.ensures }
+pub returns-in_err-start : goal.returns-in_err-start
+returns-in_err-start g c =
+    let p = err_from_is_err_and c.from_residual.result c.from_residual.ensures.1 in
+    rw (p.1, p.2) (c.in_err-start.ensures.0, refl)

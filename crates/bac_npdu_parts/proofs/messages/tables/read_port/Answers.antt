@@ -1,13 +1,11 @@
-use Rattle.std.specs.Prelude.{◌≡◌, ◌<◌, List, ℕ, length, slice_index}
-use Rattle.std.proofs.Common.{ap, ◌∙◌, arith}
-use Rattle.bac_npdu_parts.proofs.UntypedLemmas.{behind_all}
-use Rattle.bac_npdu_parts.proofs.TablesLemmas.{port_read}
+use Rattle.std.specs.Prelude.{◌≡◌, ℕ, List, [], ◌∷◌, drop}
+use Rattle.std.proofs.Common.{sym, subst}
+use Rattle.bac_tag.specs.HeadOctets.{Headed}
+use Rattle.bac_npdu_parts.specs.Messages.{ports_of}
 use Rattle.bac_npdu_parts.proofs.messages.tables.read_port.Goals as goal
 
 pub returns-clause-found : goal.returns-clause-found
 returns-clause-found c =
-    let small : (k : ℕ) → slice_index c.args.octets.now k < 256 = λ k. omega (arith, c.type_inv.octets k) in
-    let cut = c.in-Some.ensures.lookup.0 in
-    let info = c.in-Ok.ensures.value in
-    let long : length c.in-Ok.info ≡ c.from-count.result = ap (λ (l : List ℕ). length l) info ∙ omega (arith, cut.3) in
-    port_read c.args.octets.now _ _ c.in-Ok.info c.args.place c.from-count.result c.number_at.result small (behind_all c.args.place c.args.octets.now) (behind_all 4 _) c.in-len4-up.len_at_least c.number_at.ensures c.from-count.ensures (info ∙ cut.2) long
+    let found = c.in_ok-found.found in
+    subst (λ (info : List ℕ). Headed (ports_of (record { network = found.network; id = found.id; info = info } ∷ [])) (λ rest. rest ≡ drop c.in_ok-found.behind c.args.octets.now) (drop c.args.place c.args.octets.now))
+    (sym c.in-Ok.ensures.value) c.in_ok-found.ensures.found

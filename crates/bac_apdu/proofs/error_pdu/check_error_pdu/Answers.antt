@@ -1,0 +1,22 @@
+use Rattle.std.specs.Prelude.{◌<◌, ℕ, slice_index}
+use Rattle.std.proofs.Common.{arith}
+use Rattle.bac_service.specs.declared.kind.Kind.TheVariants.{Error}
+use Rattle.bac_apdu.specs.Apdus.{error}
+use Rattle.bac_apdu.proofs.CarryingLemmas.{checked_behind}
+use Rattle.bac_apdu.proofs.ErrorPduLemmas.{error_short, error_refused, error_found}
+use Rattle.bac_apdu.proofs.StartLemmas.{short_memory}
+use Rattle.bac_apdu.proofs.error_pdu.check_error_pdu.Goals as goal
+
+pub returns-in_default : goal.returns-in_default
+returns-in_default c =
+    let small : (k : ℕ) → slice_index c.args.octets.now k < 256 = λ k. omega (arith, c.type_inv.octets k) in
+    rw c.at.ensures (error_short c.args.octets.now small c.requires c.in_default.len_below, short_memory)
+
+pub returns : goal.returns
+returns c =
+    let b = c.args.octets.now in
+    let small : (k : ℕ) → slice_index b k < 256 = λ k. omega (arith, c.type_inv.octets k) in
+    let long = c.in-len3-up.len_at_least in
+    checked_behind Error (slice_index b 2) b _ c.check_behind.result c.check_behind.ensures
+    (λ service mark behind. (error (slice_index b 1) service, error_found b small c.requires service mark long behind))
+    (λ refusal behind. error_refused b small c.requires refusal long behind)

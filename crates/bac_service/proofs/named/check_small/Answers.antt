@@ -1,0 +1,11 @@
+use Rattle.std.proofs.lemmas.Result.{err_from_is_err_and}
+use Rattle.bac_service.specs.Laws.Checked.{checked_small, refused_small}
+use Rattle.bac_service.proofs.named.check_small.Goals as goal
+
+pub returns : goal.returns
+returns g c = checked_small g.S.Named.kind g.S.Named.choice c.args.octets.now _ c.in_ok-mark.mark c.in_ok-mark.ensures
+
+pub returns-in_err-mark : goal.returns-in_err-mark
+returns-in_err-mark g c =
+    let p = err_from_is_err_and c.from_residual.result c.from_residual.ensures.1 in
+    rw (p.1, p.2) (refused_small g.S.Named.kind g.S.Named.choice c.args.octets.now _ c.requires.small c.in_err-mark.ensures)
