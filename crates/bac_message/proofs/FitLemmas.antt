@@ -28,7 +28,7 @@ pub record IsSoFar (heads : Option Heads) (frames : List FrameValue) (m : Table)
   pub fit : AllFit heads [] frames
   pub table : m ≡ held (segments_in frames)
 
-taken_one : (heads : Option Heads) (frames : List FrameValue) (old new : Table) (f : FrameValue) → IsSoFar heads frames old → TakesFrame heads old f new → IsSoFar heads (frames ++ f ∷ []) new
+pub taken_one : (heads : Option Heads) (frames : List FrameValue) (old new : Table) (f : FrameValue) → IsSoFar heads frames old → TakesFrame heads old f new → IsSoFar heads (frames ++ f ∷ []) new
 taken_one heads frames old new f far takes = record {
   fit = all_fit_more heads [] frames f far.fit (subst (λ (m : Table). Fits heads m f) far.table takes.fits);
   table = takes.new_is ∙ ap (λ (m : Table). with_next m takes.fits.segment) far.table ∙ sym (held_next frames f takes.fits.segment takes.fits.holds);

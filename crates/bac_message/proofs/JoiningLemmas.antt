@@ -20,7 +20,7 @@ use Rattle.bac_message.specs.JoinedFrames.{first_heads, TakesFrame, AreOfOne, Is
 
 -- ---- the heads of a frame with a segment
 
-heads_are : (f : FrameValue) (s : Delivery) → delivered f ≡ Some s → heads_of f ≡ Some (heads_with (head_of f) s)
+pub heads_are : (f : FrameValue) (s : Delivery) → delivered f ≡ Some s → heads_of f ≡ Some (heads_with (head_of f) s)
 heads_are f s e = ap (λ (o : Option Delivery). option_map (λ d. heads_with (head_of f) d) o) e
 
 -- ---- a frame that is taken

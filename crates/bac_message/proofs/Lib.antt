@@ -5,3 +5,6 @@ pub mod MissingLemmas
 pub mod CuttingLemmas
 pub mod JoiningLemmas
 pub mod RecordLemmas
+pub mod GatheringLemmas
+pub mod PieceLemmas
+pub mod GatherLemmas

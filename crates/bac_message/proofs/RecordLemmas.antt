@@ -6,7 +6,7 @@ use Rattle.bac_tag.specs.declared.refusals.Refusal.{Refusal}
 use Rattle.bac_tag.specs.declared.refusals.Why.TheVariants as why
 use Rattle.bac_tag.specs.Spelling.{IsLeast, IsWholeRefusal}
 use Rattle.bac_npdu_parts.specs.Heads.{IsVersionPlace, IsAddressPlace}
-use Rattle.bac_npdu_parts.specs.Decoded.{IsPduTypePlace, IsFrameWindowPlace, IsFrameReason}
+use Rattle.bac_npdu_parts.specs.Decoded.{IsPduTypePlace, IsFrameWindowPlace, IsFrameReason, IsReasoned}
 use Rattle.bac_npdu_parts.specs.declared.frame.Frame.{Frame}
 use Rattle.bac_npdu_parts.specs.Frames.{FrameValue, SpellsFrame, value_of}
 use Rattle.bac_record.specs.Batches.{IsFront, IsPartial}
@@ -34,7 +34,7 @@ no_frame octets refusal other refused versions addresses types windows reasons =
 )
 
 -- with one record more at the end
-record_pushed : (Has : FrameValue → List ℕ → Type 0) (frames : List FrameValue) (frame : FrameValue) (records octets : List ℕ) → AreRecords Has frames records → Has frame octets
+pub record_pushed : (Has : FrameValue → List ℕ → Type 0) (frames : List FrameValue) (frame : FrameValue) (records octets : List ℕ) → AreRecords Has frames records → Has frame octets
     → IsRecord octets → AreRecords Has (frames ++ frame ∷ []) (records ++ record_of octets)
 record_pushed Has [] frame records octets are has is = (octets, [], has, is, refl, ap (λ (l : List ℕ). l ++ record_of octets) are ∙ sym (append-nil (record_of octets)))
 record_pushed Has (f ∷ fs) frame records octets (first, more, had, was, are, sum) has is =
@@ -85,35 +85,6 @@ long_or_memory octets size window frame cuts (Ok x) spelled cut said = tt
 long_or_memory octets size window frame cuts (Err fault) spelled cut (inl memory) = subst (IsRecordCutFault octets size window) (sym memory) tt
 long_or_memory octets size window frame cuts (Err fault) spelled cut (inr (long, has)) = subst (IsRecordCutFault octets size window) (sym long) (frame, spelled, (cuts, cut, has))
 
--- ---- the frames of records
-
--- so far: these frames are spelled, and this is left
-pub record IsSoFarOf (records : List ℕ) (frames : List FrameValue) (rest : List ℕ) : Type 0 where
-  pub front : List ℕ
-  pub spelled : SpellRecords frames front
-  pub sum : records ≡ front ++ rest
-
-pub none_so_far : (records : List ℕ) → IsSoFarOf records [] records
-none_so_far records = record { front = []; spelled = refl; sum = refl }
-
-pub one_so_far : (records : List ℕ) (frames fewer : List FrameValue) (frame : FrameValue) (rest octets left : List ℕ) → IsSoFarOf records fewer rest → frames ≡ fewer ++ frame ∷ [] → IsFront octets rest
-    → rest ≡ record_of octets ++ left → SpellsFrame frame octets → IsSoFarOf records frames left
-one_so_far records frames fewer frame rest octets left far are (more, is, shape) split spelled = record {
-  front = far.front ++ record_of octets;
-  spelled = subst (λ (l : List FrameValue). SpellRecords l (far.front ++ record_of octets)) (sym are) (record_pushed SpellsFrame fewer frame far.front octets far.spelled spelled is);
-  sum = far.sum ∙ ap (λ (l : List ℕ). far.front ++ l) split ∙ sym (append_assoc far.front (record_of octets) left);
-}
-
-pub all_so_far : (records : List ℕ) (frames : List FrameValue) (rest : List ℕ) → IsSoFarOf records frames rest → rest ≡ [] → SpellRecords frames records
-all_so_far records frames rest far none = subst (SpellRecords frames) (sym (far.sum ∙ ap (λ (l : List ℕ). far.front ++ l) none ∙ append-nil far.front)) far.spelled
-
--- a record that is not whole
-pub truncated_after : (records : List ℕ) (frames : List Frame) (rest : List ℕ) → IsSoFarOf records (map value_of frames) rest → rest ≢ [] → IsPartial rest → IsRecordJoinFault records (unjoined.Truncated (length frames))
-truncated_after records frames rest far some partial = (rest, (map value_of frames, far.front, far.spelled, sym (length-map frames value_of), far.sum), some, partial.0)
-
--- a record that is no frame
-pub refused_after : (records : List ℕ) (frames : List Frame) (rest octets : List ℕ) (index : ℕ) (fault : RecordJoinFault) → IsSoFarOf records (map value_of frames) rest → index ≡ length frames → IsFront octets rest
-    → (fault ≡ unjoined.OutOfMemory) ⊎ ((refusal : Refusal) × (fault ≡ unjoined.Refused index refusal) × IsNoFrame octets refusal) → IsRecordJoinFault records fault
-refused_after records frames rest octets index fault far count front (inl memory) = subst (IsRecordJoinFault records) (sym memory) tt
-refused_after records frames rest octets index fault far count (more, is, shape) (inr (refusal, said, none)) =
-    subst (IsRecordJoinFault records) (sym said) (octets, more, is, (map value_of frames, far.front, far.spelled, count ∙ sym (length-map frames value_of), far.sum ∙ ap (λ (l : List ℕ). far.front ++ l) shape), none)
+-- what checking says of a refusal
+pub checked_none : (octets : List ℕ) (refusal : Refusal) → refusal.why ≢ why.OutOfMemory → IsWholeRefusal SpellsFrame octets refusal → IsReasoned octets refusal → IsNoFrame octets refusal
+checked_none octets refusal other refused reasoned = (record { refused = λ _. refused; memory = λ memory. absurd (other memory); reasoned = reasoned }, other)

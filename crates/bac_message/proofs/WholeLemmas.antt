@@ -1,21 +1,10 @@
 -- Frames that have a message in one piece.
 use Rattle.std.proofs.Common.{◌≡◌, Option, Some, None, sym, ap, ◌∙◌}
-use Rattle.bac_service.specs.Services.{ServiceValue}
-use Rattle.bac_apdu.specs.declared.segment.SegHead.{SegHead}
 use Rattle.bac_apdu.specs.declared.segment.SegHead.TheVariants.{Request, Ack}
 use Rattle.bac_apdu.specs.Apdus.{ApduValue, confirmed_request, unconfirmed_request, simple_ack, complex_ack, segment_ack, error, reject, abort, segment}
 use Rattle.bac_npdu_parts.specs.FrameHeads.{HeadValue, frame_with}
 use Rattle.bac_npdu_parts.specs.Frames.{FrameValue, BodyValue, apdu, message}
-use Rattle.bac_message.specs.Messages.{Message, head_of, message_by, message_in, message_of}
-
--- the APDU of a message
-abbrev apdu_with : SegHead → ServiceValue → ApduValue
-apdu_with (Request head) service = confirmed_request head service
-apdu_with (Ack invoke) service = complex_ack invoke service
-
--- the frame of a message
-abbrev frame_of : Message → FrameValue
-frame_of m = frame_with m.frame (apdu (apdu_with m.head m.service))
+use Rattle.bac_message.specs.Messages.{Message, head_of, message_by, message_in, message_of, frame_of}
 
 found : (m n : Message) → (let o : Option Message = Some n in o) ≡ Some m → n ≡ m
 found m n h = let e : Some n ≡ Some m = h in cc

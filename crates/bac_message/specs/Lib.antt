@@ -3,3 +3,5 @@ pub mod CutFrames
 pub mod JoinedFrames
 pub mod FrameCuts
 pub mod FrameRecords
+pub mod Gathered
+pub mod RecordJoins

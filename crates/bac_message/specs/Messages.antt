@@ -50,6 +50,15 @@ kind_of (Ack invoke) = ComplexAck
 abbrev pub SpellsContent : Message → List ℕ → Type 0
 SpellsContent m = SpellsService true 32 (kind_of m.head) m.service.choice m.service
 
+-- The APDU that has a service in one piece, with the head that its segments have.
+abbrev pub apdu_with : SegHead → ServiceValue → ApduValue
+apdu_with (Request head) service = confirmed_request head service
+apdu_with (Ack invoke) service = complex_ack invoke service
+
+-- The frame that has a message in one piece.
+abbrev pub frame_of : Message → FrameValue
+frame_of m = frame_with m.frame (apdu (apdu_with m.head m.service))
+
 -- ---- a frame of a segment
 
 -- The frame that has this head and a segment.
@@ -89,3 +98,7 @@ heads_with h s = record { frame = h; head = s.head; choice = s.choice }
 -- What a frame has in common with those of the same message, or none if it holds no segment.
 abbrev pub heads_of : FrameValue → Option Heads
 heads_of f = option_map (λ s. heads_with (head_of f) s) (delivered f)
+
+-- The message with these heads, and with this service.
+abbrev pub message_with : Heads → ServiceValue → Message
+message_with heads service = record { frame = heads.frame; head = heads.head; service = service }

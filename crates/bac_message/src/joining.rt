@@ -82,7 +82,7 @@ fn decoded(alloc: Global, segment: &Segment, octets: &[u8]) -> Result<Service, F
 }
 
 /// Returns the frame in one piece that has the heads of a segment, and the service that the octets spell.
-fn whole_frame(
+pub(crate) fn whole_frame(
     alloc: Global,
     frame: &Frame,
     segment: &Segment,

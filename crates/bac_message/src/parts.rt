@@ -6,11 +6,12 @@ ghost use Rattle.bac_apdu.specs.Apdus.{value_of as apdu_value};
 ghost use Rattle.bac_npdu_parts.specs.FrameHeads.{HeadValue};
 ghost use Rattle.bac_npdu_parts.specs.Frames.{value_of};
 ghost use Rattle.bac_segment.specs.Deliveries.{delivery};
-ghost use Rattle.bac_message.specs.Messages.{head_of, kind_of, message_by, message_of, delivered};
+ghost use Rattle.bac_message.specs.Messages.{head_of, kind_of, message_by, message_of, delivered, heads_of};
 
 use bac_apdu::{Apdu, ComplexAck, ConfirmedRequest, SegHead, Segment};
 use bac_npdu::{Body, Frame};
 use bac_service::{Kind, Service};
+use std::alloc::Global;
 
 /// Returns the segment that a frame holds, or None.
 pub(crate) fn segment_of(frame: &Frame) -> Option<&Segment>
@@ -58,5 +59,32 @@ pub(crate) fn apdu_of(head: SegHead, service: Service) -> Apdu
     match head {
         SegHead::Request(head) => Apdu::Confirmed(ConfirmedRequest::new(head, service).unwrap()),
         SegHead::Ack { invoke } => Apdu::ComplexAck(ComplexAck::new(invoke, service).unwrap()),
+    }
+}
+
+/// Returns a frame without the octets of its piece, if it holds a segment. The heads stay.
+pub(crate) fn without_piece(alloc: Global, frame: Frame) -> Frame
+    ensures { heads_of (value_of result) ≡ heads_of (value_of frame) }
+{
+    let Frame {
+        reply,
+        priority,
+        dest,
+        source,
+        body,
+    } = frame;
+    let body = match body {
+        Body::Apdu(Apdu::Segment(segment)) => {
+            let piece = Vec::new(alloc);
+            Body::Apdu(Apdu::Segment(Segment { piece, ..segment }))
+        }
+        other => other,
+    };
+    Frame {
+        reply,
+        priority,
+        dest,
+        source,
+        body,
     }
 }

@@ -1,94 +1,73 @@
 //! Joining the records of segments to the frame in one piece.
 
-ghost use Rattle.std.specs.Prelude.{◌≡◌, ◌⊎◌, ◌∷◌, ◌++◌, [], ℕ, List, map, IfErr, IfOk, OnOk};
-ghost use Rattle.bac_tag.specs.declared.refusals.Refusal.{Refusal as Stop};
-ghost use Rattle.bac_npdu_parts.specs.Frames.{SpellsFrame, value_of};
-ghost use Rattle.bac_record.specs.Batches.{IsFront};
-ghost use Rattle.bac_record.specs.Records.{record_of};
-ghost use Rattle.bac_message.specs.FrameRecords.{IsJoinedOfRecords, IsNoFrame, IsRecordJoinFault, SpellRecords};
-ghost use Rattle.bac_message.specs.JoinedFrames.{IsJoinedFrame};
-ghost use Rattle.bac_message.specs.declared.record_faults.RecordJoinFault.TheVariants.{OutOfMemory, Refused};
+ghost use Rattle.std.specs.Prelude.{◌≡◌, IfErr, IfOk};
+ghost use Rattle.bac_npdu_parts.specs.Frames.{FrameValue, SpellsFrame, value_of};
+ghost use Rattle.bac_record.specs.Batches.{IsFront, IsPartial};
+ghost use Rattle.bac_message.specs.FrameRecords.{IsJoinedOfRecords, IsRecordJoinFault};
+ghost use Rattle.bac_message.specs.Messages.{heads_of};
 
 use crate::faults::FrameJoinFault;
-use crate::joining::join_frames;
+use crate::parts::{segment_of, without_piece};
 use crate::record_faults::RecordJoinFault;
-use bac_npdu::{Frame, decode_frame, encode_frame};
+use crate::record_fronts::{after_record, decoded, fault_before};
+use crate::record_gathering::gather;
+use crate::record_octets::whole_octets;
+use bac_npdu::Frame;
+use bac_npdu::laws::frames_have_one_value;
 use bac_record::layers::front_record;
-use bac_tag::Why;
 use std::alloc::Global;
 
-/// Returns the frame that the octets of the record with this index spell.
-fn decoded(alloc: Global, index: usize, octets: &[u8]) -> Result<Frame, RecordJoinFault>
-    ensures spelled { IfOk result (λ frame. SpellsFrame (value_of frame) octets.now) }
-    ensures fault { IfErr result (λ fault. (fault ≡ OutOfMemory) ⊎ ((refusal : Stop) × (fault ≡ Refused index refusal) × IsNoFrame octets.now refusal)) }
+/// Returns why records of which none is at the front are not joined.
+fn no_record(records: &[u8]) -> RecordJoinFault
+    requires { IsPartial records.now }
+    ensures { IsRecordJoinFault records.now result }
 {
-    match decode_frame(alloc, octets) {
-        Ok(frame) => Ok(frame),
-        Err(refusal) if refusal.why == Why::OutOfMemory => Err(RecordJoinFault::OutOfMemory),
-        Err(refusal) => Err(RecordJoinFault::Refused(index, refusal)),
+    if records.is_empty() {
+        return RecordJoinFault::Frames(FrameJoinFault::Incomplete(0));
     }
+    RecordJoinFault::Truncated(0)
 }
 
-/// Returns the octets after the record at their front, which has these octets.
-fn after_record<'a>(octets: &'a [u8], first: &[u8]) -> &'a [u8]
-    requires { IsFront first.now octets.now }
-    ensures { octets.now ≡ record_of first.now ++ result.now }
-{
-    &octets[2 + first.len()..]
-}
-
-/// Adds a frame to those before it.
-fn push(frames: &mut Vec<Frame>, frame: Frame) -> Result<(), RecordJoinFault>
-    ensures pushed { OnOk result (map value_of frames.new.items ≡ map value_of frames.old.items ++ value_of frame ∷ []) }
-    ensures fault { IfErr result (λ fault. fault ≡ OutOfMemory) }
-{
-    match frames.push(frame) {
-        Ok(()) => Ok(()),
-        Err(_) => Err(RecordJoinFault::OutOfMemory),
-    }
-}
-
-/// Returns the frames that records spell.
-fn frames_of(alloc: Global, records: &[u8]) -> Result<Vec<Frame>, RecordJoinFault>
-    ensures spelled { IfOk result (λ frames. SpellRecords (map value_of frames.items) records.now) }
+/// Joins the frames that records spell. The first record has these octets, and the first frame these heads.
+fn join_with_first(
+    alloc: Global,
+    first: &Frame,
+    octets: &[u8],
+    records: &[u8],
+) -> Result<Vec<u8>, RecordJoinFault>
+    requires front { IsFront octets.now records.now }
+    requires first { (frame : FrameValue) × SpellsFrame frame octets.now × (heads_of (value_of first.now) ≡ heads_of frame) }
+    ensures joined { IfOk result (λ canonical. IsJoinedOfRecords records.now canonical.items) }
     ensures fault { IfErr result (IsRecordJoinFault records.now) }
 {
-    let mut frames = Vec::new(alloc);
-    let mut rest = records;
-    while !rest.is_empty() {
-        let Some(octets) = front_record(rest) else {
-            return Err(RecordJoinFault::Truncated(frames.len()));
-        };
-        let frame = decoded(alloc, frames.len(), octets)?;
-        push(&mut frames, frame)?;
-        rest = after_record(rest, octets);
-    }
-    Ok(frames)
-}
-
-/// Returns the frame in one piece that frames of segments give.
-fn joined(alloc: Global, frames: &[Frame]) -> Result<Frame, RecordJoinFault>
-    ensures joined { IfOk result (λ frame. IsJoinedFrame (map value_of frames.now) (value_of frame)) }
-    ensures fault { IfErr result (λ fault. (records : List ℕ) → SpellRecords (map value_of frames.now) records → IsRecordJoinFault records fault) }
-{
-    match join_frames(alloc, frames) {
-        Ok(frame) => Ok(frame),
+    frames_have_one_value();
+    let Some(segment) = segment_of(first) else {
+        let rest = after_record(records, octets);
+        return Err(fault_before(alloc, 1, rest, FrameJoinFault::NotSegment(0)));
+    };
+    let gathering = gather(alloc, first, segment, records)?;
+    match whole_octets(alloc, first, segment, &gathering) {
+        Ok(canonical) => Ok(canonical),
         Err(FrameJoinFault::OutOfMemory) => Err(RecordJoinFault::OutOfMemory),
         Err(fault) => Err(RecordJoinFault::Frames(fault)),
     }
 }
 
-/// Joins the frames that records spell, as [`join_frames`] does, and returns the canonical octets of the frame in one
-/// piece. A record is two octets of length, the most significant first, and then as many octets.
+/// Joins the frames that records spell, as [`join_frames`](crate::join_frames) does, and returns the canonical octets of
+/// the frame in one piece. A record is two octets of length, the most significant first, and then as many octets.
 ///
 /// # Errors
 /// The first record that is no frame gives one of these, with its index:
 ///
 /// - `Truncated` if the octets end in it;
-/// - `Refused` with the refusal of [`decode_frame`] if it spells no frame.
+/// - `Refused` with the refusal of [`decode_frame`](bac_npdu::decode_frame) if it spells no frame.
 ///
-/// If all are frames, `Frames` has the fault of [`join_frames`], but for `OutOfMemory`. `OutOfMemory` if memory is
-/// refused.
+/// If all are frames, `Frames` has the fault of [`join_frames`](crate::join_frames), but for `OutOfMemory`.
+/// `OutOfMemory` if memory is refused.
+///
+/// # Memory
+/// One record is decoded at a time. Besides, memory is taken only for the octets that are returned, if the joined octets
+/// of the service are canonical. If they are not, the service is decoded and the frame encoded beside them.
 ///
 /// # Examples
 /// ```rust
@@ -112,10 +91,9 @@ pub fn join_records(alloc: Global, records: &[u8]) -> Result<Vec<u8>, RecordJoin
     ensures joined { IfOk result (λ canonical. IsJoinedOfRecords records.now canonical.items) }
     ensures fault { IfErr result (IsRecordJoinFault records.now) }
 {
-    let frames = frames_of(alloc, records)?;
-    let frame = joined(alloc, &frames)?;
-    match encode_frame(alloc, &frame) {
-        Ok(canonical) => Ok(canonical),
-        Err(_) => Err(RecordJoinFault::OutOfMemory),
-    }
+    let Some(octets) = front_record(records) else {
+        return Err(no_record(records));
+    };
+    let first = without_piece(alloc, decoded(alloc, 0, octets)?);
+    join_with_first(alloc, &first, octets, records)
 }

@@ -74,6 +74,32 @@ fn records_in_any_order_give_the_frame(rt: HostRuntime) {
     }
 }
 
+/// The service of these records is not canonical: the property has two octets where one is enough.
+static TOLERATED: [&str; 2] = [
+    "00 0D 01 04 0C 05 01 00 04 0C 0C 00 00 00 05",
+    "00 0B 01 04 08 05 01 01 04 0C 1A 00 55",
+];
+
+#[test]
+fn records_of_a_tolerated_service_give_canonical_octets(rt: HostRuntime) {
+    let alloc = rt.alloc();
+    let records = joined_octets(&rt, alloc, &TOLERATED);
+    let found = join_records(alloc, &records).expect(&rt, "a frame");
+    let wanted = octets_of("01 04 00 05 01 0C 0C 00 00 00 05 19 55").expect(&rt, "octets");
+    assert_same_of(&rt, found.as_slice(), wanted.as_slice(), "tolerated");
+}
+
+#[test]
+fn a_request_with_addresses_is_cut_and_joined(rt: HostRuntime) {
+    let alloc = rt.alloc();
+    // A ReadProperty from network 5 to network 7, with a segmented answer accepted.
+    let text = "01 2C 00 07 01 0B 00 05 02 0A 0C FE 02 75 09 0C 0C 00 00 00 05 19 55";
+    let whole = octets_of(text).expect(&rt, "octets");
+    let records = cut_records(alloc, &whole, 3, 4).expect(&rt, "records");
+    let found = join_records(alloc, &records).expect(&rt, "a frame");
+    assert_same_of(&rt, found.as_slice(), whole.as_slice(), text);
+}
+
 /// These records are not joined, for this reason.
 fn are_not_joined(rt: &impl Abort, alloc: Global, texts: &[&str], why: &str) {
     let records = joined_octets(rt, alloc, texts);
@@ -107,4 +133,22 @@ fn records_that_are_not_joined_are_told(rt: HostRuntime) {
         &[first, "00 04 01 00 10 08"],
         "frame 1 is no segment",
     );
+}
+
+// A record that is no frame is told before a frame that does not belong.
+#[test]
+fn records_that_are_no_frames_are_told_first(rt: HostRuntime) {
+    let alloc = rt.alloc();
+    let [first, second, _] = RECORDS;
+    let other = "00 04 01 00 10 08";
+    are_not_joined(&rt, alloc, &[other, first], "frame 0 is no segment");
+    are_not_joined(&rt, alloc, &[other, first, "00"], "record 2: truncated");
+    let why = "record 3: refused Version at 0";
+    are_not_joined(&rt, alloc, &[first, other, second, "00 01 02"], why);
+    let why = "frame 1 is of another message";
+    let [request, _] = TOLERATED;
+    are_not_joined(&rt, alloc, &[first, request, second], why);
+    let why = "refused Short at 3";
+    let short = "00 0A 01 00 38 02 00 04 0C 0C 00 00";
+    are_not_joined(&rt, alloc, &[short], why);
 }
