@@ -1,2 +1,4 @@
 mod OutcomeLemmas
 pub mod FrameLemmas
+mod ExplainedLemmas
+mod VerdictLemmas

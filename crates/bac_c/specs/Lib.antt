@@ -3,3 +3,4 @@ pub mod Reading
 pub mod InPlace
 pub mod Encoding
 pub mod Messages
+pub mod Explaining

@@ -6,22 +6,12 @@ ghost use Rattle.bac_c.specs.Outcomes.{IsDecoded, IsFront, IsHopeless, LacksEith
 ghost use Rattle.bac_c.specs.InPlace.{octets_or};
 
 use crate::in_place::{Decoded, decode_in_place};
-use crate::writing::{refuse, write_front};
+use crate::writing::{lack_memory, refuse, write_front};
 use crate::{BACTOOL_NO_MEMORY, BACTOOL_NO_ROOM, BACTOOL_OK, BACTOOL_REFUSED, Outcome};
 use bac_fields::Field;
 use bac_fields::laws::frames_have_few_fields;
 use bac_npdu::laws::canonical_octets_are_no_longer;
-use bac_tag::Refusal;
 use std::alloc::Global;
-
-/// Puts into `outcome` that memory was refused, and returns the code.
-fn lack_memory(outcome: &mut Outcome) -> u32
-    ensures code { result ≡ BACTOOL_NO_MEMORY }
-    ensures told { outcome.new ≡ without_memory }
-{
-    *outcome = Outcome::refused(Refusal::out_of_memory());
-    BACTOOL_NO_MEMORY
-}
 
 /// Writes the canonical octets at the front of `out` if the fields are written, and puts both numbers into `outcome`.
 /// Returns the code.

@@ -59,7 +59,8 @@ fn outcome_of(fault: RecordJoinFault) -> Outcome
 
 /// Joins the frames of the segments of one message, which records hold in any order, any of them repeated, and writes
 /// the canonical octets of the frame in one piece at the front of `out`. A record is two octets of length, the most
-/// significant first, and then the octets of a frame. Records are counted from 0. Returns one of these codes:
+/// significant first, and then the octets of a frame. Records are counted from 0. It takes memory for the octets to be
+/// written and no more, if the joined octets of the service are canonical. Returns one of these codes:
 ///
 /// - `BACTOOL_OK` if they are written: `outcome` has their number;
 /// - `BACTOOL_NO_ROOM` if `out` is too short for them: nothing is written, and `outcome` has their number;

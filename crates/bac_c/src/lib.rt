@@ -1,10 +1,11 @@
 //! The library for C. `include/bactool.h` declares these calls and says for a C program what they do.
 //!
-//! Each call uses one call of the library, but [`bactool_show`] and [`bactool_head`] two, and [`bactool_decode`] those
-//! that write a frame where it is decoded (`in_place.rt`). It repeats the contract of what it uses for what C passes
-//! and gets back: octets as a pointer and a length, an [`Outcome`] through a pointer, and one of the codes below as the
-//! result. A frame is one NPDU (clause 6 of the standard), with an APDU or a network message in it. No call keeps a
-//! pointer, has a state, or keeps memory after it returns, so any calls may run in any threads at the same time.
+//! Each call uses one call of the library, but [`bactool_show`], [`bactool_head`] and [`bactool_piece_text`] two, and
+//! [`bactool_decode`] those that write a frame where it is decoded (`in_place.rt`). It repeats the contract of what it
+//! uses for what C passes and gets back: octets as a pointer and a length, an [`Outcome`] through a pointer, and one of
+//! the codes below as the result. A frame is one NPDU (clause 6 of the standard), with an APDU or a network message in
+//! it. No call keeps a pointer, has a state, or keeps memory after it returns, so any calls may run in any threads at
+//! the same time.
 //!
 //! # How it works
 //!
@@ -33,12 +34,14 @@ mod comparing;
 mod cutting;
 mod decoding;
 mod encoding;
+mod explaining;
 mod field_names;
 mod in_place;
 mod joining;
 mod knowing;
 mod normalising;
 mod outcomes;
+mod piece_texts;
 mod reading;
 mod reasons;
 mod showing;
@@ -57,11 +60,13 @@ pub use comparing::bactool_same_meaning;
 pub use cutting::bactool_cut;
 pub use decoding::bactool_decode;
 pub use encoding::bactool_encode;
+pub use explaining::bactool_explain;
 pub use field_names::bactool_name;
 pub use joining::bactool_join;
 pub use knowing::bactool_head;
 pub use normalising::bactool_normalise;
 pub use outcomes::Outcome;
+pub use piece_texts::bactool_piece_text;
 pub use reading::bactool_read;
 pub use reasons::bactool_reason;
 pub use showing::bactool_show;

@@ -2,7 +2,7 @@
 
 ghost use Rattle.std.specs.Prelude.{◌≡◌, ◌≢◌, ◌⊎◌, ◌↔◌, ◌<◌, ◌≤◌, ◌++◌, IsTrue, length, drop, false};
 ghost use Rattle.bac_tag.specs.declared.refusals.Why.TheVariants.{OutOfMemory};
-ghost use Rattle.bac_c.specs.Outcomes.{counted, refused_as};
+ghost use Rattle.bac_c.specs.Outcomes.{counted, refused_as, without_memory};
 
 use crate::{BACTOOL_NO_MEMORY, BACTOOL_NO_ROOM, BACTOOL_OK, BACTOOL_REFUSED, Outcome};
 use bac_tag::{Refusal, Why};
@@ -53,4 +53,13 @@ pub(crate) fn refuse(refusal: Refusal, outcome: &mut Outcome) -> u32
     } else {
         BACTOOL_REFUSED
     }
+}
+
+/// Puts into `outcome` that memory was refused, and returns the code.
+pub(crate) fn lack_memory(outcome: &mut Outcome) -> u32
+    ensures code { result ≡ BACTOOL_NO_MEMORY }
+    ensures told { outcome.new ≡ without_memory }
+{
+    *outcome = Outcome::refused(Refusal::out_of_memory());
+    BACTOOL_NO_MEMORY
 }

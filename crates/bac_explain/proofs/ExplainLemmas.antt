@@ -1,9 +1,9 @@
 -- Lemmas on the pieces of octets as a frame.
-use Rattle.std.proofs.Common.{◌≡◌, ◌≤◌, ℕ, ◌+◌, ◌-◌, min, Bool, true, false, List, [], ◌∷◌, ◌++◌, length, take, refl, sym, ap, ◌∙◌, subst, inl, inr, arith, append-nil}
+use Rattle.std.proofs.Common.{◌≡◌, ◌≤◌, ℕ, ◌+◌, ◌-◌, min, Bool, true, false, List, [], ◌∷◌, ◌++◌, length, take, drop, refl, sym, ap, ◌∙◌, subst, inl, inr, arith, append-nil}
 use Rattle.std.specs.Prelude.{Option, None, Some, nat_eq}
 use Rattle.std.specs.List.{AllByRecursion}
 use Rattle.std.proofs.lemmas.Bool.{cond_both}
-use Rattle.std.proofs.lemmas.List.{length-take-le}
+use Rattle.std.proofs.lemmas.List.{length-append, length-drop, length-take-le, take_at}
 use Rattle.bac_tag.specs.declared.refusals.Refusal.{Refusal}
 use Rattle.bac_npdu_parts.specs.Addresses.{SourceValue, DestinationValue}
 use Rattle.bac_npdu_parts.specs.FrameHeads.{address_read, destination_read}
@@ -52,7 +52,7 @@ left-tiles k octets at le =
 service-tiles : (typed : Bool) (octets : List ℕ) (at : ℕ) (ps : List Piece) → at ≤ length octets → AreOfService typed octets at ps → Tiles at ps (length octets)
 service-tiles true octets at ps le (groups, e) = elements-tile true octets 0 at ps groups (length octets) e
 service-tiles false octets at ps le (inl tags) = elements-tile false octets 0 at ps tags.1.0 (length octets) tags.1.1
-service-tiles false octets at ps le (inr is) = subst (λ ps. Tiles at ps (length octets)) (sym is) (left-tiles kind.Octets octets at le)
+service-tiles false octets at ps le (inr is) = subst (λ ps. Tiles at ps (length octets)) (sym is.1) (left-tiles kind.Octets octets at le)
 
 -- The pieces of what is after a head cover it.
 contents-tile : (c : Contents) (typed : Bool) (octets : List ℕ) (at : ℕ) (ps : List Piece) → at ≤ length octets → AreContents c typed octets at ps → Tiles at ps (length octets)
@@ -77,7 +77,7 @@ refusal-tiles end r le =
 -- ---- what the pieces say of heads
 
 -- All of two lists, one after the other.
-all-append : {X : Type 0} (P : X → Type 0) (xs ys : List X) → AllByRecursion P xs → AllByRecursion P ys → AllByRecursion P (xs ++ ys)
+pub all-append : {X : Type 0} (P : X → Type 0) (xs ys : List X) → AllByRecursion P xs → AllByRecursion P ys → AllByRecursion P (xs ++ ys)
 all-append P [] ys first second = second
 all-append P (x ∷ xs) ys first second = (first.0, all-append P xs ys first.1 second)
 
@@ -219,7 +219,7 @@ service-reads : (typed : Bool) (octets : List ℕ) (at : ℕ) (ps : List Piece) 
 unfolding IsPlain
 service-reads true octets at ps (groups, e) = elements-read true octets 0 at ps groups (length octets) e
 service-reads false octets at ps (inl tags) = elements-read false octets 0 at ps tags.1.0 (length octets) tags.1.1
-service-reads false octets at ps (inr is) = subst (λ ps. AllRead octets ps) (sym is) (left-reads kind.Octets octets at tt)
+service-reads false octets at ps (inr is) = subst (λ ps. AllRead octets ps) (sym is.1) (left-reads kind.Octets octets at tt)
 
 contents-read : (c : Contents) (typed : Bool) (octets : List ℕ) (at : ℕ) (ps : List Piece) → IsPlainContents c → AreContents c typed octets at ps → AllRead octets ps
 unfolding IsPlainContents
@@ -283,3 +283,20 @@ written ps old new count puts =
 pub verdict_within : (octets : List ℕ) (v : Verdict) → IsVerdict octets v → IsWithin (length octets) v
 verdict_within octets (Accepted mark typed) is = tt
 verdict_within octets (Refused r) is = is.0.furthest.within
+
+-- The first pieces of a room in which all fit are those that were written.
+pub explained_first : (octets : List ℕ) (v : Verdict) (old new items : List Piece) (count room : ℕ) → (ps : List Piece) × Explains octets v ps × IsWritten ps old new count → count ≤ room → room ≤ length old → items ≡ take count new → Explains octets v items
+explained_first octets v old new items count room told few long is =
+    let ps = told.0 in
+    let w = told.2 in
+    let fit : count ≤ length old = omega (arith, few, long) in
+    subst (λ l. Explains octets v l) (sym (is ∙ ap (λ l. take count l) (w.written fit) ∙ ap (λ n. take n (ps ++ drop count old)) w.counted ∙ take_at ps (drop count old) (length ps) refl)) told.1
+
+-- The same, of a vector with the room in it.
+pub explained_in : (octets : List ℕ) (v : Verdict) (old new rest items : List Piece) (count room n : ℕ) → (ps : List Piece) × Explains octets v ps × IsWritten ps old new count → count ≤ room → room ≤ length old → n ≡ length old → items ≡ take count (take n (new ++ rest)) → Explains octets v items
+explained_in octets v old new rest items count room n told few long size is =
+    let ps = told.0 in
+    let w = told.2 in
+    let fit : count ≤ length old = omega (arith, few, long) in
+    let same : length new ≡ length old = ap length (w.written fit) ∙ length-append ps (drop count old) ∙ ap (λ k. length ps + k) (length-drop count old) ∙ omega (arith, fit, w.counted) in
+    explained_first octets v old new items count room told few long (is ∙ ap (λ l. take count l) (take_at new rest n (same ∙ sym size)))

@@ -22,10 +22,10 @@ service-tags true octets from to old new nest put ends ready = record { pieces =
 service-tags false octets from to old new nest put ends ready = record { pieces = put.pieces; are = inl (nest refl, (put.groups, put.elements)); puts = put.puts; ends = ends; ready = ready }
 
 -- The octets of a service without a production were put as one piece.
-pub service-left : (typed : Bool) (octets : List ℕ) (from to : Cursor) (old new : List Piece) → typed ≡ false → Puts (left_pieces kind.Octets octets from.place) old from.count new to.count
+pub service-left : (typed : Bool) (octets : List ℕ) (from to : Cursor) (old new : List Piece) → typed ≡ false → (IsNest octets from.place → ⊥) → Puts (left_pieces kind.Octets octets from.place) old from.count new to.count
     → to.place ≡ length octets → IsReady (length octets) to → PutsContents contents.Service typed octets from old to new
-service-left true octets from to old new e put ends ready = cc
-service-left false octets from to old new e put ends ready = record { pieces = left_pieces kind.Octets octets from.place; are = inr refl; puts = put; ends = ends; ready = ready }
+service-left true octets from to old new e none put ends ready = cc
+service-left false octets from to old new e none put ends ready = record { pieces = left_pieces kind.Octets octets from.place; are = inr (none, refl); puts = put; ends = ends; ready = ready }
 
 -- The pieces of the head were put, and those of what is after it.
 pub front-put : (typed : Bool) (octets : List ℕ) (mid to : Cursor) (old between new : List Piece) (c : Contents) → PutsKnown octets old mid c between → PutsContents c typed octets mid between to new → PutsFront typed octets old to new

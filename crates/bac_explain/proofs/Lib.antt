@@ -1,4 +1,4 @@
-mod RoomLemmas
+pub mod RoomLemmas
 mod ElementLemmas
 mod NestLemmas
 mod TileLemmas
@@ -6,3 +6,8 @@ mod PartLemmas
 mod FrontLemmas
 mod ExplainLemmas
 mod FieldLemmas
+mod NestEndLemmas
+mod LineLemmas
+mod NumberLemmas
+mod OwnLemmas
+mod LabelLemmas

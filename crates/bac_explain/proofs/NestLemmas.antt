@@ -23,7 +23,7 @@ follows-depth groups (Close number) after f = omega (arith, ap length f, length-
 follows-depth groups _ after f = ap length f
 
 -- The same for a piece.
-piece-depth : (groups : List ℕ) (p : Piece) (k : Kind) (after : List ℕ) → FollowsPiece groups p k after → length after ≡ depth_behind (length groups) k
+pub piece-depth : (groups : List ℕ) (p : Piece) (k : Kind) (after : List ℕ) → FollowsPiece groups p k after → length after ≡ depth_behind (length groups) k
 piece-depth groups p (kind.Unjudged head) after f = follows-depth groups head after f.0
 piece-depth groups p _ after f = absurd f
 

@@ -1,9 +1,10 @@
 -- Lemmas on what is put into a room.
-use Rattle.std.proofs.Common.{◌≡◌, ◌≤◌, ◌<◌, ℕ, suc, ◌+◌, List, [], ◌∷◌, ◌++◌, length, take, drop, refl, sym, ap, ◌∙◌, append_assoc, arith}
+use Rattle.std.proofs.Common.{◌≡◌, ◌≤◌, ◌<◌, ℕ, suc, ◌+◌, List, [], ◌∷◌, ◌++◌, length, take, drop, refl, sym, ap, ◌∙◌, inl, inr, append_assoc, append-nil, arith}
 use Rattle.std.proofs.Math.ListN.{set, length-append}
+use Rattle.std.proofs.Math.Seq.{take-append_seam}
 use Rattle.std.specs.Prelude.{nat_lt}
-use Rattle.std.proofs.lemmas.Bool.{cond-true, lt-ltb}
-use Rattle.std.proofs.lemmas.List.{take-append-drop, take_more_set, drop-set-lt, length-set}
+use Rattle.std.proofs.lemmas.Bool.{cases_lt, cond-false, cond-true, le-ltb, lt-ltb}
+use Rattle.std.proofs.lemmas.List.{take-append-drop, take_all, take_more_set, drop_all, drop-set-lt, length-set, length-take-le}
 use Rattle.bac_explain.specs.declared.piece.Piece.{Piece}
 use Rattle.bac_explain.specs.Room.{with_piece, with_pieces, Puts}
 
@@ -39,3 +40,29 @@ with_pieces-at room at (p ∷ ps) fit =
 -- Pieces that fit are at the front of the room.
 pub with_pieces-fit : (room : List Piece) (ps : List Piece) (count : ℕ) → count ≡ length ps → count ≤ length room → with_pieces room 0 ps ≡ ps ++ drop count room
 with_pieces-fit room ps count e fit = with_pieces-at room 0 ps (omega (arith, e)) ∙ ap (λ n. ps ++ drop n room) (let n : 0 + length ps ≡ count = omega (arith, e) in n)
+
+-- Pieces behind a room are not written.
+with_pieces-behind : (room : List Piece) (at : ℕ) (ps : List Piece) → length room ≤ at → with_pieces room at ps ≡ room
+with_pieces-behind room at [] le = refl
+with_pieces-behind room at (p ∷ ps) le =
+    let stays : with_piece room at p ≡ room = cond-false (nat_lt at (length room)) (set room at p) room (le-ltb at (length room) le) in
+    ap (λ r. with_pieces r (at + 1) ps) stays ∙ with_pieces-behind room (at + 1) ps (omega (arith, le))
+
+-- Of pieces that do not fit, the first ones fill the room.
+with_pieces-full : (room : List Piece) (ps : List Piece) → length room ≤ length ps → with_pieces room 0 ps ≡ take (length room) ps
+with_pieces-full room ps le =
+    let most = length room in
+    let front = take most ps in
+    let size : length front ≡ most = length-take-le most ps le in
+    let filled : with_pieces room 0 front ≡ front = with_pieces-fit room front most (sym size) (omega arith) ∙ ap (λ z. front ++ z) (drop_all most room (omega arith)) ∙ append-nil front in
+    ap (λ qs. with_pieces room 0 qs) (sym (take-append-drop most ps)) ∙ sym (with_pieces-append room 0 front (drop most ps) most (omega (arith, size)))
+    ∙ ap (λ r. with_pieces r most (drop most ps)) filled ∙ with_pieces-behind front most (drop most ps) (omega (arith, size))
+
+-- The pieces that were put into a room, as far as it is long enough, are the first of all.
+pub with_pieces-first : (room : List Piece) (ps : List Piece) → take (length ps) (with_pieces room 0 ps) ≡ take (length room) ps
+with_pieces-first room ps = elim (cases_lt (length room) (length ps)) [
+  | inl full ↦
+      let le : length room ≤ length ps = omega (arith, full) in
+      ap (λ r. take (length ps) r) (with_pieces-full room ps le) ∙ take_all (length ps) (take (length room) ps) (omega (arith, le, length-take-le (length room) ps le))
+  | inr fit ↦ ap (λ r. take (length ps) r) (with_pieces-fit room ps (length ps) refl fit) ∙ take-append_seam ps (drop (length ps) room) ∙ sym (take_all (length room) ps fit)
+]

@@ -24,10 +24,10 @@ abbrev pub AreTags : Bool → List ℕ → ℕ → List Piece → Type 0
 AreTags typed octets at pieces = (groups : ℕ) × Elements typed octets 0 at pieces groups (length octets)
 
 -- The pieces of a service whose octets begin at a place. If it has a production they are its tags. If not, they are its tags
--- where the octets are elements as an open value has them, or one piece.
+-- exactly where the octets are elements as an open value has them, and otherwise one piece.
 abbrev pub AreOfService : Bool → List ℕ → ℕ → List Piece → Type 0
 AreOfService true octets at pieces = AreTags true octets at pieces
-AreOfService false octets at pieces = (IsNest octets at × AreTags false octets at pieces) ⊎ (pieces ≡ left_pieces kind.Octets octets at)
+AreOfService false octets at pieces = (IsNest octets at × AreTags false octets at pieces) ⊎ ((IsNest octets at → ⊥) × (pieces ≡ left_pieces kind.Octets octets at))
 
 -- The pieces of what is after a head.
 abbrev pub AreContents : Contents → Bool → List ℕ → ℕ → List Piece → Type 0

@@ -51,16 +51,16 @@ octet_parts (k ∷ ks) = part k 1 ∷ octet_parts ks
 
 -- What the octets of the head of an APDU are.
 abbrev pub apdu_kinds_of : ApduHead → List Kind
-apdu_kinds_of (head.ConfirmedRequest invoke choice) = kind.PduType ∷ kind.Accepted ∷ kind.InvokeId ∷ kind.Choice ∷ []
-apdu_kinds_of (head.RequestSegment part) = kind.PduType ∷ kind.Accepted ∷ kind.InvokeId ∷ kind.Sequence ∷ kind.Window ∷ kind.Choice ∷ []
-apdu_kinds_of (head.UnconfirmedRequest choice) = kind.PduType ∷ kind.Choice ∷ []
-apdu_kinds_of (head.SimpleAck invoke choice) = kind.PduType ∷ kind.InvokeId ∷ kind.Choice ∷ []
-apdu_kinds_of (head.ComplexAck invoke choice) = kind.PduType ∷ kind.InvokeId ∷ kind.Choice ∷ []
-apdu_kinds_of (head.AckSegment part) = kind.PduType ∷ kind.InvokeId ∷ kind.Sequence ∷ kind.Window ∷ kind.Choice ∷ []
-apdu_kinds_of (head.SegmentAck invoke nak srv seq size) = kind.PduType ∷ kind.InvokeId ∷ kind.Sequence ∷ kind.Window ∷ []
-apdu_kinds_of (head.Error invoke choice) = kind.PduType ∷ kind.InvokeId ∷ kind.Choice ∷ []
-apdu_kinds_of (head.Reject invoke reason) = kind.PduType ∷ kind.InvokeId ∷ kind.Reason ∷ []
-apdu_kinds_of (head.Abort invoke srv reason) = kind.PduType ∷ kind.InvokeId ∷ kind.Reason ∷ []
+apdu_kinds_of (head.ConfirmedRequest invoke choice) = kind.ConfirmedRequest ∷ kind.Accepted ∷ kind.InvokeId ∷ kind.Choice ∷ []
+apdu_kinds_of (head.RequestSegment part) = kind.RequestSegment ∷ kind.Accepted ∷ kind.InvokeId ∷ kind.Sequence ∷ kind.Window ∷ kind.Choice ∷ []
+apdu_kinds_of (head.UnconfirmedRequest choice) = kind.UnconfirmedRequest ∷ kind.Choice ∷ []
+apdu_kinds_of (head.SimpleAck invoke choice) = kind.SimpleAck ∷ kind.InvokeId ∷ kind.Choice ∷ []
+apdu_kinds_of (head.ComplexAck invoke choice) = kind.ComplexAck ∷ kind.InvokeId ∷ kind.Choice ∷ []
+apdu_kinds_of (head.AckSegment part) = kind.AckSegment ∷ kind.InvokeId ∷ kind.Sequence ∷ kind.Window ∷ kind.Choice ∷ []
+apdu_kinds_of (head.SegmentAck invoke nak srv seq size) = kind.SegmentAck ∷ kind.InvokeId ∷ kind.Sequence ∷ kind.Window ∷ []
+apdu_kinds_of (head.Error invoke choice) = kind.Error ∷ kind.InvokeId ∷ kind.Choice ∷ []
+apdu_kinds_of (head.Reject invoke reason) = kind.Reject ∷ kind.InvokeId ∷ kind.Reason ∷ []
+apdu_kinds_of (head.Abort invoke srv reason) = kind.Abort ∷ kind.InvokeId ∷ kind.Reason ∷ []
 
 -- The vendor of a network message, if it has one.
 abbrev pub vendor_parts : Option ℕ → List Part

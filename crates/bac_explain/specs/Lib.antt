@@ -12,3 +12,9 @@ pub mod Known
 pub mod Fronts
 pub mod Explained
 pub mod FieldPieces
+pub mod Words
+pub mod Lines
+pub mod Explanations
+pub mod Labels
+pub mod NamedLines
+pub mod Numbers

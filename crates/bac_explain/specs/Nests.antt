@@ -19,6 +19,14 @@ abbrev pub FollowsPiece : List ℕ → Piece → Kind → List ℕ → Type 0
 FollowsPiece groups p (kind.Unjudged head) after = Follows groups head after × (p.length ≡ p.head + contents_size head)
 FollowsPiece groups p _ after = ⊥
 
+-- A head cannot be where these groups are open.
+abbrev pub Misses : List ℕ → TagHead → Type 0
+Misses groups head = (after : List ℕ) → Follows groups head after → ⊥
+
+-- A piece cannot be where these groups are open.
+abbrev pub MissesPiece : List ℕ → Piece → Kind → Type 0
+MissesPiece groups p k = (after : List ℕ) → FollowsPiece groups p k after → ⊥
+
 -- The groups that are open before pieces, and after them.
 abbrev pub Nested : List ℕ → List Piece → List ℕ → Type 0
 Nested groups [] after = after ≡ groups

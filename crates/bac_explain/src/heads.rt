@@ -122,34 +122,39 @@ fn apdu_kinds(head: &ApduHead) -> &'static [Kind]
     ensures { result.now ≡ apdu_kinds_of head.now }
 {
     match head {
-        ApduHead::ConfirmedRequest { .. } => {
-            &[Kind::PduType, Kind::Accepted, Kind::InvokeId, Kind::Choice]
-        }
+        ApduHead::ConfirmedRequest { .. } => &[
+            Kind::ConfirmedRequest,
+            Kind::Accepted,
+            Kind::InvokeId,
+            Kind::Choice,
+        ],
         ApduHead::RequestSegment(_) => &[
-            Kind::PduType,
+            Kind::RequestSegment,
             Kind::Accepted,
             Kind::InvokeId,
             Kind::Sequence,
             Kind::Window,
             Kind::Choice,
         ],
-        ApduHead::UnconfirmedRequest { .. } => &[Kind::PduType, Kind::Choice],
-        ApduHead::SimpleAck { .. } | ApduHead::ComplexAck { .. } | ApduHead::Error { .. } => {
-            &[Kind::PduType, Kind::InvokeId, Kind::Choice]
-        }
+        ApduHead::UnconfirmedRequest { .. } => &[Kind::UnconfirmedRequest, Kind::Choice],
+        ApduHead::SimpleAck { .. } => &[Kind::SimpleAck, Kind::InvokeId, Kind::Choice],
+        ApduHead::ComplexAck { .. } => &[Kind::ComplexAck, Kind::InvokeId, Kind::Choice],
         ApduHead::AckSegment(_) => &[
-            Kind::PduType,
+            Kind::AckSegment,
             Kind::InvokeId,
             Kind::Sequence,
             Kind::Window,
             Kind::Choice,
         ],
-        ApduHead::SegmentAck { .. } => {
-            &[Kind::PduType, Kind::InvokeId, Kind::Sequence, Kind::Window]
-        }
-        ApduHead::Reject { .. } | ApduHead::Abort { .. } => {
-            &[Kind::PduType, Kind::InvokeId, Kind::Reason]
-        }
+        ApduHead::SegmentAck { .. } => &[
+            Kind::SegmentAck,
+            Kind::InvokeId,
+            Kind::Sequence,
+            Kind::Window,
+        ],
+        ApduHead::Error { .. } => &[Kind::Error, Kind::InvokeId, Kind::Choice],
+        ApduHead::Reject { .. } => &[Kind::Reject, Kind::InvokeId, Kind::Reason],
+        ApduHead::Abort { .. } => &[Kind::Abort, Kind::InvokeId, Kind::Reason],
     }
 }
 

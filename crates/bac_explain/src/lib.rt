@@ -1,6 +1,7 @@
 //! What each octet of a frame is, also of a frame that is refused. [`explain`] writes the pieces of octets into a slice of the
 //! caller's. A [`Piece`] has the place of some octets, how many they are, and what they are: a part of a head, or a tag
-//! head and its contents.
+//! head and its contents. [`append_lines`] shows pieces line by line, and [`append_frame_explanation`] those of a frame with
+//! the names of its fields.
 //!
 //! In the examples `rt` is the program's `HostRuntime`.
 //!
@@ -18,7 +19,8 @@
 //! A piece that does not fit in the slice is only counted (`cursor.rt`), so this crate needs no memory for pieces. Each piece
 //! but that of a refusal has an octet, so octets have at most as many pieces as they are, and one more.
 //!
-//! Fields of a frame have places in its canonical octets, so they are attached to pieces by place: [`begins_in`].
+//! Fields of a frame have places in its canonical octets, so they are attached to pieces by place: [`begins_in`]. A
+//! tolerated frame has as many pieces as its canonical octets, so the piece with the same index has the field.
 //!
 //! The laws (`laws.rt`) say what it means that pieces cover octets: joined they are the octets, each octet is in exactly
 //! one of them, and each field with octets begins in exactly one of them.
@@ -32,24 +34,47 @@
 //! - tags and contents: `elements.rt`, `nests.rt`; `Elements.antt`, `Nests.antt`
 //! - a refusal: `refusals.rt`; `Refusals.antt`
 //! - fields: `fields.rt`; `FieldPieces.antt`
+//! - words: `words.rt`, `tag_words.rt`, `reasons.rt`; `Words.antt`
+//! - lines: `lines.rt`, `explanation.rt`; `Lines.antt`, `Explanations.antt`
+//! - names of fields in the words, and canonical octets beside: `label.rt`, `named_words.rt`, `named_lines.rt`,
+//!   `named_pieces.rt`, `named_explanation.rt`; `Labels.antt`, `NamedLines.antt`
+//! - a piece as numbers: `numbers.rt`; `Numbers.antt`
 #![tactic(auto)]
 
+mod appending;
 mod cursor;
 mod elements;
 mod explaining;
+mod explanation;
 mod fields;
 mod front;
 mod heads;
+mod label;
 pub mod laws;
+mod lines;
+mod named_explanation;
+mod named_lines;
+mod named_pieces;
+mod named_words;
 mod nests;
+mod numbers;
 mod parts;
 mod piece;
 mod pieces;
+mod reasons;
 mod refusals;
+mod tag_words;
 mod verdict;
+mod words;
 
 pub use explaining::{Explained, explain};
+pub use explanation::append_explanation;
 pub use fields::begins_in;
+pub use label::{Label, label_of};
+pub use lines::append_lines;
+pub use named_explanation::append_frame_explanation;
+pub use numbers::PieceNumbers;
 pub use piece::{Kind, Piece};
 pub use pieces::write_pieces;
 pub use verdict::{Verdict, judge};
+pub use words::append_words;

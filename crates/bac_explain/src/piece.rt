@@ -31,8 +31,26 @@ pub enum Kind {
     Vendor,
     /// The data of a network message.
     Data,
-    /// The first octet of an APDU, with its type (clause 20.1).
-    PduType,
+    /// The first octet of a Confirmed-Request (clause 20.1), and so on: each has the type of the APDU.
+    ConfirmedRequest,
+    /// That of a segment of such a request.
+    RequestSegment,
+    /// That of an Unconfirmed-Request.
+    UnconfirmedRequest,
+    /// That of a SimpleACK.
+    SimpleAck,
+    /// That of a ComplexACK.
+    ComplexAck,
+    /// That of a segment of such an answer.
+    AckSegment,
+    /// That of a SegmentACK.
+    SegmentAck,
+    /// That of an Error.
+    Error,
+    /// That of a Reject.
+    Reject,
+    /// That of an Abort.
+    Abort,
     /// How long an answer is accepted, in segments and in octets (clauses 20.1.2.4 and 20.1.2.5).
     Accepted,
     /// The invoke id.
@@ -74,4 +92,15 @@ pub struct Piece {
     pub depth: usize,
     /// What it is.
     pub kind: Kind,
+}
+
+impl Piece {
+    /// A piece of no octets, to fill a room for pieces with.
+    pub const BLANK: Piece = Piece {
+        place: 0,
+        length: 0,
+        head: 0,
+        depth: 0,
+        kind: Kind::Rest,
+    };
 }

@@ -49,6 +49,16 @@ fn is_typed_in(apdu: &Apdu) -> bool
     }
 }
 
+/// Returns true if a body has a service with a production.
+pub(crate) fn is_typed_body(body: &Body) -> bool
+    ensures { result ≡ is_typed (body_value body.now) }
+{
+    match body {
+        Body::Apdu(apdu) => is_typed_in(apdu),
+        Body::Net(_) => false,
+    }
+}
+
 /// Tells of a frame where it was decoded. The frame is not kept.
 #[derive(Clone, Copy)]
 struct Telling;
@@ -70,11 +80,7 @@ impl FrameVisitor for Telling {
         mark: Option<usize>,
         _place: &mut (),
     ) -> (Option<usize>, bool) {
-        let typed = match &body {
-            Body::Apdu(apdu) => is_typed_in(apdu),
-            Body::Net(_) => false,
-        };
-        (mark, typed)
+        (mark, is_typed_body(&body))
     }
 }
 

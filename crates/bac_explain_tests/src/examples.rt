@@ -8,26 +8,19 @@ use std::test::Fail;
 #[test]
 fn a_refused_frame_is_explained(rt: HostRuntime) -> Result<(), Fail> {
     // A WriteProperty with priority 17.
-    let octets =
-        b"\x01\x04\x00\x05\x02\x0F\x0C\x00\x40\x00\x01\x19\x55\x3E\x44\x42\xC8\x00\x00\x3F\x49\x11";
-    let none = Piece {
-        place: 0,
-        length: 0,
-        head: 0,
-        depth: 0,
-        kind: Kind::Rest,
-    };
-    let mut room = [none; 24];
-    let told = explain(rt.alloc(), octets, &mut room)?;
+    let octets = [
+        0x01, 0x04, 0x00, 0x05, 0x02, 0x0F, 0x0C, 0x00, 0x40, 0x00, 0x01, 0x19, 0x55, 0x3E, 0x44,
+        0x42, 0xC8, 0x00, 0x00, 0x3F, 0x49, 0x11,
+    ];
+    let mut room = [Piece::BLANK; 23];
+    let told = explain(rt.alloc(), &octets, &mut room)?;
     assert_eq!(rt; told.verdict, Verdict::Refused(Why::Content.at(21)));
     assert_eq!(rt; told.count, 13);
-    // The property: a tag of one octet, and one octet of contents.
-    let property = Kind::Element(TagHead::Ctx { number: 1, len: 1 });
-    assert_eq!(rt; room[7].place, 11);
-    assert_eq!(rt; room[7].length, 2);
-    assert_eq!(rt; room[7].kind, property);
-    // The octet that is refused.
-    assert_eq!(rt; room[12].place, 21);
+    // The property is 85: a tag of one octet, and one octet of contents.
+    assert_eq!(rt; (room[7].place, room[7].length), (11, 2));
+    let head = TagHead::Ctx { number: 1, len: 1 };
+    assert_eq!(rt; room[7].kind, Kind::Element(head));
+    // The priority.
     assert_eq!(rt; room[12].kind, Kind::Refused(Why::Content));
     Ok(())
 }

@@ -1,18 +1,8 @@
 //! What a test expects. Each is a function, which is proved once for all tests; what they compare by is proved in bac_tables.
 
-use bac_explain::{Kind, Piece};
 use bac_tables::{holds, same_of};
 use std::fmt::Debug;
 use std::process::Abort;
-
-/// A piece of no octets, that fills a room.
-pub const NONE: Piece = Piece {
-    place: 0,
-    length: 0,
-    head: 0,
-    depth: 0,
-    kind: Kind::Rest,
-};
 
 /// Stops the test unless what it found is what it wanted. A failure shows the case.
 pub fn assert_same_of<T: PartialEq + Debug + Drop, C: Debug + Drop>(

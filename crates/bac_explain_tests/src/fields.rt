@@ -1,6 +1,6 @@
 //! Each field with octets begins in one piece, and where that piece begins.
 
-use crate::expectations::{NONE, assert_holds, assert_same_of};
+use crate::expectations::{assert_holds, assert_same_of};
 use bac_explain::{Piece, begins_in, explain};
 use bac_fields::{Field, append_fields};
 use bac_npdu::decode_frame;
@@ -46,7 +46,7 @@ fn begin_once(rt: &impl Abort, alloc: Global, text: &str) {
     let mut canonical = Vec::new(alloc);
     let mut fields = Vec::new(alloc);
     append_fields(&frame, &mut canonical, &mut fields).expect(rt, "memory");
-    let mut room = [NONE; 129];
+    let mut room = [Piece::BLANK; 129];
     let told = explain(alloc, &canonical, &mut room).expect(rt, "memory");
     let pieces = room.get(..told.count).expect(rt, "pieces that fit");
     for field in fields.iter() {

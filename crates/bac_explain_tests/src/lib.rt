@@ -9,6 +9,14 @@ mod expectations;
 #[cfg(test)]
 mod fields;
 #[cfg(test)]
+mod lines;
+#[cfg(test)]
+mod named_lines;
+#[cfg(test)]
+mod numbers;
+#[cfg(test)]
 mod pieces;
 #[cfg(test)]
 mod shown;
+#[cfg(test)]
+mod words;

@@ -1,7 +1,7 @@
 //! The pieces of octets, accepted or refused. The layouts are those of sections 5 and 6 of docs/FORMATS.md, the places and
 //! reasons those of section 10.
 
-use crate::expectations::{NONE, assert_same_of};
+use crate::expectations::assert_same_of;
 use crate::shown::shown;
 use bac_explain::{Piece, explain};
 use bac_tables::{Row, octets_of, rows_of};
@@ -11,7 +11,7 @@ use std::process::Abort;
 /// The octets of a row have the verdict and the pieces that it tells.
 fn is_explained(rt: &impl Abort, alloc: Global, row: Row<'_>) {
     let octets = octets_of(row.octets).expect(rt, "octets");
-    let mut room = [NONE; 129];
+    let mut room = [Piece::BLANK; 129];
     let told = explain(alloc, &octets, &mut room).expect(rt, "memory");
     let pieces = room.get(..told.count).expect(rt, "pieces that fit");
     let text = shown(alloc, told.verdict, pieces).expect(rt, "memory");
@@ -96,14 +96,14 @@ static WHO_IS: [u8; 8] = [0x01, 0x20, 0xFF, 0xFF, 0x00, 0xFF, 0x10, 0x08];
 
 #[test]
 fn pieces_that_do_not_fit_are_counted(rt: HostRuntime) {
-    let mut room = [NONE; 3];
+    let mut room = [Piece::BLANK; 3];
     let told = explain(rt.alloc(), &WHO_IS, &mut room).expect(&rt, "memory");
     assert_same_of(&rt, told.count, 7, "all");
     let third = Piece {
         place: 2,
         length: 2,
         kind: room[2].kind,
-        ..NONE
+        ..Piece::BLANK
     };
     assert_same_of(&rt, room[2], third, "the network");
     let none = explain(rt.alloc(), &WHO_IS, &mut []).expect(&rt, "memory");

@@ -19,7 +19,16 @@ fn word_of(kind: Kind) -> &'static str {
         Kind::MessageType => "message",
         Kind::Vendor => "vendor",
         Kind::Data => "data",
-        Kind::PduType => "pdu",
+        Kind::ConfirmedRequest
+        | Kind::RequestSegment
+        | Kind::UnconfirmedRequest
+        | Kind::SimpleAck
+        | Kind::ComplexAck
+        | Kind::AckSegment
+        | Kind::SegmentAck
+        | Kind::Error
+        | Kind::Reject
+        | Kind::Abort => "pdu",
         Kind::Accepted => "accepted",
         Kind::InvokeId => "invoke",
         Kind::Sequence => "sequence",

@@ -9,3 +9,4 @@ pub mod FilledLemmas
 pub mod FeedLemmas
 mod HeadlineLemmas
 pub mod JoiningLemmas
+mod ExplainingLemmas

@@ -56,3 +56,9 @@ pub record IsAccepted (appends : FrameValue → Option ℕ → List ℕ → List
   pub accepted : Accepts mode frame octets
   pub marked : HasMark (SpellsFrame frame) octets mark
   pub appended : appends frame mark old new
+
+-- The octets are accepted as some frame, and have this mark.
+pub record IsAcceptedAs (mode : Mode) (octets : List ℕ) (mark : Option ℕ) : Type 0 where
+  pub frame : FrameValue
+  pub accepted : Accepts mode frame octets
+  pub marked : HasMark (SpellsFrame frame) octets mark

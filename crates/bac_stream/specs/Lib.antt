@@ -4,3 +4,4 @@ pub mod Intakes
 pub mod Feeds
 pub mod Joining
 pub mod Headline
+pub mod Explaining

@@ -1,42 +1,70 @@
 //! The run of `check`.
 
-ghost use Rattle.std.specs.Prelude.{◌≡◌, IfErr, IfOk, MatchResult, List, ℕ, Some};
-ghost use Rattle.bac_stream.specs.Judging.{IsCanonical, IsRefused};
+ghost use Rattle.std.specs.Prelude.{◌≡◌, ◌↔◌, IfErr, IfOk, MatchResult, List, ℕ, None, Some};
+ghost use Rattle.bac_stream.specs.Judging.{IsAcceptedAs, IsCanonical, IsRefused, Refuses};
 ghost use Rattle.bac_stream.specs.Lines.{ChecksAs};
 ghost use Rattle.bac_record.specs.Records.{Records};
 ghost use Rattle.bac_record.specs.Runs.{RanThrough, ReadsAtMost, RunCounts, Stopped};
 ghost use Rattle.bac_record.specs.Files.{RunsOver};
 
 use crate::lines::Line;
-use crate::reporting::{Report, Reporting};
 use crate::{Input, Mode, Output, RunFault, Summary};
-use bac_npdu::{Body, FrameHead};
-use bac_record::run;
-use bac_tag::OutOfMemory;
+use bac_npdu::check_frame;
+use bac_npdu::laws::frames_have_one_value;
+use bac_record::{DealFault, Dealt, Job, run};
+use bac_tag::Refusal;
 use std::alloc::Global;
 
-/// Says of each record whether it is canonical.
+/// Says of each record whether it is canonical. No frame is made for it.
 #[derive(Clone, Copy)]
-struct Check;
+struct Check {
+    alloc: Global,
+    mode: Mode,
+}
 
-impl Reporting for Check {
-    ghost use Rattle.bac_stream.specs.Lines.{IsChecked};
-
-    ghost says = { IsChecked };
-
+impl Check {
+    /// Returns the first place where accepted octets differ from the canonical ones, or None.
+    ///
+    /// # Errors
+    /// The refusal of [`check_frame`]. In mode Strict also `NotCanonical` at that first place.
     #[inline(always)]
-    fn append_line(
-        self,
-        number: u32,
-        _head: &FrameHead<'_>,
-        _body: Body,
-        mark: Option<usize>,
-        out: &mut Vec<u8>,
-    ) -> Result<(), OutOfMemory> {
-        Line::of_mark(mark).push(number, out)
+    fn mark_of(self, octets: &[u8]) -> Result<Option<usize>, Refusal>
+        ensures accepted { IfOk result (IsAcceptedAs self.mode octets.now) }
+        ensures canonical { IfOk result (λ mark. (mark ≡ None) ↔ IsCanonical octets.now) }
+        ensures fault { IfErr result (Refuses self.mode octets.now) }
+        ensures refused { IfErr result (λ _. IsRefused self.mode octets.now) }
+    {
+        // By this law octets that differ from the canonical ones of their frame are not canonical for any other frame.
+        frames_have_one_value();
+        let mark = check_frame(self.alloc, octets)?;
+        match self.mode.flaw(mark) {
+            None => Ok(mark),
+            Some(refusal) => Err(refusal),
+        }
     }
+}
 
-    ghost says_refusals = { λ mode octets refusal refuses. refuses };
+impl Job for Check {
+    ghost line = { λ check. ChecksAs check.mode };
+
+    ghost stops = { λ _ _ _. ⊥ };
+
+    ghost is_canonical = { λ _. IsCanonical };
+
+    ghost is_refused = { λ check. IsRefused check.mode };
+
+    fn deal(&self, number: u32, octets: &[u8], out: &mut Vec<u8>) -> Result<Dealt, DealFault> {
+        match self.mark_of(octets) {
+            Ok(mark) => {
+                Line::of_mark(mark).push(number, out)?;
+                Ok(Dealt::accepted(mark))
+            }
+            Err(refusal) => {
+                Line::Refused(refusal).push(number, out)?;
+                Ok(Dealt::refused())
+            }
+        }
+    }
 }
 
 /// Writes a line for each record: its number, and whether the record is canonical, tolerated or refused. Returns what
@@ -78,15 +106,5 @@ pub fn run_check<R: Input, W: Output>(
         (λ _. (R.failures reader.new ≡ R.failures reader.old) × (W.failures writer.new ≡ W.failures writer.old))
         (RunCounts (R.failures reader.old) (R.failures reader.new) (W.failures writer.old) (W.failures writer.new)) }
 {
-    let reporting = Check;
-    run(
-        alloc,
-        &Report {
-            alloc,
-            mode,
-            reporting,
-        },
-        reader,
-        writer,
-    )
+    run(alloc, &Check { alloc, mode }, reader, writer)
 }

@@ -1,8 +1,9 @@
 //! Files of BACnet frames: each record is one NPDU, with an APDU or a network message in it.
 //!
-//! [`run_show`] writes what each frame says, [`run_check`] whether it is canonical, and [`run_normalise`] its canonical
-//! octets. Each reads from any [`Input`] and writes to any [`Output`], and returns a [`Summary`], or the [`RunFault`]
-//! that stopped it. [`read_record`] and [`write_record`] read and write one record.
+//! [`run_show`] writes what each frame says, [`run_check`] whether it is canonical, [`run_normalise`] its canonical octets,
+//! and [`run_explain`] what each octet is, also of what is refused. Each reads from any [`Input`] and writes to any
+//! [`Output`], and returns a [`Summary`], or the [`RunFault`] that stopped it. [`read_record`] and [`write_record`] read and
+//! write one record.
 //!
 //! An [`Intake`] takes the same records as a stream that comes in pieces, cut anywhere. It gives the frame of each
 //! record, or why the record is refused.
@@ -11,10 +12,11 @@
 //!
 //! # How it works
 //!
-//! `judge` (`judging.rt`) decides on a record for all three runs: bac_npdu decodes the frame (`visit_frame`), mode
+//! `judge` (`judging.rt`) decides on a record for `show` and `normalise`: bac_npdu decodes the frame (`visit_frame`), mode
 //! Strict refuses a frame with a mark, and otherwise something is appended for it where it was decoded, so the frame is
-//! neither put together nor moved. `show` and `check` are one job (`reporting.rt`), and each adds only what its lines
-//! say. `normalise` is a job of its own: it copies a record without a mark, and writes any other from head and body.
+//! neither put together nor moved. `show` writes a line for each record (`reporting.rt`). `normalise` copies a record
+//! without a mark, and writes any other from head and body. `check` makes no frame (`check_frame` of bac_npdu), and
+//! `explain` adds to its lines those of the pieces that bac_explain finds.
 //!
 //! An [`Intake`] holds the mode, the number of records so far, and less than a record, with capacity for the longest.
 //! `feed` first completes a record that is held in part, reads every further one from the piece itself, and holds what
@@ -26,6 +28,7 @@
 #![tactic(auto)]
 
 mod checking;
+mod explaining;
 mod feed_faults;
 mod intakes;
 mod items;
@@ -43,6 +46,7 @@ pub use bac_record::{
     Counted, Device, Input, Output, RunFault, StreamFault, Summary, read_record, write_record,
 };
 pub use checking::run_check;
+pub use explaining::run_explain;
 pub use feed_faults::FeedFault;
 pub use intakes::Intake;
 pub use joined::{JoinFault, Joined};

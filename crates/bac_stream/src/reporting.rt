@@ -1,4 +1,4 @@
-//! The job of the runs that write a line for each record: `show` and `check`.
+//! The job of a run that writes a line for each record: `show`.
 
 ghost use Rattle.std.specs.Prelude.{◌≡◌, List, OnErr, OnOk, ℕ};
 ghost use Rattle.bac_tag.specs.declared.refusals.Refusal.{Refusal as RefusalValue};

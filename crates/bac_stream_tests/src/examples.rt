@@ -6,7 +6,7 @@ use bac_npdu::decode_frame;
 use bac_pack::run_pack;
 use bac_record::{Counted, read_record, write_record};
 use bac_segment::Desk;
-use bac_stream::{Intake, Joined, Mode, join, run_check, run_normalise, run_show};
+use bac_stream::{Intake, Joined, Mode, join, run_check, run_explain, run_normalise, run_show};
 use std::test::Fail;
 
 // Of `bac_record::read_record`.
@@ -45,6 +45,25 @@ fn a_file_is_checked(rt: HostRuntime) -> Result<(), Fail> {
     assert_eq!(rt; (summary.records, summary.refused), (2, 1));
     let lines = b"1 tolerated at 1\n2 refused Short at 0\n";
     assert_eq!(rt; writer.device.as_slice(), lines.as_slice());
+    Ok(())
+}
+
+// Of `bac_stream::run_explain`.
+#[test]
+fn a_file_is_explained(rt: HostRuntime) -> Result<(), Fail> {
+    // A Reject that lacks its reason.
+    let file = [0x00, 0x04, 0x01, 0x00, 0x60, 0x2A];
+    let mut reader = Counted::new(file.as_slice());
+    let mut writer = Counted::new(Vec::new(rt.alloc()));
+    let summary = run_explain(rt.alloc(), Mode::Tolerant, &mut reader, &mut writer)?;
+    assert_eq!(rt; (summary.records, summary.refused), (1, 1));
+    let lines = "1 refused Short at 4
+   0  01           version 1
+   1  00           control: reply 0, priority 0
+   2  602A         a head that is not whole
+   4               <- Short: the octets end, and more must come
+";
+    assert_eq!(rt; writer.device.as_slice(), lines.as_bytes());
     Ok(())
 }
 

@@ -9,6 +9,8 @@ mod examples;
 #[cfg(test)]
 mod expectations;
 #[cfg(test)]
+mod explain_tests;
+#[cfg(test)]
 mod fakes;
 #[cfg(test)]
 mod frame_tests;

@@ -168,8 +168,13 @@ fn write_double(out: &mut Vec<u8>, at: usize, bits: u64) -> Result<usize, OutOfM
     write_few_octets(out, at, b"d:", &bits.to_be_bytes())
 }
 
-/// Writes a primitive value: its type as a letter, a colon, and its value.
-pub(crate) fn write_primitive(
+/// Writes a primitive value at the place `at` of the vector, which must be at most its length: its type as a letter, a
+/// colon, and its value. Returns where the text ends. The vector is made longer if it is too short. The unused bits of a
+/// bit string must be zero.
+///
+/// # Errors
+/// `OutOfMemory` if memory is refused. `out` may then hold some of the text.
+pub fn write_primitive(
     out: &mut Vec<u8>,
     at: usize,
     prim: &PrimRef<'_>,

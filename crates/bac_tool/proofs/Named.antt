@@ -10,14 +10,14 @@ use Rattle.std.specs.Str.{bytes_eq}
 use Rattle.clap.specs.Words.{App, Row, Shape, Text, built, fault_of, is_simple, is_simple_and_free, one_of, subcommand_of, takes}
 use Rattle.clap.specs.Simple.{entered, names_of, argument_words, label_of}
 use Rattle.clap.specs.Faults.{other_fault, step_fault, turn_fault, walk_fault, word_fault}
-use Rattle.clap.specs.Kinds.{Kinds, or_else}
+use Rattle.clap.specs.Kinds.{HasKind, Kinds, or_else}
 use Rattle.clap.specs.Lexer.{long_of, short_of}
 use Rattle.clap.specs.Walk.{Held, Names, Outcome, Rule, Step, Waiting, Walk, idle, option, positional, done, waits, plain, refused, next, trailing, subcommand, value, after_flag, after_step, answers_to, arg_by_index, arg_by_long, bundle, long_met, long_or_other, nothing_held, plain_word, rows_after, short_or_plain, stop_after, subcommand_met, subcommand_or_other, to_positional, walk_from, walked, walked_from, word_met}
 use Rattle.clap.proofs.OnLiterals.{clap_on_literals}
 use Rattle.std.specs.List.{AllByRecursion}
 use Rattle.bac_tool.specs.CommandLine.{bactool, NamesJob, IsJobOf, HasMode, word_lists}
 use Rattle.bac_tool.specs.declared.command_line.Job.{Job}
-use Rattle.bac_tool.specs.declared.command_line.Job.TheVariants.{Show, Check, Normalise, Pack, Read}
+use Rattle.bac_tool.specs.declared.command_line.Job.TheVariants.{Show, Check, Normalise, Pack, Read, Explain}
 use Rattle.bac_stream.specs.declared.modes.Mode.{Mode}
 use Rattle.bac_stream.specs.declared.modes.Mode.TheVariants.{Tolerant, Strict}
 
@@ -32,6 +32,10 @@ is_free_program = refl
 -- A parse that succeeds is one of words without a fault.
 pub faultless : (command : App) (words : List Text) → command ≡ bactool → (is_simple_and_free command ≡ true → fault_of command words ≡ []) → fault_of bactool words ≡ []
 faultless command words is kinds = ap (λ (a : App). fault_of a words) (sym is) ∙ kinds (ap is_simple_and_free is ∙ is_free_program)
+
+-- A parse that fails does so by a fault of the words.
+pub has_kind : (command : App) (words : List Text) (error : Error) → command ≡ bactool → (is_simple_and_free command ≡ true → HasKind (fault_of command words) error) → HasKind (fault_of bactool words) error
+has_kind command words error is kinds = subst (λ (a : App). HasKind (fault_of a words) error) is (kinds (ap is_simple_and_free is ∙ is_free_program))
 
 -- a name and rows that are read apart come from one subcommand
 pub read_apart : {X : Type 0} (s : Option X) (name : X → Text) (rows : X → List Row) (n : Text) (r : List Row)
@@ -63,6 +67,7 @@ name_of_job (Check mode) = codes "check"
 name_of_job (Normalise mode) = codes "normalise"
 name_of_job Pack = codes "pack"
 name_of_job Read = codes "read"
+name_of_job (Explain mode) = codes "explain"
 
 abbrev pub flag_of_mode : Mode → Text
 flag_of_mode Strict = codes "true"
@@ -74,6 +79,7 @@ flag_of_job (Check mode) = Some (flag_of_mode mode)
 flag_of_job (Normalise mode) = Some (flag_of_mode mode)
 flag_of_job Pack = None
 flag_of_job Read = None
+flag_of_job (Explain mode) = Some (flag_of_mode mode)
 
 -- the name that was found
 abbrev name_of : Option (Text × List Row) → Text
@@ -192,20 +198,21 @@ stop_other words none =
     let given = argument_words bactool words in
     walk_other a.top (names_of a) refl given (walk_from nothing_held) tt (both_none (walk_fault a.top (names_of a) (walk_from nothing_held) given) _ none).0
 
--- the names of the five subcommands that have a job
+-- the names of the six subcommands that have a job
 abbrev IsName : Text → Type 0
-IsName n = (n ≡ codes "show") ⊎ ((n ≡ codes "check") ⊎ ((n ≡ codes "normalise") ⊎ ((n ≡ codes "pack") ⊎ ((n ≡ codes "read") ⊎ ⊥))))
+IsName n = (n ≡ codes "show") ⊎ ((n ≡ codes "explain") ⊎ ((n ≡ codes "check") ⊎ ((n ≡ codes "normalise") ⊎ ((n ≡ codes "pack") ⊎ ((n ≡ codes "read") ⊎ ⊥)))))
 
 names_apart : (m n : Text) → bytes_eq m (codes "help") ≡ false → Among (λ s. answers_to m (label_of s)) n (built bactool).subs → IsName n
 names_apart m n other (inl show) = inl show.0
-names_apart m n other (inr (inl check)) = inr (inl check.0)
-names_apart m n other (inr (inr (inl normalise))) = inr (inr (inl normalise.0))
-names_apart m n other (inr (inr (inr (inl pack)))) = inr (inr (inr (inl pack.0)))
-names_apart m n other (inr (inr (inr (inr (inl read))))) = inr (inr (inr (inr (inl read.0))))
-names_apart m n other (inr (inr (inr (inr (inr (inl help)))))) =
+names_apart m n other (inr (inl explain)) = inr (inl explain.0)
+names_apart m n other (inr (inr (inl check))) = inr (inr (inl check.0))
+names_apart m n other (inr (inr (inr (inl normalise)))) = inr (inr (inr (inl normalise.0)))
+names_apart m n other (inr (inr (inr (inr (inl pack))))) = inr (inr (inr (inr (inl pack.0))))
+names_apart m n other (inr (inr (inr (inr (inr (inl read)))))) = inr (inr (inr (inr (inr (inl read.0)))))
+names_apart m n other (inr (inr (inr (inr (inr (inr (inl help))))))) =
     let is : bytes_eq (codes "help") m ≡ true = or_false _ help.1 in
     absurd (false≢true (sym other ∙ nat_list_eq_equiv.symm m (codes "help") ∙ is))
-names_apart m n other (inr (inr (inr (inr (inr (inr none)))))) = absurd none
+names_apart m n other (inr (inr (inr (inr (inr (inr (inr none))))))) = absurd none
 
 among_subcommands : (stop : Option (Text × List Text)) (n : Text) (r : List Row) → IsOther stop → entered (built bactool) stop ≡ Some (n, r) → IsName n
 among_subcommands None n r other e = cc
@@ -218,16 +225,16 @@ program_names words n r none e = among_subcommands (stop_after (built bactool).t
 pub names_job : (words : List Text) (n : Text) (r : List Row) (job : Job) → subcommand_of bactool words ≡ Some (n, r) → IsJobOf n (one_of (codes "strict") r) job → NamesJob (subcommand_of bactool words) job
 names_job words n r job found is = subst (λ o. NamesJob o job) (sym found) is
 
--- ---- the ten command lines
+-- ---- the twelve command lines
 
 pub words_taken : AllByRecursion (λ entry. takes bactool entry.0 ≡ true) word_lists
 unfolding clap_on_literals
-words_taken = (refl, (refl, (refl, (refl, (refl, (refl, (refl, (refl, (refl, (refl, tt))))))))))
+words_taken = (refl, (refl, (refl, (refl, (refl, (refl, (refl, (refl, (refl, (refl, (refl, (refl, tt))))))))))))
 
 -- the name and the flag of each
 pub words_named : AllByRecursion (λ entry. named (subcommand_of bactool entry.0) ≡ Some (name_of_job entry.1, flag_of_job entry.1)) word_lists
 unfolding clap_on_literals
-words_named = (refl, (refl, (refl, (refl, (refl, (refl, (refl, (refl, (refl, (refl, tt))))))))))
+words_named = (refl, (refl, (refl, (refl, (refl, (refl, (refl, (refl, (refl, (refl, (refl, (refl, tt))))))))))))
 
 one_mode : (flag : Option Text) (mode m : Mode) → HasMode flag mode → flag ≡ Some (flag_of_mode m) → mode ≡ m
 one_mode flag mode Strict h e = h.0 e
@@ -263,6 +270,17 @@ job_is n flag (Show mode) Read h e f = absurd (omega (arith, letters n (codes "s
 job_is n flag (Check mode) Read h e f = absurd (omega (arith, letters n (codes "check") (codes "read") h.0 e))
 job_is n flag (Normalise mode) Read h e f = absurd (omega (arith, letters n (codes "normalise") (codes "read") h.0 e))
 job_is n flag Pack Read h e f = absurd (omega (arith, letters n (codes "pack") (codes "read") h e))
+job_is n flag (Explain mode) (Explain m) h e f = ap Explain (one_mode flag mode m h.1 f)
+job_is n flag (Explain mode) (Show m) h e f = absurd (omega (arith, letters n (codes "explain") (codes "show") h.0 e))
+job_is n flag (Explain mode) (Check m) h e f = absurd (omega (arith, letters n (codes "explain") (codes "check") h.0 e))
+job_is n flag (Explain mode) (Normalise m) h e f = absurd (omega (arith, letters n (codes "explain") (codes "normalise") h.0 e))
+job_is n flag (Explain mode) Pack h e f = absurd (omega (arith, letters n (codes "explain") (codes "pack") h.0 e))
+job_is n flag (Explain mode) Read h e f = absurd (omega (arith, letters n (codes "explain") (codes "read") h.0 e))
+job_is n flag (Show mode) (Explain m) h e f = absurd (omega (arith, letters n (codes "show") (codes "explain") h.0 e))
+job_is n flag (Check mode) (Explain m) h e f = absurd (omega (arith, letters n (codes "check") (codes "explain") h.0 e))
+job_is n flag (Normalise mode) (Explain m) h e f = absurd (omega (arith, letters n (codes "normalise") (codes "explain") h.0 e))
+job_is n flag Pack (Explain m) h e f = absurd (omega (arith, letters n (codes "pack") (codes "explain") h e))
+job_is n flag Read (Explain m) h e f = absurd (omega (arith, letters n (codes "read") (codes "explain") h e))
 
 abbrev name_from : Option (Text × Option Text) → Text
 name_from None = []

@@ -6,6 +6,7 @@ use Rattle.clap.specs.declared.error.ErrorKind.{ErrorKind}
 use Rattle.clap.specs.declared.error.ErrorKind.TheVariants.{DisplayHelp, DisplayVersion, OutOfMemory}
 use Rattle.bac_tool.specs.CommandLine.{NamesJob}
 use Rattle.bac_tool.specs.ErrorLines.{error_line, fault_text, memory_text, write_text}
+use Rattle.bac_stream.specs.Explaining.{ExplainsAs}
 use Rattle.bac_stream.specs.Judging.{IsCanonical, IsRefused, Refuses}
 use Rattle.bac_stream.specs.declared.modes.Mode.{Mode}
 use Rattle.bac_stream.specs.Lines.{ShowsAs, ChecksAs, NormalisesTo}
@@ -16,7 +17,7 @@ use Rattle.bac_pack.specs.Runs.{LinesStopped, LinesThrough, PacksThrough}
 use Rattle.bac_lines.specs.ShownLines.{LONGEST_LINE, StandsFor, StandsForNone}
 use Rattle.bac_record.specs.Transfers.{TakesFront}
 use Rattle.bac_tool.specs.declared.command_line.Job.{Job}
-use Rattle.bac_tool.specs.declared.command_line.Job.TheVariants.{Show, Check, Normalise, Pack, Read}
+use Rattle.bac_tool.specs.declared.command_line.Job.TheVariants.{Show, Check, Normalise, Pack, Read, Explain}
 use Rattle.bac_tool.specs.declared.job_faults.JobFault.{JobFault}
 use Rattle.bac_tool.specs.declared.job_faults.JobFault.TheVariants as fault
 use Rattle.bac_record.specs.declared.faults.RunFault.TheVariants.{Frame}
@@ -40,6 +41,8 @@ RunsAs Pack left left' taken taken' (Ok refused) = (count : ℕ) × PacksThrough
 RunsAs Pack left left' taken taken' (Err (fault.Pack stop)) = packing.Stopped left left' taken taken' stop
 RunsAs Read left left' taken taken' (Ok refused) = (count : ℕ) × LinesThrough StandsFor LONGEST_LINE left left' taken taken' count × (refused ≡ 0)
 RunsAs Read left left' taken taken' (Err (fault.Pack stop)) = LinesStopped StandsFor StandsForNone LONGEST_LINE left left' taken taken' stop
+RunsAs (Explain mode) left left' taken taken' (Ok refused) = RanOver (ExplainsAs mode) mode left left' taken taken' refused
+RunsAs (Explain mode) left left' taken taken' (Err (fault.Run stop)) = Stopped (ExplainsAs mode) (λ _ _. ⊥) left left' taken taken' stop
 RunsAs _ left left' taken taken' (Err _) = ⊥
 
 -- A device's failures rose if the fault is its own, and else they stay.

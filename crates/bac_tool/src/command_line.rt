@@ -15,4 +15,6 @@ pub enum Job {
     Pack,
     /// A record for each line that `show` writes.
     Read,
+    /// Lines for each record: what each of its octets is.
+    Explain(Mode),
 }

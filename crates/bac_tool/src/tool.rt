@@ -10,7 +10,7 @@ use crate::{Job, JobFault, job};
 use bac_lines::run_read;
 use bac_pack::run_pack;
 use bac_record::layers::write_whole;
-use bac_stream::{Input, Output, RunFault, run_check, run_normalise, run_show};
+use bac_stream::{Input, Output, RunFault, run_check, run_explain, run_normalise, run_show};
 use clap::Error;
 use clap::error::ErrorKind;
 use std::alloc::Global;
@@ -95,6 +95,7 @@ fn run_job<R: Input, W: Output>(
             run_read(alloc, input, output)?;
             return Ok(0);
         }
+        Job::Explain(mode) => run_explain(alloc, mode, input, output)?,
     };
     Ok(summary.refused)
 }

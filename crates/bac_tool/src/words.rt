@@ -4,7 +4,7 @@ ghost use Rattle.std.specs.Prelude.{◌≡◌, IfOk, IfErr, MatchResult, [], map
 ghost use Rattle.std.specs.List.{AllByRecursion};
 ghost use Rattle.clap.specs.Words.{app_of, new_app, rule_of, subcommand_of, takes, fault_of, HasKind, kind_of, one_text, found_of};
 ghost use Rattle.clap.specs.declared.builder.command.Command.{out-Command as fields_of};
-ghost use Rattle.bac_tool.specs.CommandLine.{bactool, strict, moded, bare, with_alias, NamesJob, HasMode, word_lists};
+ghost use Rattle.bac_tool.specs.CommandLine.{bactool, strict, moded, bare, reporting, with_alias, NamesJob, HasMode, word_lists};
 
 use crate::command_line::Job;
 use bac_stream::Mode;
@@ -80,16 +80,16 @@ fn bare_command<'a>(alloc: Global) -> Command<'a>
 {
     Command::new(alloc, "bactool")
         .about(
-            "Shows, checks and normalises files of BACnet frames, and makes them of text, from standard input to standard output",
+            "Shows, explains, checks and normalises files of BACnet frames, and makes them of text, from standard input to standard output",
         )
         .version("0.3.0")
         .subcommand_required(true)
         .after_help(MEANINGS)
 }
 
-/// Returns the program with its subcommands.
-fn command<'a>(alloc: Global) -> Result<Command<'a>, AllocError>
-    ensures { IfOk result (λ c. app_of c ≡ bactool) }
+/// Returns the program with the subcommands that write lines of records.
+fn reporting_command<'a>(alloc: Global) -> Result<Command<'a>, AllocError>
+    ensures { IfOk result (λ c. app_of c ≡ reporting) }
 {
     let show = moded_command(
         alloc,
@@ -98,6 +98,15 @@ fn command<'a>(alloc: Global) -> Result<Command<'a>, AllocError>
         "bactool show [--strict] < FILE",
         "Example: bactool show < site.frames | grep refused",
     )?;
+    let one = bare_command(alloc).subcommand(show)?;
+    let explain = moded_command(
+        alloc,
+        "explain",
+        "Write what each octet of each record is, also of one that is refused",
+        "bactool explain [--strict] < FILE",
+        "Example: bactool explain < site.frames | less",
+    )?;
+    let two = one.subcommand(explain)?;
     let check = moded_command(
         alloc,
         "check",
@@ -105,6 +114,14 @@ fn command<'a>(alloc: Global) -> Result<Command<'a>, AllocError>
         "bactool check [--strict] < FILE",
         "Example: bactool check --strict < site.frames || echo not all canonical",
     )?;
+    two.subcommand(check)
+}
+
+/// Returns the program with its subcommands.
+fn command<'a>(alloc: Global) -> Result<Command<'a>, AllocError>
+    ensures { IfOk result (λ c. app_of c ≡ bactool) }
+{
+    let reporting = reporting_command(alloc)?;
     let normalise = moded_command(
         alloc,
         "normalise",
@@ -113,6 +130,7 @@ fn command<'a>(alloc: Global) -> Result<Command<'a>, AllocError>
         "Example: bactool normalise < site.frames > canonical.frames",
     )?;
     let normalise_or_normalize = with_name(normalise, "normalize")?;
+    let one = reporting.subcommand(normalise_or_normalize)?;
     let pack = plain_command(
         alloc,
         "pack",
@@ -120,6 +138,7 @@ fn command<'a>(alloc: Global) -> Result<Command<'a>, AllocError>
         "bactool pack < FILE",
         "Example: echo 0104 0005010C 0C00000005 1955 | bactool pack | bactool show",
     );
+    let two = one.subcommand(pack)?;
     let read = plain_command(
         alloc,
         "read",
@@ -127,11 +146,7 @@ fn command<'a>(alloc: Global) -> Result<Command<'a>, AllocError>
         "bactool read < FILE",
         "Example: echo prio=0 reply=0 unconf Who-Is | bactool read | bactool show",
     );
-    let one = bare_command(alloc).subcommand(show)?;
-    let two = one.subcommand(check)?;
-    let three = two.subcommand(normalise_or_normalize)?;
-    let four = three.subcommand(pack)?;
-    four.subcommand(read)
+    two.subcommand(read)
 }
 
 /// Returns the mode that the flag of a subcommand's matches names.
@@ -168,6 +183,9 @@ fn named_job<'a>(alloc: Global, words: &'a [&'a str]) -> Result<Job, Error>
     }
     if name == "check" {
         return Ok(Job::Check(mode));
+    }
+    if name == "explain" {
+        return Ok(Job::Explain(mode));
     }
     Ok(Job::Normalise(mode))
 }

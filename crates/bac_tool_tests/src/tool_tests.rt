@@ -387,6 +387,9 @@ fn words_name_a_job(rt: HostRuntime) {
     let (tolerant, strict) = (Mode::Tolerant, Mode::Strict);
     names(&rt, alloc, "bactool|show", Some(Job::Show(tolerant)));
     names(&rt, alloc, "bactool|show|--strict", Some(Job::Show(strict)));
+    names(&rt, alloc, "bactool|explain", Some(Job::Explain(tolerant)));
+    let job = Some(Job::Explain(strict));
+    names(&rt, alloc, "bactool|explain|--strict", job);
     names(&rt, alloc, "bactool|check", Some(Job::Check(tolerant)));
     let job = Some(Job::Check(strict));
     names(&rt, alloc, "bactool|check|--strict", job);
@@ -416,6 +419,32 @@ fn words_that_are_taken_are_run(rt: HostRuntime) {
     is_run(&rt, alloc, "bactool|check|--strict", 1, refused);
     is_run(&rt, alloc, "bactool|check|--", 0, tolerated);
     is_run(&rt, alloc, "another name|check", 0, tolerated);
+}
+
+/// Stops the test unless over a file of F2 alone the program writes an output that begins so, and ends with this status.
+fn begins(rt: &impl Abort, alloc: Global, line: &str, status: u8, front: &str) {
+    let file = file_of(rt, alloc, &[F2]);
+    let words = words_of(rt, alloc, line);
+    let mut taken = Counted::new(Vec::new(alloc));
+    let (got, said) = told(
+        alloc,
+        &words,
+        &mut Counted::new(file.as_slice()),
+        &mut taken,
+    );
+    assert_holds(rt, taken.device.starts_with(front.as_bytes()), line);
+    assert_same(rt, (got, said.len()), (status, 0), line);
+}
+
+// The same for `explain`: the line of `check`, and then those of the pieces.
+#[test]
+fn words_of_explain_are_run(rt: HostRuntime) {
+    let alloc = rt.alloc();
+    let tolerated = "1 tolerated at 1\n   0  01 ";
+    begins(&rt, alloc, "bactool|explain", 0, tolerated);
+    begins(&rt, alloc, "bactool|explain|--", 0, tolerated);
+    let refused = "1 refused NotCanonical at 1\n   0  01 ";
+    begins(&rt, alloc, "bactool|explain|--strict", 1, refused);
 }
 
 // The same for `normalise`.
@@ -658,6 +687,9 @@ bactool|pack|--strict
 bactool|pack|file
 bactool|read|--strict
 bactool|read|file
+bactool|explain|file
+bactool|explain|--lenient
+bactool|explain|show
 bactool|help|nonsense
 bactool|help|show|nonsense
 bactool|help|--help
@@ -727,12 +759,14 @@ fn help_is_written(rt: HostRuntime) {
     is_helped(&rt, alloc, "bactool|--help");
     is_helped(&rt, alloc, "bactool|-h");
     is_helped(&rt, alloc, "bactool|show|--help");
+    is_helped(&rt, alloc, "bactool|explain|--help");
     is_helped(&rt, alloc, "bactool|normalise|-h");
     is_helped(&rt, alloc, "bactool|check|--strict|--help");
     is_helped(&rt, alloc, "bactool|pack|--help");
     is_helped(&rt, alloc, "bactool|read|--help");
     is_helped(&rt, alloc, "bactool|help");
     is_helped(&rt, alloc, "bactool|help|show");
+    is_helped(&rt, alloc, "bactool|help|explain");
     is_helped(&rt, alloc, "bactool|help|check");
     is_helped(&rt, alloc, "bactool|help|normalise");
     is_helped(&rt, alloc, "bactool|help|pack");
@@ -760,6 +794,8 @@ fn words_for_help_are_answered_with_it(rt: HostRuntime) {
     let usage = "\nUsage: bactool show [--strict] < FILE\n";
     is_no_job(&rt, alloc, "bactool|help|show", help, usage);
     is_no_job(&rt, alloc, "bactool|show|--help", help, usage);
+    let usage = "\nUsage: bactool explain [--strict] < FILE\n";
+    is_no_job(&rt, alloc, "bactool|help|explain", help, usage);
     let usage = "\nUsage: bactool pack < FILE\n";
     is_no_job(&rt, alloc, "bactool|help|pack", help, usage);
     let usage = "\nUsage: bactool read < FILE\n";
@@ -776,6 +812,8 @@ fn a_named_file_is_refused(rt: HostRuntime) {
     let unknown = error::ErrorKind::UnknownArgument;
     let usage = "\nUsage: bactool show [--strict] < FILE\n";
     is_no_job(&rt, alloc, "bactool|show|a.frames", unknown, usage);
+    let usage = "\nUsage: bactool explain [--strict] < FILE\n";
+    is_no_job(&rt, alloc, "bactool|explain|a.frames", unknown, usage);
     let usage = "\nUsage: bactool check [--strict] < FILE\n";
     is_no_job(&rt, alloc, "bactool|check|a.frames", unknown, usage);
     let usage = "\nUsage: bactool normalise [--strict] < FILE\n";

@@ -2,7 +2,7 @@
 
 use crate::octets::{FIRST, is_appended};
 use crate::told::Told;
-use bac_apdu::layers::is_canonical_apdu;
+use bac_apdu::layers::check_apdu;
 use bac_apdu::{Apdu, append_apdu, decode_apdu, decode_apdu_marked, encode_apdu};
 use bac_tag::{OutOfMemory, Refusal};
 use std::alloc::Global;
@@ -11,8 +11,8 @@ use std::alloc::Global;
 pub fn told(alloc: Global, octets: &[u8]) -> Result<Told, OutOfMemory> {
     match decode_apdu_marked(alloc, octets) {
         Ok((apdu, mark)) => {
-            if mark.is_some() && is_canonical_apdu(alloc, octets) {
-                return Ok(Told::Differs("is_canonical_apdu"));
+            if check_apdu(alloc, octets) != Ok(mark) {
+                return Ok(Told::Differs("check_apdu"));
             }
             if !is_like(alloc, octets, &apdu)? {
                 return Ok(Told::Differs("decode_apdu, or ==, or clone"));
@@ -20,12 +20,15 @@ pub fn told(alloc: Global, octets: &[u8]) -> Result<Told, OutOfMemory> {
             written(alloc, &apdu, mark)
         }
         Err(refusal) if is_refused(alloc, octets, refusal) => Ok(Told::Refused(refusal)),
-        Err(_) => Ok(Told::Differs("decode_apdu")),
+        Err(_) => Ok(Told::Differs("decode_apdu, or check_apdu")),
     }
 }
 
-/// Returns true if the octets are refused so, also without their mark.
+/// Returns true if the octets are refused so, also without their mark and where they are only checked.
 fn is_refused(alloc: Global, octets: &[u8], refusal: Refusal) -> bool {
+    if check_apdu(alloc, octets) != Err(refusal) {
+        return false;
+    }
     match decode_apdu(alloc, octets) {
         Ok(_) => false,
         Err(other) => other == refusal,

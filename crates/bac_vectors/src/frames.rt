@@ -3,8 +3,8 @@
 use crate::octets::{FIRST, is_appended, record_of};
 use crate::told::Told;
 use bac_npdu::{
-    Frame, append_frame, decode_frame, decode_marked, decode_strict, encode_frame, normalise_frame,
-    same_meaning,
+    Frame, append_frame, check_frame, decode_frame, decode_marked, decode_strict, encode_frame,
+    normalise_frame, same_meaning,
 };
 use bac_stream::{Counted, Mode, run_check, run_normalise};
 use bac_tag::{OutOfMemory, Refusal, Why};
@@ -48,6 +48,9 @@ fn dissenting(
     }
     if !is_plain(alloc, octets, frame, written)? {
         return Ok(Some("decode_frame, or =="));
+    }
+    if check_frame(alloc, octets) != Ok(mark) {
+        return Ok(Some("check_frame"));
     }
     let flaw = mark.map(|place| Why::NotCanonical.at(place));
     if decode_strict(alloc, octets).err() != flaw {
@@ -144,6 +147,9 @@ fn accepting(
 ) -> Result<Option<&'static str>, OutOfMemory> {
     if decode_frame(alloc, octets).err() != Some(refusal) {
         return Ok(Some("decode_frame"));
+    }
+    if check_frame(alloc, octets) != Err(refusal) {
+        return Ok(Some("check_frame"));
     }
     if decode_strict(alloc, octets).err() != Some(refusal) {
         return Ok(Some("decode_strict"));

@@ -4,7 +4,7 @@ ghost use Rattle.std.specs.Prelude.{◌≤◌};
 
 use crate::faults::RowFault;
 use crate::told::Told;
-use bac_data::layers::canonical_any_len;
+use bac_data::layers::check_any;
 use bac_data::{Any, read_any, read_any_marked, write_any};
 use bac_tag::OutOfMemory;
 use std::alloc::Global;
@@ -20,7 +20,13 @@ pub fn told(alloc: Global, number: u8, octets: &[u8]) -> Result<Told, RowFault> 
     }
     match read_any_marked(alloc, octets, number) {
         Ok((_, taken, _)) if taken != octets.len() => { Ok(Told::Differs("the end of the value")) }
+        Ok((_, taken, mark)) if check_any(octets, number) != Ok((taken, mark)) => {
+            Ok(Told::Differs("check_any"))
+        }
         Ok((value, _, mark)) => Ok(written(alloc, number, octets, &value, mark)?),
+        Err(refusal) if check_any(octets, number) != Err(refusal) => {
+            Ok(Told::Differs("check_any"))
+        }
         Err(refusal) => Ok(match read_any(alloc, octets, number) {
             Err(plain) if plain == refusal => Told::Refused(refusal),
             _ => Told::Differs("read_any"),
@@ -40,7 +46,7 @@ fn written(
 {
     let mut out = Vec::new(alloc);
     write_any(value, number, &mut out)?;
-    let call = dissenting(alloc, number, octets, value, mark)?;
+    let call = dissenting(alloc, number, octets, value)?;
     Ok(Told::unless(call, out, mark))
 }
 
@@ -50,15 +56,9 @@ fn dissenting(
     number: u8,
     octets: &[u8],
     value: &Any,
-    mark: Option<usize>,
 ) -> Result<Option<&'static str>, OutOfMemory>
     requires { number ≤ 254 }
 {
-    // The tags of a value that is found at once have one octet.
-    let wanted = mark.is_none().then_some(octets.len());
-    if number < 15 && canonical_any_len(octets, number) != wanted {
-        return Ok(Some("canonical_any_len"));
-    }
     match read_any(alloc, octets, number) {
         Ok((plain, end)) if end == octets.len() => {
             Ok((!is_like(&plain, value)?).then_some("read_any"))

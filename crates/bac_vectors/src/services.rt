@@ -2,6 +2,7 @@
 
 use crate::octets::{FIRST, is_appended};
 use crate::told::Told;
+use bac_service::layers::check_service;
 use bac_service::{
     Kind, Service, append_service, decode_service, decode_service_marked, encode_service,
 };
@@ -12,6 +13,9 @@ use std::alloc::Global;
 pub fn told(alloc: Global, kind: Kind, choice: u8, octets: &[u8]) -> Result<Told, OutOfMemory> {
     match decode_service_marked(alloc, kind, choice, octets) {
         Ok((service, mark)) => {
+            if check_service(alloc, kind, choice, octets) != Ok(mark) {
+                return Ok(Told::Differs("check_service"));
+            }
             if service.kind() != kind || service.choice() != choice {
                 return Ok(Told::Differs("kind or choice"));
             }
@@ -23,12 +27,15 @@ pub fn told(alloc: Global, kind: Kind, choice: u8, octets: &[u8]) -> Result<Told
         Err(refusal) if is_refused(alloc, kind, choice, octets, refusal) => {
             Ok(Told::Refused(refusal))
         }
-        Err(_) => Ok(Told::Differs("decode_service")),
+        Err(_) => Ok(Told::Differs("decode_service, or check_service")),
     }
 }
 
-/// Returns true if the octets are refused so, also without their mark.
+/// Returns true if the octets are refused so, also without their mark and where they are only checked.
 fn is_refused(alloc: Global, kind: Kind, choice: u8, octets: &[u8], refusal: Refusal) -> bool {
+    if check_service(alloc, kind, choice, octets) != Err(refusal) {
+        return false;
+    }
     match decode_service(alloc, kind, choice, octets) {
         Ok(_) => false,
         Err(other) => other == refusal,

@@ -1,13 +1,10 @@
-use Rattle.bac_c.proofs.OutcomeLemmas.{hopeless}
 use Rattle.bac_c.proofs.knowing.accepted.Goals as goal
 
 pub returns-in-Ok-clause-spelled : goal.returns-in-Ok-clause-spelled
-returns-in-Ok-clause-spelled c = let m = c.in-Ok.ensures.made in (m.value, m.spelled)
+returns-in-Ok-clause-spelled c = let f = c.in-Ok.ensures.found in (f.value, f.spelled)
 
 pub returns-in-Err-clause-refused : goal.returns-in-Err-clause-refused
-returns-in-Err-clause-refused c =
-    let e = c.in-Err.ensures in
-    λ memory. hopeless c.args.octets.now c.in-Err.refusal memory (e.refused memory) e.versions e.addresses e.types e.windows e.reasons
+returns-in-Err-clause-refused c = let e = c.in-Err.ensures in record { refused = e.refused; reasoned = e.reasons; memory = e.memory }
 
 pub returns-in-Err-clause-within : goal.returns-in-Err-clause-within
-returns-in-Err-clause-within c = λ memory. (c.in-Err.ensures.refused memory).furthest.within
+returns-in-Err-clause-within c = c.in-Err.ensures.refused.furthest.within

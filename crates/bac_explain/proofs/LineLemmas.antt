@@ -1,0 +1,170 @@
+-- The lines of pieces, one after another.
+use Rattle.std.proofs.Common.{◌≡◌, ℕ, ◌+◌, ◌-◌, ◌*◌, ◌/◌, List, [], ◌∷◌, ◌++◌, length, refl, sym, ap, ◌∙◌, append_assoc, add-one, replicate, take, get_or, subst, ◌<◌, eqb, true, arith, inl, inr}
+use Rattle.std.proofs.lemmas.List.{append-nil, replicate-append-replicate, take_more}
+use Rattle.std.specs.Prelude.{Bool, Option, None, Result, Ok, Err, OnOk, OnErr, codes, drop, slice_get}
+use Rattle.std.specs.Cmp.Lexicographic.{pointwise, bytes_decides}
+use Rattle.std.specs.Fmt.{decimal}
+use Rattle.bac_value.specs.declared.prim.PrimitiveValue.{PrimitiveValue}
+use Rattle.bac_text.specs.PrimitiveText.{primitive_text}
+use Rattle.bac_tag.specs.Octets.{Extends}
+use Rattle.bac_explain.specs.declared.piece.Piece.{Piece}
+use Rattle.bac_explain.specs.Lines.{AreLines, blanks, column, front_text, further_line, further_lines, piece_lines, place_text}
+use Rattle.bac_field_parts.specs.declared.field.Field.{Field}
+use Rattle.bac_explain.specs.NamedLines.{AreLinesOf, AreNamedLines, IsNote, IsSaidBeside, left_for}
+use Rattle.bac_explain.specs.declared.verdict.Verdict.{Verdict}
+use Rattle.bac_explain.specs.declared.verdict.Verdict.TheVariants.{Accepted}
+use Rattle.bac_explain.specs.Explained.{Explains}
+use Rattle.bac_explain.specs.Explanations.{IsExplanation, IsNamedExplanation}
+use Rattle.bac_explain.specs.Tiles.{octets_of}
+use Rattle.bac_explain.specs.Words.{IsValue, IsSaid, IsSaidOfValue, contents_words}
+
+-- two texts, one after the other
+pub appended : (old mid new a b : List ℕ) → mid ≡ old ++ a → new ≡ mid ++ b → new ≡ old ++ (a ++ b)
+appended old mid new a b q r = r ∙ ap (λ l. l ++ b) q ∙ append_assoc old a b
+
+-- a value was appended
+pub said_value : {E : Type 0} (number len : ℕ) (contents old new : List ℕ) (r : Result Unit E) (prim : PrimitiveValue) (is : IsValue number len contents) → prim ≡ is.2.value → OnOk r (new ≡ old ++ primitive_text prim) → OnOk r ((said : List ℕ) × (new ≡ old ++ said) × IsSaidOfValue number len contents said)
+said_value number len contents old new (Ok done) prim is e q = (primitive_text prim, q, inl (is, ap primitive_text e))
+said_value number len contents old new (Err fault) prim is e q = tt
+
+-- the contents were appended as they are
+pub said_type : {E : Type 0} (number len : ℕ) (contents old new : List ℕ) (r : Result Unit E) → (IsValue number len contents → ⊥) → OnOk r (new ≡ old ++ ((codes "type " ++ decimal number) ++ contents_words len contents)) → OnOk r ((said : List ℕ) × (new ≡ old ++ said) × IsSaidOfValue number len contents said)
+said_type number len contents old new (Ok done) none q = ((codes "type " ++ decimal number) ++ contents_words len contents, q, inr (none, refl))
+said_type number len contents old new (Err fault) none q = tt
+
+-- one more line of the octets of a piece
+pub further_more : (p : Piece) (own old mid new : List ℕ) (k : ℕ) → mid ≡ old ++ further_lines p own k → new ≡ mid ++ further_line p own (k + 1) → new ≡ old ++ further_lines p own (k + 1)
+further_more p own old mid new k q r =
+    appended old mid new (further_lines p own k) (further_line p own (k + 1)) q r
+    ∙ ap (λ n. old ++ (further_lines p own k ++ further_line p own n)) (add-one k)
+    ∙ sym (ap (λ n. old ++ further_lines p own n) (add-one k))
+
+-- lines so far, and what came of a call that was refused memory
+pub refused_after : {E : Type 0} (r : Result Unit E) (old mid new text : List ℕ) → mid ≡ old ++ text → Extends mid new → OnErr r (Extends old new)
+refused_after (Ok done) old mid new text q x = tt
+refused_after (Err fault) old mid new text q x = (text ++ x.0, x.1 ∙ ap (λ l. l ++ x.0) q ∙ append_assoc old text x.0)
+
+-- as many blanks twice
+pub twice : {E : Type 0} (r : Result Unit E) (old mid new : List ℕ) (n : ℕ) → mid ≡ old ++ replicate n 32 → OnOk r (new ≡ mid ++ replicate n 32) → OnOk r (new ≡ old ++ blanks (2 * n))
+twice (Ok done) old mid new n q r =
+    appended old mid new (replicate n 32) (replicate n 32) q r
+    ∙ ap (λ l. old ++ l) (replicate-append-replicate n n 32)
+    ∙ ap (λ k. old ++ replicate k 32) (omega arith)
+twice (Err fault) old mid new n q r = tt
+
+-- the last of two texts, where the result of its call is handed on
+pub written_last : {E : Type 0} (r : Result Unit E) (old mid new a b : List ℕ) → mid ≡ old ++ a → OnOk r (new ≡ mid ++ b) → OnOk r (new ≡ old ++ (a ++ b))
+written_last (Ok done) old mid new a b q r = appended old mid new a b q r
+written_last (Err fault) old mid new a b q r = tt
+
+-- the last of three texts, where the result of its call is handed on
+pub third : {E : Type 0} (r : Result Unit E) (old one two new a b c : List ℕ) → one ≡ old ++ a → two ≡ one ++ b → OnOk r (new ≡ two ++ c) → OnOk r (new ≡ old ++ (a ++ (b ++ c)))
+third (Ok done) old one two new a b c p q r =
+    appended old two new (a ++ b) c (appended old one two a b p q) r ∙ ap (λ l. old ++ l) (append_assoc a b c)
+third (Err fault) old one two new a b c p q r = tt
+
+-- the words of a piece, and what is after them
+pub said_piece : {E : Type 0} (P : List ℕ → Type 0) (r : Result Unit E) (p : Piece) (own old one two new said : List ℕ) → one ≡ old ++ (place_text p.place ++ (column (front_text p own) ++ blanks (2 * p.depth))) → two ≡ one ++ said → P said
+    → OnOk r (new ≡ two ++ (codes "\n" ++ further_lines p own ((length own - 1) / 8))) → OnOk r ((x : List ℕ) × P x × (new ≡ old ++ piece_lines p own x))
+said_piece P (Ok done) p own old one two new said q x is r =
+    let place = place_text p.place in
+    let octets = column (front_text p own) in
+    let indent = blanks (2 * p.depth) in
+    let end = codes "\n" in
+    let rest = further_lines p own ((length own - 1) / 8) in
+    let whole = appended old two new ((place ++ (octets ++ indent)) ++ said) (end ++ rest) (appended old one two (place ++ (octets ++ indent)) said q x) r in
+    let moved : ((place ++ (octets ++ indent)) ++ said) ++ (end ++ rest) ≡ (place ++ (octets ++ (indent ++ (said ++ end)))) ++ rest =
+    sym (append_assoc ((place ++ (octets ++ indent)) ++ said) end rest)
+    ∙ ap (λ l. l ++ rest) (append_assoc (place ++ (octets ++ indent)) said end ∙ append_assoc place (octets ++ indent) (said ++ end) ∙ ap (λ l. place ++ l) (append_assoc octets indent (said ++ end))) in
+    (said, is, whole ∙ ap (λ l. old ++ l) moved)
+said_piece P (Err fault) p own old one two new said q x is r = tt
+
+-- an extension of an extension
+pub extended : (old mid new : List ℕ) → Extends old mid → Extends mid new → Extends old new
+extended old mid new x y = (x.0 ++ y.0, y.1 ∙ ap (λ l. l ++ y.0) x.1 ∙ append_assoc old x.0 y.0)
+
+-- what is refused after a text
+pub refused_last : {E : Type 0} (r : Result Unit E) (old mid new : List ℕ) → Extends old mid → OnErr r (Extends mid new) → OnErr r (Extends old new)
+refused_last (Ok done) old mid new x y = tt
+refused_last (Err fault) old mid new x y = extended old mid new x y
+
+-- the lines of one more piece
+pub lines_more : (octets : List ℕ) (ps : List Piece) (p : Piece) (lines said : List ℕ) → AreLines octets ps lines → IsSaid p (octets_of octets p) said → AreLines octets (ps ++ p ∷ []) (lines ++ piece_lines p (octets_of octets p) said)
+lines_more octets [] p lines said is says = (said, says, ([], refl, ap (λ l. l ++ piece_lines p (octets_of octets p) said) is ∙ sym (append-nil (piece_lines p (octets_of octets p) said))))
+lines_more octets (x ∷ xs) p lines said is says =
+    let more = piece_lines p (octets_of octets p) said in
+    let first = piece_lines x (octets_of octets x) is.0 in
+    (is.0, is.1, (is.2.0 ++ more, lines_more octets xs p is.2.0 said is.2.1 says, ap (λ l. l ++ more) is.2.2 ∙ append_assoc first is.2.0 more))
+
+-- the lines so far, after one more turn
+pub lines_step : (octets : List ℕ) (ps : List Piece) (i : ℕ) (d : Piece) (own old mid new lines : List ℕ) → i < length ps → own ≡ octets_of octets (get_or ps i d) → mid ≡ old ++ lines → AreLines octets (take i ps) lines
+    → (said : List ℕ) × IsSaid (get_or ps i d) own said × (new ≡ mid ++ piece_lines (get_or ps i d) own said) → (x : List ℕ) × (new ≡ old ++ x) × AreLines octets (take (i + 1) ps) x
+lines_step octets ps i d own old mid new lines below is q are said =
+    let p = get_or ps i d in
+    let more = piece_lines p own said.0 in (
+      lines ++ more,
+      appended old mid new lines more q said.2,
+      subst (λ l. AreLines octets l (lines ++ more)) (sym (take_more ps i d below))
+          (subst (λ o. AreLines octets (take i ps ++ p ∷ []) (lines ++ piece_lines p o said.0)) (sym is) (lines_more octets (take i ps) p lines said.0 are (subst (λ o. IsSaid p o said.0) is said.1))),
+    )
+
+-- the lines of pieces, whatever the lines of the others are
+pub Continues : List ℕ → List ℕ → List Field → List Piece → List Piece → List Field → List Piece → List Piece → List ℕ → Type 0
+Continues octets canonical fields all others ahead left right done =
+    (rest : List ℕ) → AreNamedLines octets canonical ahead left right rest → AreNamedLines octets canonical fields all others (done ++ rest)
+
+-- one more piece
+pub continued : (octets canonical : List ℕ) (fields : List Field) (all others : List Piece) (ahead : List Field) (p : Piece) (left right : List Piece) (done first : List ℕ) → AreLinesOf octets canonical (left_for right ahead) p (slice_get right 0) first
+    → Continues octets canonical fields all others ahead (p ∷ left) right done → Continues octets canonical fields all others (left_for right ahead) left (drop 1 right) (done ++ first)
+unfolding Continues
+continued octets canonical fields all others ahead p left right done first is goes rest are =
+    subst (λ l. AreNamedLines octets canonical fields all others l) (sym (append_assoc done first rest)) (goes (first ++ rest) (first, is, (rest, are, refl)))
+
+-- at first all pieces are left
+pub begun : (octets canonical : List ℕ) (fields : List Field) (all others : List Piece) → Continues octets canonical fields all others fields all others []
+unfolding Continues
+begun octets canonical fields all others rest are = are
+
+-- at last none is left
+pub all_told : (octets canonical : List ℕ) (fields : List Field) (all others : List Piece) (ahead : List Field) (left right : List Piece) (done : List ℕ) → length left ≡ 0 → Continues octets canonical fields all others ahead left right done → AreNamedLines octets canonical fields all others done
+unfolding Continues
+all_told octets canonical fields all others ahead [] right done none goes = subst (λ l. AreNamedLines octets canonical fields all others l) (append-nil done) (goes [] refl)
+all_told octets canonical fields all others ahead (p ∷ left) right done none goes = absurd (omega (arith, none))
+
+-- equal octets compare as equal
+pub same_octets : (a b : List ℕ) → a ≡ b → pointwise eqb a b ≡ true
+same_octets a b is = (bytes_decides a b).1 is
+
+-- the canonical octets were appended, which are not its own
+pub noted : {E : Type 0} (r : Result Unit E) (own : List ℕ) (q : Piece) (canonical old mid new : List ℕ) → (own ≡ canonical → ⊥) → mid ≡ old ++ codes "  ~ " → OnOk r (new ≡ mid ++ front_text q canonical) → OnOk r ((x : List ℕ) × (new ≡ old ++ x) × IsNote own q canonical x)
+noted (Ok done) own q canonical old mid new other p r = (codes "  ~ " ++ front_text q canonical, appended old mid new (codes "  ~ ") (front_text q canonical) p r, inr (other, refl))
+noted (Err fault) own q canonical old mid new other p r = tt
+
+-- the lines of a piece beside the first one of the canonical octets
+pub beside_first : {E : Type 0} (r : Result Unit E) (octets canonical : List ℕ) (fields : List Field) (p : Piece) (others : List Piece) (d : Piece) (own beside old new : List ℕ) → 0 < length others → own ≡ octets_of octets p → beside ≡ octets_of canonical (get_or others 0 d)
+    → OnOk r ((said : List ℕ) × IsSaidBeside fields p own (get_or others 0 d) beside said × (new ≡ old ++ piece_lines p own said)) → OnOk r ((x : List ℕ) × (new ≡ old ++ x) × AreLinesOf octets canonical fields p (slice_get others 0) x)
+beside_first (Ok done) octets canonical fields p [] d own beside old new some is is_beside told = absurd (omega (arith, some))
+beside_first (Ok done) octets canonical fields p (q ∷ qs) d own beside old new some is is_beside told =
+    let said = told.0 in (
+      piece_lines p own said,
+      told.2,
+      (
+        said,
+        subst (λ o. IsSaidBeside fields p o q (octets_of canonical q) said) is (subst (λ o. IsSaidBeside fields p own q o said) is_beside told.1),
+        ap (λ o. piece_lines p o said) is,
+      ),
+    )
+beside_first (Err fault) octets canonical fields p others d own beside old new some is is_beside told = tt
+
+-- the lines of all pieces explain the octets
+pub explained_lines : {E : Type 0} (r : Result Unit E) (octets : List ℕ) (v : Verdict) (slice pieces : List Piece) (old new : List ℕ) → slice ≡ pieces → Explains octets v pieces → OnOk r ((x : List ℕ) × (new ≡ old ++ x) × AreLines octets slice x) → OnOk r ((x : List ℕ) × (new ≡ old ++ x) × IsExplanation octets v x)
+explained_lines (Ok done) octets v slice pieces old new is explains told = (told.0, told.1, (pieces, explains, subst (λ l. AreLines octets l told.0) is told.2))
+explained_lines (Err fault) octets v slice pieces old new is explains told = tt
+
+-- the same beside the pieces of the canonical octets
+pub named_explained : {E : Type 0} (r : Result Unit E) (octets : List ℕ) (mark : Option ℕ) (typed : Bool) (canonical : List ℕ) (fields : List Field) (slice pieces beside others : List Piece) (old new : List ℕ) → slice ≡ pieces → beside ≡ others → Explains octets (Accepted mark typed) pieces → Explains canonical (Accepted None typed) others
+    → OnOk r ((x : List ℕ) × (new ≡ old ++ x) × AreNamedLines octets canonical fields slice beside x) → OnOk r ((x : List ℕ) × (new ≡ old ++ x) × IsNamedExplanation octets mark typed canonical fields x)
+named_explained (Ok done) octets mark typed canonical fields slice pieces beside others old new is same explains least told =
+    let lines = told.0 in
+    (lines, told.1, (pieces, explains, (others, least, subst (λ l. AreNamedLines octets canonical fields pieces l lines) same (subst (λ l. AreNamedLines octets canonical fields l beside lines) is told.2))))
+named_explained (Err fault) octets mark typed canonical fields slice pieces beside others old new is same explains least told = tt

@@ -1,0 +1,6 @@
+use Rattle.std.proofs.Common.{◌≡◌, ◌++◌, replicate}
+use Rattle.bac_explain.proofs.appending.append_blanks.Given as goal
+
+-- As many blanks so far as turns.
+abbrev pub invariant-loop : goal.invariant-loop
+invariant-loop l = l.out.items ≡ l.fn.out.items ++ replicate l.counter 32
