@@ -58,7 +58,7 @@ test: need-rt
 	@scripts/try-look
 	@test ! -e bin/bactool || $(MAKE) --no-print-directory helpers
 	@if ! command -v python3 > /dev/null; then echo "helpers: left out, since there is no python3"; else \
-		scripts/try-capture && scripts/try-with-names && scripts/try-npdus-from-capture; fi
+		scripts/try-explain && scripts/try-capture && scripts/try-with-names && scripts/try-npdus-from-capture; fi
 
 check: need-rt
 	@rt all check

@@ -32,8 +32,8 @@
  *   - Frames, fields and texts may have any length: memory is the only limit. The 65,535 octets of a record limit the
  *     files of the program `bactool`, and the segments of bactool_cut and bactool_join. What is inside a frame has
  *     limits: at most 32 groups nest, and the contents of one element of a value have at most 1,048,576 octets.
- *   - What a call writes, `out`, `fields` and `outcome`, must not overlap anything else that is passed to it. What it
- *     reads may overlap, and is never written.
+ *   - What a call writes, `out`, `fields`, `head`, `pieces` and `outcome`, must not overlap anything else that is
+ *     passed to it. What it reads may overlap, and is never written.
  *   - Each call except bactool_reason, bactool_name and bactool_version returns one of the codes below and fills in the
  *     whole of `outcome`. If the code is not BACTOOL_OK, `out` and `fields` are as they were. If it is, what is after
  *     the octets and the fields that are written is as it was. No text ends in a NUL.
@@ -69,6 +69,8 @@ extern "C" {
 #define BACTOOL_HAS_HEAD 1
 #define BACTOOL_HAS_CUT 1
 #define BACTOOL_HAS_JOIN 1
+#define BACTOOL_HAS_EXPLAIN 1
+#define BACTOOL_HAS_PIECE_TEXT 1
 
 /* A conversion that compilers for C and for C++ take without a warning. */
 #ifdef __cplusplus
@@ -135,7 +137,8 @@ struct bactool_outcome {
                       of a segment, counted from 0. Each call says which */
     size_t count;  /* the number of octets that are written, or that would be with enough capacity. Where bactool_join
                       refuses a record, it is the index of the record */
-    size_t fields; /* the number of fields that bactool_decode writes, or would write with enough capacity */
+    size_t fields; /* the number of fields that bactool_decode writes, or of pieces that bactool_explain writes, or that
+                      they would write with enough capacity */
 };
 
 /*
@@ -276,7 +279,7 @@ struct bactool_field {
 #define BACTOOL_OBJECT_INSTANCE(number) BACTOOL_CAST(uint32_t, (number) & 0x3FFFFFu)
 
 /*
- * Checks whether octets are the canonical ones of a frame.
+ * Checks whether octets are the canonical ones of a frame. It takes no memory.
  *
  *   BACTOOL_OK          they are the canonical ones
  *   BACTOOL_TOLERATED   they encode a frame otherwise: `place` is the offset of the first octet that differs from the
@@ -284,7 +287,6 @@ struct bactool_field {
  *   BACTOOL_REFUSED     no frame: `why`, and `place` is the offset of the first octet that no frame has there, or
  *                       `length` with BACTOOL_SHORT. If `strict` is true, octets that encode a frame otherwise are
  *                       refused too: `why` is BACTOOL_NOT_CANONICAL, and `place` is the offset of that first octet
- *   BACTOOL_NO_MEMORY   memory was refused
  *
  *     struct bactool_outcome outcome;
  *     if (bactool_check(octets, length, false, &outcome) == BACTOOL_REFUSED)
@@ -348,12 +350,11 @@ struct bactool_frame_head {
  * Reports what is known of a frame, also if it is refused. A server needs it to answer a request that it does not
  * understand: the Reject or the Abort repeats the invoke id, and goes back to the source. What is known is so of every
  * frame that begins with the octets before `place`. All of `head` is written, whatever the code. The frame is checked as
- * by bactool_check, which may take memory.
+ * by bactool_check, without memory.
  *
  *   BACTOOL_OK          the octets encode a frame: `known` is BACTOOL_KNOWN_ALL
  *   BACTOOL_REFUSED     no frame: `why`, and `place` is the offset of the first octet that no frame has there, or
  *                       `length` with BACTOOL_SHORT. `head` is what the octets before `place` say
- *   BACTOOL_NO_MEMORY   memory was refused. `head` is what all the octets say
  *
  *     struct bactool_frame_head head;
  *     if (bactool_head(octets, length, &head, &outcome) == BACTOOL_REFUSED
@@ -362,6 +363,104 @@ struct bactool_frame_head {
  */
 uint32_t bactool_head(const uint8_t *octets, size_t length, struct bactool_frame_head *head,
                       struct bactool_outcome *outcome);
+
+/* What a piece of a frame is. bactool_piece_text says it in words. The numbers never change. */
+enum bactool_piece_kind {
+    BACTOOL_PIECE_VERSION = 1,             /* the version octet */
+    BACTOOL_PIECE_CONTROL = 2,             /* the control octet (clause 6.2.2) */
+    BACTOOL_PIECE_DESTINATION_NETWORK = 3, /* the network of the destination */
+    BACTOOL_PIECE_DESTINATION_LENGTH = 4,  /* how many octets the address of the destination has */
+    BACTOOL_PIECE_DESTINATION_ADDRESS = 5, /* the address of the destination */
+    BACTOOL_PIECE_SOURCE_NETWORK = 6,      /* the network of the source */
+    BACTOOL_PIECE_SOURCE_LENGTH = 7,       /* how many octets the address of the source has */
+    BACTOOL_PIECE_SOURCE_ADDRESS = 8,      /* the address of the source */
+    BACTOOL_PIECE_HOP_COUNT = 9,           /* the hop count of the destination */
+    BACTOOL_PIECE_ADDRESSES = 10,          /* the first octets of addresses that are not whole */
+    BACTOOL_PIECE_MESSAGE_TYPE = 11,       /* the type of a network message */
+    BACTOOL_PIECE_VENDOR = 12,             /* the vendor of a network message */
+    BACTOOL_PIECE_DATA = 13,               /* the data of a network message */
+    /* The first octet of an APDU, by its type (clause 20.1). */
+    BACTOOL_PIECE_CONFIRMED_REQUEST = 14,
+    BACTOOL_PIECE_REQUEST_SEGMENT = 15, /* a segment of a Confirmed-Request */
+    BACTOOL_PIECE_UNCONFIRMED_REQUEST = 16,
+    BACTOOL_PIECE_SIMPLE_ACK = 17,
+    BACTOOL_PIECE_COMPLEX_ACK = 18,
+    BACTOOL_PIECE_ACK_SEGMENT = 19, /* a segment of a ComplexACK */
+    BACTOOL_PIECE_SEGMENT_ACK = 20,
+    BACTOOL_PIECE_ERROR = 21,
+    BACTOOL_PIECE_REJECT = 22,
+    BACTOOL_PIECE_ABORT = 23,
+    BACTOOL_PIECE_ACCEPTED = 24,  /* how long an answer is accepted, in segments and in octets */
+    BACTOOL_PIECE_INVOKE_ID = 25, /* the invoke id */
+    BACTOOL_PIECE_SEQUENCE = 26,  /* the sequence number of a segment */
+    BACTOOL_PIECE_WINDOW = 27,    /* the window of segments */
+    BACTOOL_PIECE_CHOICE = 28,    /* the service choice */
+    BACTOOL_PIECE_REASON = 29,    /* the reason of a Reject or an Abort */
+    BACTOOL_PIECE_PDU_HEAD = 30,  /* the first octets of a head of an APDU or of a network message that is not whole */
+    BACTOOL_PIECE_ELEMENT = 31,   /* a tag head and its contents */
+    BACTOOL_PIECE_UNJUDGED = 32,  /* the same in a service that is not decoded field by field */
+    BACTOOL_PIECE_SEGMENT = 33,   /* the octets of a segment */
+    BACTOOL_PIECE_OCTETS = 34,    /* other octets: of a service that is not decoded, or the first ones of a tag head */
+    BACTOOL_PIECE_REFUSED = 35,   /* the octet at the place of a refusal, or no octet with BACTOOL_SHORT */
+    BACTOOL_PIECE_REST = 36       /* the octets after the place of a refusal, which are not read */
+};
+
+/* The tag of a piece (clause 20.2.1). */
+enum bactool_piece_tag {
+    BACTOOL_TAG_APPLICATION = 1, /* an application tag: `number` is the type of its value */
+    BACTOOL_TAG_CONTEXT = 2,     /* a context tag */
+    BACTOOL_TAG_OPENING = 3,     /* a group begins */
+    BACTOOL_TAG_CLOSING = 4      /* a group ends */
+};
+
+/* A piece of the octets of a frame. */
+struct bactool_piece {
+    size_t place;    /* the offset of its first octet, counted from 0 */
+    size_t length;   /* how many octets it has */
+    size_t head;     /* how many of them are a tag head */
+    size_t depth;    /* how many groups are open around it */
+    uint32_t kind;   /* an enum bactool_piece_kind */
+    uint32_t tag;    /* an enum bactool_piece_tag, of BACTOOL_PIECE_ELEMENT and BACTOOL_PIECE_UNJUDGED, and else 0 */
+    uint32_t number; /* the number of the tag; of BACTOOL_PIECE_REFUSED the reason, an enum bactool_why; and else 0 */
+};
+
+/*
+ * Says what each octet of a frame is, also if it is refused: cuts the octets into pieces, as `bactool explain` prints
+ * them. The pieces are in order: the first one begins at 0, each other one where the one before it ends, and the last
+ * one ends with the octets. If the octets are refused, the pieces before `place` are those of a frame that begins so,
+ * the octet at `place` is one piece, BACTOOL_PIECE_REFUSED, and those after it are one, BACTOOL_PIECE_REST. The first
+ * `most` pieces are written at the front of `pieces`. There are at most `length` + 1, which is always enough.
+ *
+ *   BACTOOL_OK          the octets are the canonical ones of a frame: `fields` is the number of all their pieces
+ *   BACTOOL_TOLERATED   they encode a frame otherwise: `fields` too, and `place` is the offset of the first octet that
+ *                       differs from the canonical ones
+ *   BACTOOL_REFUSED     no frame: `fields` too, `why`, and `place` is the offset of the first octet that no frame has
+ *                       there, or `length` with BACTOOL_SHORT
+ *   BACTOOL_NO_MEMORY   memory was refused: no piece is written
+ *
+ *     struct bactool_piece pieces[1498];
+ *     char words[256];
+ *     if (bactool_explain(octets, length, pieces, 1498, &outcome) != BACTOOL_NO_MEMORY) {
+ *         size_t count = outcome.fields < 1498 ? outcome.fields : 1498;
+ *         for (size_t i = 0; i < count; i++)
+ *             if (bactool_piece_text(&pieces[i], octets, length, words, sizeof words, &outcome) == BACTOOL_OK)
+ *                 printf("%4zu %.*s\n", pieces[i].place, (int)outcome.count, words);
+ *     }
+ */
+uint32_t bactool_explain(const uint8_t *octets, size_t length, struct bactool_piece *pieces, size_t most,
+                         struct bactool_outcome *outcome);
+
+/*
+ * Writes, at the front of `out`, the words of a piece that bactool_explain wrote of these octets, as `bactool explain`
+ * prints them of a refused record: without the name of a field. To learn their length first, call with room 0.
+ *
+ *   BACTOOL_OK          they are written: `count` is the number of their octets
+ *   BACTOOL_NO_ROOM     `room` is too small for them: nothing is written, and `count` is the number of their octets
+ *   BACTOOL_REFUSED     the piece is not one of these octets
+ *   BACTOOL_NO_MEMORY   memory was refused
+ */
+uint32_t bactool_piece_text(const struct bactool_piece *piece, const uint8_t *octets, size_t length, char *out,
+                            size_t room, struct bactool_outcome *outcome);
 
 /*
  * Writes, at the front of `out`, the canonical octets of the frame that the octets encode. There are at most as many of
@@ -572,6 +671,9 @@ uint32_t bactool_cut(const uint8_t *octets, size_t length, size_t size, uint8_t 
  * enough: this is tested, not proved. The windows of the segments do not matter. To wait for segments, keep the
  * records, and call again when another one has come, as `examples/c/join.c` does. Records are counted from 0.
  *
+ * The call takes about as much memory as the octets to be written, and one segment is decoded at a time. If the joined
+ * octets of the service are not canonical, it takes several times as much. This is tested, not proved.
+ *
  *   BACTOOL_OK               they are written: `count` is their number
  *   BACTOOL_NO_ROOM          `room` is too small for them: nothing is written, and `count` is their number
  *   BACTOOL_TRUNCATED        the octets end within the record with the index `place`
@@ -675,6 +777,12 @@ static inline const struct bactool_field *bactool_said(const struct bactool_fiel
     return fields != NULL ? fields : &none;
 }
 
+static inline struct bactool_piece *bactool_pieces(struct bactool_piece *pieces)
+{
+    static struct bactool_piece none;
+    return pieces != NULL ? pieces : &none;
+}
+
 static inline uint32_t bactool_check_any(const uint8_t *octets, size_t length, bool strict,
                                          struct bactool_outcome *outcome)
 {
@@ -685,6 +793,18 @@ static inline uint32_t bactool_head_any(const uint8_t *octets, size_t length, st
                                         struct bactool_outcome *outcome)
 {
     return bactool_head(bactool_octets(octets), length, head, outcome);
+}
+
+static inline uint32_t bactool_explain_any(const uint8_t *octets, size_t length, struct bactool_piece *pieces,
+                                           size_t most, struct bactool_outcome *outcome)
+{
+    return bactool_explain(bactool_octets(octets), length, bactool_pieces(pieces), most, outcome);
+}
+
+static inline uint32_t bactool_piece_text_any(const struct bactool_piece *piece, const uint8_t *octets, size_t length,
+                                              char *out, size_t room, struct bactool_outcome *outcome)
+{
+    return bactool_piece_text(piece, bactool_octets(octets), length, bactool_text(out), room, outcome);
 }
 
 static inline uint32_t bactool_normalise_any(const uint8_t *octets, size_t length, uint8_t *out, size_t room,
@@ -749,6 +869,8 @@ static inline size_t bactool_name_any(uint32_t name, char *out, size_t room)
 
 #define bactool_check(...) bactool_check_any(__VA_ARGS__)
 #define bactool_head(...) bactool_head_any(__VA_ARGS__)
+#define bactool_explain(...) bactool_explain_any(__VA_ARGS__)
+#define bactool_piece_text(...) bactool_piece_text_any(__VA_ARGS__)
 #define bactool_normalise(...) bactool_normalise_any(__VA_ARGS__)
 #define bactool_decode(...) bactool_decode_any(__VA_ARGS__)
 #define bactool_encode(...) bactool_encode_any(__VA_ARGS__)

@@ -92,6 +92,7 @@ static void try_numbers(void)
     EXPECT(BACTOOL_MOST_FIELDS(0) == 2 && BACTOOL_MOST_FIELDS(1497) == 2996);
     EXPECT(bactool_version() == BACTOOL_VERSION && BACTOOL_HAS_ENCODE == 1 && BACTOOL_HAS_READ == 1);
     EXPECT(BACTOOL_HAS_HEAD == 1 && BACTOOL_HAS_CUT == 1 && BACTOOL_HAS_JOIN == 1);
+    EXPECT(BACTOOL_HAS_EXPLAIN == 1 && BACTOOL_HAS_PIECE_TEXT == 1);
 }
 
 /* In C++ the names are a type, beside the call bactool_name. */
@@ -131,6 +132,39 @@ static void try_segments(void)
     EXPECT(bactool_join(records, 15, NULL, 0, &outcome) == BACTOOL_INCOMPLETE && outcome.place == 1);
     EXPECT(bactool_join(NULL, 0, NULL, 0, &outcome) == BACTOOL_INCOMPLETE && outcome.place == 0);
     EXPECT(bactool_cut(NULL, 0, 6, 4, NULL, 0, &outcome) == BACTOOL_REFUSED && outcome.why == BACTOOL_SHORT);
+}
+
+/* Whether a piece is so. */
+static bool is_piece(struct bactool_piece piece, size_t place, size_t length, size_t head, uint32_t kind, uint32_t tag,
+                     uint32_t number)
+{
+    return piece.place == place && piece.length == length && piece.head == head && piece.kind == kind
+           && piece.tag == tag && piece.number == number;
+}
+
+/* Example 17 with priority 17, which is refused at octet 21, by its pieces. */
+static void try_pieces(void)
+{
+    static uint8_t octets[64];
+    static const char arrow[] = "<- Content";
+    struct bactool_piece pieces[COUNT(octets) + 1];
+    struct bactool_outcome outcome;
+    char words[256];
+    size_t length = octets_of("0104 0005030F 0C00400001 1955 3E 4442C80000 3F 4911", octets);
+    EXPECT(bactool_explain(octets, length, pieces, length + 1, &outcome) == BACTOOL_REFUSED);
+    EXPECT(outcome.why == BACTOOL_CONTENT && outcome.place == 21 && outcome.count == 0 && outcome.fields == 13);
+    EXPECT(is_piece(pieces[0], 0, 1, 0, BACTOOL_PIECE_VERSION, 0, 0));
+    EXPECT(is_piece(pieces[4], 4, 1, 0, BACTOOL_PIECE_INVOKE_ID, 0, 0));
+    EXPECT(is_piece(pieces[7], 11, 2, 1, BACTOOL_PIECE_ELEMENT, BACTOOL_TAG_CONTEXT, 1));
+    EXPECT(is_piece(pieces[8], 13, 1, 1, BACTOOL_PIECE_ELEMENT, BACTOOL_TAG_OPENING, 3) && pieces[8].depth == 0);
+    EXPECT(is_piece(pieces[9], 14, 5, 1, BACTOOL_PIECE_ELEMENT, BACTOOL_TAG_APPLICATION, 4) && pieces[9].depth == 1);
+    EXPECT(is_piece(pieces[10], 19, 1, 1, BACTOOL_PIECE_ELEMENT, BACTOOL_TAG_CLOSING, 3) && pieces[10].depth == 0);
+    EXPECT(is_piece(pieces[12], 21, 1, 0, BACTOOL_PIECE_REFUSED, 0, BACTOOL_CONTENT));
+    EXPECT(bactool_piece_text(&pieces[12], octets, length, NULL, 0, &outcome) == BACTOOL_NO_ROOM);
+    EXPECT(outcome.count >= sizeof arrow - 1);
+    EXPECT(bactool_piece_text(&pieces[12], octets, length, words, sizeof words, &outcome) == BACTOOL_OK);
+    EXPECT(outcome.count >= sizeof arrow - 1 && memcmp(words, arrow, sizeof arrow - 1) == 0);
+    EXPECT(bactool_explain(NULL, 0, NULL, 0, &outcome) == BACTOOL_REFUSED && outcome.fields == 1);
 }
 
 /* The lists of the header's comment are those of examples 1, 4 and 18. */
@@ -648,6 +682,7 @@ int main(int count, char **words)
     try_numbers();
     try_calls();
     try_segments();
+    try_pieces();
     try_lists();
     try_long();
     try_long_element();

@@ -31,6 +31,9 @@ enum { RECORDS = 1 << 18, MOST_SEGMENTS = 256 };
    them. Where memory is refused, there is room for some. */
 enum { FIELDS = 2 * (LONGEST + 2), SOME_FIELDS = 1 << 10 };
 
+/* Octets have at most one piece for each, and one more. They are written where fields are, which take more room. */
+enum { PIECES = LONGEST + 1, SOME_PIECES = SOME_FIELDS * sizeof(struct bactool_field) / sizeof(struct bactool_piece) };
+
 static _Atomic unsigned long faults;
 
 #define EXPECT(holds)                                                                \
@@ -90,6 +93,7 @@ static bool is_kept(struct yard yard, size_t room)
 struct bench {
     struct yard left, right, out, fields, records;
     struct bactool_field *known;
+    struct bactool_piece *explained;
     char *line;
     uint8_t *shown, *made, *mixed;
 };
@@ -97,8 +101,9 @@ struct bench {
 static struct bench new_bench(void)
 {
     struct bench bench = {new_yard(RECORDS), new_yard(LONGEST), new_yard(TEXT),
-                          new_yard(FIELDS * sizeof(struct bactool_field)), new_yard(RECORDS), NULL, NULL, NULL, NULL, NULL};
+                          new_yard(FIELDS * sizeof(struct bactool_field)), new_yard(RECORDS), NULL, NULL, NULL, NULL, NULL, NULL};
     bench.known = (struct bactool_field *)new_yard(FIELDS * sizeof(struct bactool_field)).end - FIELDS;
+    bench.explained = (struct bactool_piece *)new_yard(PIECES * sizeof(struct bactool_piece)).end - PIECES;
     bench.line = (char *)new_yard(TEXT).end - TEXT;
     bench.shown = new_yard(LONGEST).end - LONGEST;
     bench.made = new_yard(RECORDS).end - RECORDS;
@@ -357,6 +362,110 @@ static void try_decoded(struct bench bench, const uint8_t *octets, size_t length
     try_room(bench, octets, length, canonical, count, fields, count, 0, false);
 }
 
+/* ---- pieces */
+
+static struct bactool_piece *cleared_pieces(struct bench bench, size_t most)
+{
+    return (struct bactool_piece *)cleared(bench.fields, most * sizeof(struct bactool_piece));
+}
+
+static bool is_same_piece(struct bactool_piece left, struct bactool_piece right)
+{
+    return left.place == right.place && left.length == right.length && left.head == right.head
+           && left.depth == right.depth && left.kind == right.kind && left.tag == right.tag && left.number == right.number;
+}
+
+/* Explains with room for so many pieces: the first ones are written, and nothing else. */
+static void try_most(struct bench bench, const uint8_t *octets, size_t length, size_t count, size_t most)
+{
+    struct bactool_outcome told = UNTOLD;
+    struct bactool_piece *pieces = cleared_pieces(bench, most);
+    uint32_t code = bactool_explain(octets, length, most == 0 ? NULL : pieces, most, &told);
+    size_t written = most < count ? most : count;
+    EXPECT(code != BACTOOL_NO_MEMORY && told.fields == count);
+    for (size_t k = 0; k < written; k++)
+        EXPECT(is_same_piece(pieces[k], bench.explained[k]));
+    EXPECT(all_kept((uint8_t *)pieces - BEHIND, BEHIND));
+    EXPECT(all_kept((uint8_t *)(pieces + written), (most - written) * sizeof *pieces));
+}
+
+/* The members of a piece agree with one another. */
+static bool is_whole(struct bactool_piece piece)
+{
+    bool has_tag = piece.kind == BACTOOL_PIECE_ELEMENT || piece.kind == BACTOOL_PIECE_UNJUDGED;
+    bool has_number = has_tag || piece.kind == BACTOOL_PIECE_REFUSED;
+    return BACTOOL_PIECE_VERSION <= piece.kind && piece.kind <= BACTOOL_PIECE_REST && piece.tag <= BACTOOL_TAG_CLOSING
+           && has_tag == (piece.tag != 0) && has_tag == (piece.head > 0) && piece.head <= piece.length
+           && (has_number || piece.number == 0) && (piece.length > 0 || piece.kind == BACTOOL_PIECE_REFUSED);
+}
+
+/* The words of a piece are written where there is room for them. */
+static void try_words(struct bench bench, struct bactool_piece piece, const uint8_t *octets, size_t length)
+{
+    struct bactool_outcome told = UNTOLD;
+    EXPECT(bactool_piece_text(&piece, octets, length, NULL, 0, &told) == BACTOOL_NO_ROOM);
+    size_t count = told.count;
+    EXPECT(says(told, 0, 0, count) && 0 < count && count <= TEXT / 2);
+    char *out = (char *)cleared(bench.out, count);
+    EXPECT(bactool_piece_text(&piece, octets, length, out, count - 1, &told) == BACTOOL_NO_ROOM);
+    EXPECT(says(told, 0, 0, count) && is_kept(bench.out, count));
+    EXPECT(bactool_piece_text(&piece, octets, length, out, count, &told) == BACTOOL_OK && says(told, 0, 0, count));
+    EXPECT(all_kept((uint8_t *)out - BEHIND, BEHIND));
+}
+
+/* A piece that is none of these octets has words, or is refused. */
+static void try_other_pieces(struct bench bench, struct bactool_piece piece, const uint8_t *octets, size_t length)
+{
+    const size_t sizes[] = {0, 1, length, length + 1, SIZE_MAX - 1, SIZE_MAX};
+    const uint32_t numbers[] = {0, 1, 4, 5, 16, 36, 37, 255, 256, UINT32_MAX};
+    for (size_t k = 0; k < 60; k++) {
+        struct bactool_outcome told = UNTOLD;
+        struct bactool_piece other = piece;
+        size_t *const members[] = {&other.place, &other.length, &other.head, &other.depth};
+        uint32_t *const words[] = {&other.kind, &other.tag, &other.number};
+        *members[k % 4] = sizes[k % 6];
+        *members[(k + 1) % 4] = sizes[k / 6 % 6];
+        *words[k % 3] = numbers[k % 10];
+        char *out = (char *)cleared(bench.out, 64);
+        uint32_t code = bactool_piece_text(&other, octets, length, out, 64, &told);
+        EXPECT(code == BACTOOL_OK || code == BACTOOL_NO_ROOM || code == BACTOOL_REFUSED);
+        EXPECT(code == BACTOOL_OK ? told.count <= 64 : is_kept(bench.out, 64));
+    }
+}
+
+/* The pieces of octets, with the outcome of bactool_check: one after the other they are the octets, and one is at the place
+   of a refusal. */
+static void try_explained(struct bench bench, const uint8_t *octets, size_t length, uint32_t code,
+                          struct bactool_outcome found)
+{
+    struct bactool_outcome told = UNTOLD;
+    struct bactool_piece *pieces = cleared_pieces(bench, length + 1);
+    EXPECT(bactool_explain(octets, length, pieces, length + 1, &told) == code);
+    size_t count = told.fields, end = 0, arrows = 0;
+    EXPECT(tells(told, found.why, found.place, 0, count) && 0 < count && count <= length + 1);
+    for (size_t k = 0; k < count; k++) {
+        EXPECT(pieces[k].place == end && pieces[k].length <= length - end && is_whole(pieces[k]));
+        end += pieces[k].length;
+        if (pieces[k].kind == BACTOOL_PIECE_REFUSED) {
+            EXPECT(pieces[k].place == found.place && pieces[k].number == found.why);
+            EXPECT(pieces[k].length == (found.place < length));
+            arrows++;
+        }
+        EXPECT(pieces[k].kind != BACTOOL_PIECE_REST || (k + 1 == count && arrows == 1));
+    }
+    EXPECT(end == length && arrows == (code == BACTOOL_REFUSED));
+    EXPECT(all_kept((uint8_t *)(pieces + count), (length + 1 - count) * sizeof *pieces));
+    memcpy(bench.explained, pieces, count * sizeof *pieces);
+    const size_t rooms[] = {0, 1, count / 2, count - 1, count};
+    for (size_t k = 0; k < sizeof rooms / sizeof *rooms; k++)
+        try_most(bench, octets, length, count, rooms[k]);
+    for (size_t k = 0; k < count && k < 24; k++)
+        try_words(bench, bench.explained[k], octets, length);
+    try_words(bench, bench.explained[count - 1], octets, length);
+    if (length % 16 == 0)
+        try_other_pieces(bench, bench.explained[count / 2], octets, length);
+}
+
 /* ---- one input, by each call */
 
 static size_t first_difference(const uint8_t *left, size_t left_length, const uint8_t *right, size_t right_length)
@@ -487,6 +596,7 @@ static bool try_input(struct bench bench, const uint8_t *input, size_t length, b
     const uint8_t *octets = placed(bench.left, input, length);
     struct bactool_outcome told = UNTOLD;
     uint32_t code = bactool_check(octets, length, false, &told);
+    try_explained(bench, octets, length, code, told);
     switch (code) {
     case BACTOOL_OK:
     case BACTOOL_TOLERATED:
@@ -649,6 +759,7 @@ static void try_edges(struct bench bench)
 
     struct bactool_outcome told = UNTOLD;
     EXPECT(bactool_check(NULL, 0, false, &told) == BACTOOL_REFUSED && says(told, BACTOOL_SHORT, 0, 0));
+    EXPECT(bactool_explain(NULL, 0, NULL, 0, &told) == BACTOOL_REFUSED && tells(told, BACTOOL_SHORT, 0, 0, 1));
     EXPECT(bactool_normalise(NULL, 0, NULL, 0, &told) == BACTOOL_REFUSED && says(told, BACTOOL_SHORT, 0, 0));
     EXPECT(bactool_show(NULL, 0, NULL, 0, &told) == BACTOOL_REFUSED && says(told, BACTOOL_SHORT, 0, 0));
     EXPECT(bactool_same_meaning(NULL, 0, NULL, 0, &told) == BACTOOL_LEFT_REFUSED && says(told, BACTOOL_SHORT, 0, 0));
@@ -723,18 +834,19 @@ static void try_reasons(struct bench bench)
     try_text(bench, reason, UINT32_MAX, "");
 }
 
-enum { CALLS = 7 };
+enum { CALLS = 9 };
 
-/* The fields that octets come to, the canonical octets, and their line. */
+/* The fields that octets come to, the canonical octets, their line, and the first piece of the octets. */
 struct said {
     const struct bactool_field *fields;
     const uint8_t *octets;
     const char *line;
     size_t count, length, line_length;
+    struct bactool_piece piece;
 };
 
-/* One of the five calls that read a frame, or one of the two that make a frame of its fields or of its line, with room for
-   half a yard, and for some fields. */
+/* One of the six calls that read a frame, one of the two that make a frame of its fields or of its line, or the one that
+   writes the words of a piece, with room for half a yard, and for some fields or pieces. */
 static uint32_t call(int job, struct bench bench, const uint8_t *octets, size_t length, struct said said,
                      struct bactool_outcome *told)
 {
@@ -746,7 +858,9 @@ static uint32_t call(int job, struct bench bench, const uint8_t *octets, size_t 
            : job == 3 ? bactool_decode(octets, length, out, TEXT / 2, fields, SOME_FIELDS, told)
            : job == 4 ? bactool_same_meaning(octets, length, octets, length, told)
            : job == 5 ? bactool_encode(said.fields, said.count, said.octets, said.length, out, TEXT / 2, told)
-                      : bactool_read(said.line, said.line_length, out, TEXT / 2, told);
+           : job == 6 ? bactool_read(said.line, said.line_length, out, TEXT / 2, told)
+           : job == 7 ? bactool_explain(octets, length, (struct bactool_piece *)fields, SOME_PIECES, told)
+                      : bactool_piece_text(&said.piece, octets, length, (char *)out, TEXT / 2, told);
 }
 
 /* Each allocation refused in turn, with all after it or alone, till none is left. Until then a call reports it and writes
@@ -759,7 +873,8 @@ static void try_without_memory(struct bench bench, const uint8_t *input, size_t 
     bactool_decode(octets, length, canonical, LONGEST, bench.known, FIELDS, &read);
     struct bactool_outcome shown = {0, 0, 0, 0};
     show(octets, length, (uint8_t *)bench.line, TEXT, &shown);
-    struct said said = {bench.known, canonical, bench.line, read.fields, read.count, shown.count};
+    struct said said = {bench.known, canonical, bench.line, read.fields, read.count, shown.count, {0, 0, 0, 0, 0, 0, 0}};
+    bactool_explain(octets, length, &said.piece, 1, &(struct bactool_outcome){0, 0, 0, 0});
     for (int job = 0; job < 2 * CALLS; job++) {
         struct bactool_outcome wanted = UNTOLD;
         uint32_t ends = call(job % CALLS, bench, octets, length, said, &wanted);

@@ -3,10 +3,11 @@
  * Use of libbactool where memory is refused, and where it is not, for scripts/try-memory: `try-memory SEED DRAWS`.
  *
  * First, on worked examples of docs/EXAMPLES.md, each allocation of each call is refused in turn: a call ends as the
- * example says, or reports that memory was refused and writes nothing. Then each call is made with DRAWS frames of drawn
- * lengths and counts, and with lines, fields and messages in segments of drawn lengths: no call reports that memory was
- * refused, since none was. At last some whole messages are joined, and the most memory that the call held is printed
- * beside the length of the message. It prints a line for each thing that is wrong, and one at the end.
+ * example says, or reports that memory was refused and writes nothing. bactool_check and bactool_head take none. Then each
+ * call is made with DRAWS frames of drawn lengths and counts, and with lines, fields and messages in segments of drawn
+ * lengths: no call reports that memory was refused, since none was. At last some whole messages are joined: the most memory
+ * that the call held is printed beside the length of the message, and is hardly more. It prints a line for each thing that
+ * is wrong, and one at the end.
  *
  * It is linked with --wrap for malloc, realloc and free.
  */
@@ -38,7 +39,7 @@ static bool tells(struct bactool_outcome told, uint32_t why, size_t place, size_
     return told.why == why && told.place == place && told.count == count && told.fields == fields;
 }
 
-/* The nine calls that may report that memory was refused; bactool_head does as bactool_check. */
+/* The calls of which all but bactool_check may report that memory was refused. */
 enum call { CHECK, NORMALISE, DECODE, ENCODE, SHOW, READ, CUT, JOIN, SAME, CALLS };
 
 /* ---- refused allocations */
@@ -277,7 +278,8 @@ static void try_examples(void)
                 try_refused(SAME, &said[k], &said[other]);
         }
     }
-    for (enum call call = CHECK; call < CALLS; call++)
+    EXPECT(refusals[CHECK] == 0);
+    for (enum call call = NORMALISE; call < CALLS; call++)
         EXPECT(refusals[call] > 0);
 }
 
@@ -467,7 +469,12 @@ static void try_drawn_message(uint64_t *state)
     free(whole);
 }
 
-/* Joins a message of this length in segments of this size, and prints the most memory that the call held. */
+/* The most octets of memory that a join may hold besides those of the joined message: its heads, which are written first and
+   may move, and what malloc adds. */
+enum { MOST_BESIDES = 64 };
+
+/* Joins a message of this length in segments of this size, and prints the most memory that the call held. It is that of the
+   joined message, since the service is canonical. */
 static void measure(size_t length, size_t size)
 {
     struct bactool_outcome told = UNTOLD;
@@ -479,8 +486,33 @@ static void measure(size_t length, size_t size)
     EXPECT(held == 0);
     printf("try-memory: to join a message of %zu octets in %zu segments took %zu octets of memory\n", told.count,
            segments_of(&message, size), most_held);
+    EXPECT(most_held <= told.count + MOST_BESIDES);
     free(room);
     free(records);
+}
+
+/* bactool_check and bactool_head take no memory, and answer alike. */
+static void try_without_memory(const struct frame *frame)
+{
+    struct bactool_outcome checked = UNTOLD, told = UNTOLD;
+    struct bactool_frame_head head;
+    held = most_held = 0;
+    uint32_t code = bactool_check(frame->octets, frame->length, false, &checked);
+    bool is_refused = code == BACTOOL_REFUSED;
+    EXPECT(bactool_head(frame->octets, frame->length, &head, &told) == (is_refused ? BACTOOL_REFUSED : BACTOOL_OK));
+    EXPECT(!is_refused || tells(told, checked.why, checked.place, 0, 0));
+    EXPECT(most_held == 0);
+}
+
+/* bactool_explain says what bactool_check said, and the first piece has words. */
+static void try_explained(const struct frame *frame, uint32_t code, struct bactool_outcome checked)
+{
+    struct bactool_outcome told = UNTOLD;
+    struct bactool_piece pieces[16];
+    EXPECT(bactool_explain(frame->octets, frame->length, pieces, 16, &told) == code);
+    EXPECT(tells(told, checked.why, checked.place, 0, told.fields));
+    EXPECT(0 < told.fields && told.fields <= frame->length + 1);
+    EXPECT(bactool_piece_text(pieces, frame->octets, frame->length, (char *)out, sizeof out, &told) == BACTOOL_OK);
 }
 
 /* Makes each call with a drawn frame, or with what is drawn in its place. */
@@ -488,9 +520,11 @@ static void try_drawn(struct frame *frame)
 {
     struct bactool_outcome told = UNTOLD;
     draw_frame(frame, 2 * CONTENTS);
+    try_without_memory(frame);
     uint32_t code = granted(CHECK, bactool_check(frame->octets, frame->length, false, &told), &told);
     bool is_canonical = code == BACTOOL_OK, is_tolerated = code == BACTOOL_TOLERATED;
     EXPECT(is_canonical || is_tolerated || code == BACTOOL_REFUSED);
+    try_explained(frame, code, told);
     EXPECT(frame->verdict == UNKNOWN || is_canonical == (frame->verdict == CANONICAL));
     EXPECT(frame->verdict == UNKNOWN || is_tolerated == (frame->verdict == TOLERATED));
     if (is_canonical || is_tolerated)
@@ -515,6 +549,7 @@ int main(int count, char **words)
     }
     free(frame.octets);
     trying = "length";
+    measure(tried = 1000, 1000);
     measure(tried = 1000, 480);
     measure(tried = 16384, 1024);
     measure(tried = SERVICE, 256);

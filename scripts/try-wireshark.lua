@@ -1,8 +1,8 @@
 -- SPDX-License-Identifier: Apache-2.0 OR MIT
 -- Tries the module wireshark/out/bactool.so with what scripts/try-wireshark.py made in FOLDER. Of the frame file there it
 -- writes, into the same folder, what `bactool check`, `bactool show` and `bactool normalise` write of it, the last one
--- without the refused records. It compares the fields of the frames in `fields`. Then come large numbers, refusals, and
--- arguments that are errors. The status is 0 if all went well.
+-- without the refused records. The pieces of each record must cover it. It compares the fields of the frames in `fields`.
+-- Then come large numbers, refusals, and arguments that are errors. The status is 0 if all went well.
 --   LUA_CPATH='wireshark/out/?.so' lua5.2 scripts/try-wireshark.lua FOLDER
 
 local bactool = require "bactool"
@@ -36,6 +36,27 @@ local function open(name)
     return assert(io.open(folder .. "/" .. name, "wb"))
 end
 
+-- The kinds of pieces at the place of a refusal and after it, and the tag that begins a group.
+local REFUSED, REST, OPENING = 35, 36, 3
+
+-- The pieces of a record are its octets, and one is at the place where it is refused.
+local function compare_pieces(number, octets)
+    local _, _, place = bactool.show(octets)
+    local pieces, last = bactool.explain(octets), 0
+    local arrow
+    for _, piece in ipairs(pieces) do
+        if piece.place ~= last or piece.head > piece.length or type(piece.text) ~= "string" or piece.text == "" then
+            fault("record %d has no such piece at %d", number, piece.place)
+        end
+        last = piece.place + piece.length
+        arrow = piece.kind == REFUSED and piece.place or arrow
+    end
+    local first = pieces[1]
+    if last ~= #octets or arrow ~= place or not first or first.depth ~= 0 then
+        fault("the pieces of record %d end at %d, and it is refused at %s", number, last, tostring(arrow))
+    end
+end
+
 local function write_lines(records)
     local check, show, canonical = open("lua.check"), open("lua.show"), open("lua.frames")
     for number, octets in ipairs(records) do
@@ -49,6 +70,7 @@ local function write_lines(records)
         end
         local line, why_not, where = bactool.show(octets)
         show:write(number, " ", line or "refused " .. why_not .. " at " .. where, "\n")
+        compare_pieces(number, octets)
         local spelling = bactool.normalise(octets)
         if spelling then
             canonical:write(string.char(math.floor(#spelling / 256), #spelling % 256), spelling)
@@ -145,6 +167,15 @@ for _, name in ipairs { "check", "normalise", "show", "decode" } do
     if found ~= nil or why ~= "Short" or place ~= 0 then
         fault("%s does not refuse no octets as Short at 0", name)
     end
+end
+
+refuses_argument("explain")
+refuses_argument("explain", 16)
+local pieces = bactool.explain(octets_of("0104 0005020F 0C00400001 1955 3E 4442C80000 3F 4911 FF"))
+local group, real, arrow, rest = pieces[9], pieces[10], pieces[13], pieces[14]
+if group.tag ~= OPENING or group.number ~= 3 or real.depth ~= 1 or real.head ~= 1 or real.length ~= 5
+    or arrow.kind ~= REFUSED or arrow.number ~= 9 or not arrow.text:find("^<%- Content") or rest.kind ~= REST or #pieces ~= 14 then
+    fault("explain has other pieces of priority 17")
 end
 
 os.exit(faults == 0 and 0 or 1, true)

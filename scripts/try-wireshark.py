@@ -406,6 +406,16 @@ def try_lines(what, shown, frame, faults):
     faults.wanted(f"{what}: octets of fields", len(octets), len(frame.octets) - octets_of_no_field(frame.line))
 
 
+def try_pieces(what, shown, frame, place, faults):
+    """The lines of the pieces mark all octets, one after the other, and one begins at the place of a refusal."""
+    marks = [frame.offset(field) for field in shown.lines]
+    ends = [0, *(end for _, end in marks)]
+    faults.wanted(f"{what}: where its pieces begin", [first for first, _ in marks], ends[:-1])
+    faults.wanted(f"{what}: where its pieces end", ends[-1], len(frame.octets))
+    arrows = [first for field, (first, _) in zip(shown.lines, marks) if field.get("showname").startswith("<- ")]
+    faults.wanted(f"{what}: where the arrow is", arrows, [] if place is None else [int(place)])
+
+
 def try_place(what, shown, frame, place, faults):
     """The octet at the place is marked, or the last one if the frame ends there."""
     if place is not None and frame.octets:
@@ -427,7 +437,7 @@ def try_frame(shown, frame, faults):
     if verdict == "canonical":
         try_lines(what, shown, frame, faults)
     else:
-        faults.wanted(f"{what}: lines of fields", len(shown.lines), 0)
+        try_pieces(what, shown, frame, place if verdict == "refused" else None, faults)
 
 
 def try_frames(program, folder, tshark, faults):

@@ -203,6 +203,19 @@ local function add_fields(tree, npdu, octets, line)
     end
 end
 
+-- A line for each piece of any other NPDU, which marks the octets of the piece. What is in a group is below the line that
+-- begins it.
+local OPENING = 3
+local function add_pieces(tree, npdu, octets)
+    local open = { [0] = tree }
+    for _, piece in ipairs(bactool.explain(octets)) do
+        local item = open[piece.depth]:add(npdu.source(npdu.first + piece.place, piece.length), piece.text)
+        if piece.tag == OPENING then
+            open[piece.depth + 1] = item
+        end
+    end
+end
+
 -- The octet at a place, or the last one if the NPDU ends there.
 local function octet_at(range, place)
     local length = range:len()
@@ -241,6 +254,9 @@ local function add_npdu(tree, npdu)
         if verdict == "canonical" and subtree.visible then
             add_fields(subtree, npdu, octets, line)
         end
+    end
+    if (verdict == "tolerated" or verdict == "refused") and subtree.visible then
+        add_pieces(subtree, npdu, octets)
     end
 end
 

@@ -12,10 +12,14 @@
  *     normalise(octets)  the canonical octets
  *     show(octets)       the text of the frame, as `bactool show` prints it
  *     decode(octets)     the fields of the frame, in the order of its text, and the canonical octets
+ *     explain(octets)    the pieces of the octets, in their order, also if they are refused
  *
  * A field is a table: `name`, the word that begins it in the text, such as "object"; `code`, the number of that name in
  * enum bactool_field_name; `number`; `place`, `head` and `length`, which are offsets and counts of the canonical octets.
  * A number of Lua 5.2 is exact up to 2^53, so a larger `number` is a string of its decimal digits.
+ *
+ * A piece is a table: `place`, `length`, `head`, `depth`, `kind`, `tag` and `number` as in struct bactool_piece, and
+ * `text`, its words.
  *
  * `version` is the version of the library, such as "0.3.0". An argument that is no string is an error, and so is memory
  * that is refused.
@@ -152,8 +156,58 @@ static int decode(lua_State *lua)
     return 2;
 }
 
+/* Pushes the words of a piece. */
+static void push_words(lua_State *lua, const struct bactool_piece *piece, const uint8_t *octets, size_t length)
+{
+    struct bactool_outcome outcome;
+    luaL_Buffer words;
+    char *out = luaL_buffinitsize(lua, &words, USUAL_TEXT);
+    uint32_t code = bactool_piece_text(piece, octets, length, out, USUAL_TEXT, &outcome);
+    if (code == BACTOOL_NO_ROOM) {
+        size_t room = outcome.count;
+        out = luaL_prepbuffsize(&words, room);
+        code = bactool_piece_text(piece, octets, length, out, room, &outcome);
+    }
+    if (code != BACTOOL_OK)
+        luaL_error(lua, "out of memory");
+    luaL_pushresultsize(&words, outcome.count);
+}
+
+/* Pushes the table of a piece. */
+static void push_piece(lua_State *lua, const struct bactool_piece *piece, const uint8_t *octets, size_t length)
+{
+    lua_createtable(lua, 0, 8);
+    set_integer(lua, "place", piece->place);
+    set_integer(lua, "length", piece->length);
+    set_integer(lua, "head", piece->head);
+    set_integer(lua, "depth", piece->depth);
+    set_integer(lua, "kind", piece->kind);
+    set_integer(lua, "tag", piece->tag);
+    set_integer(lua, "number", piece->number);
+    push_words(lua, piece, octets, length);
+    lua_setfield(lua, -2, "text");
+}
+
+static int explain(lua_State *lua)
+{
+    struct bactool_outcome outcome;
+    size_t length;
+    const uint8_t *octets = octets_passed(lua, &length);
+    size_t most = length + 1;
+    struct bactool_piece *pieces = lua_newuserdata(lua, most * sizeof *pieces);
+    if (bactool_explain(octets, length, pieces, most, &outcome) == BACTOOL_NO_MEMORY)
+        return luaL_error(lua, "out of memory");
+    size_t count = outcome.fields;
+    lua_createtable(lua, (int)count, 0);
+    for (size_t i = 0; i < count; i++) {
+        push_piece(lua, &pieces[i], octets, length);
+        lua_rawseti(lua, -2, (int)(i + 1));
+    }
+    return 1;
+}
+
 static const luaL_Reg calls[] = {
-    {"check", check}, {"normalise", normalise}, {"show", show}, {"decode", decode}, {NULL, NULL},
+    {"check", check}, {"normalise", normalise}, {"show", show}, {"decode", decode}, {"explain", explain}, {NULL, NULL},
 };
 
 LUAMOD_API int luaopen_bactool(lua_State *lua)

@@ -30,6 +30,7 @@ from typing import Any, Dict, Iterable, List, Optional, Union
 
 from ._api import Bactool, Octets
 from ._heads import Address, Head
+from ._pieces import Piece, PieceKind
 from ._records import records
 from ._refusals import (
     CutRecord,
@@ -53,6 +54,8 @@ __all__ = [
     "NotCut",
     "NotJoined",
     "Octets",
+    "Piece",
+    "PieceKind",
     "Refused",
     "RefusedField",
     "RefusedFrame",
@@ -62,6 +65,7 @@ __all__ = [
     "cut",
     "decode",
     "encode",
+    "explain",
     "head",
     "join",
     "named",
@@ -76,7 +80,7 @@ __all__ = [
 __version__ = "0.3.0"
 
 # Users meet these as parts of the package, in tracebacks too.
-for _part in (Address, Bactool, CutRecord, Head, Refused, RefusedField):
+for _part in (Address, Bactool, CutRecord, Head, Piece, PieceKind, Refused, RefusedField):
     _part.__module__ = __name__
 for _part in (MissingSegment, NotCut, NotJoined, RefusedFrame, RefusedService, WrongFrame):
     _part.__module__ = __name__
@@ -109,6 +113,21 @@ def head(octets: Octets) -> Head:
     ('Content at 21', 'all', 'confirmed', 3, 15)
     """
     return _found().head(octets)
+
+
+def explain(octets: Octets) -> List[Piece]:
+    """Returns what each octet is, in pieces, also of octets that are refused. Each piece begins where the one before it ends.
+    Where octets are refused, the piece at the place has kind REFUSED, and what is after it is one piece. Those of a frame
+    that is accepted have the words of its fields.
+
+    >>> priority_17 = bytes.fromhex("0104 0005030F 0C00400001 1955 3E 4442C80000 3F 4911")
+    >>> for piece in explain(priority_17)[-3:]:
+    ...     print(piece.place, piece.length, piece.kind.name, piece.tag, piece.number)
+    19 1 ELEMENT closing 3
+    20 1 ELEMENT context 4
+    21 1 REFUSED None 9
+    """
+    return _found().explain(octets)
 
 
 def normalise(octets: Octets) -> bytes:

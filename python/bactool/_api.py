@@ -4,9 +4,9 @@
 from __future__ import annotations
 
 import operator
-from typing import Any, Callable, Dict, Iterable, List, Optional, TypeVar, Union
+from typing import Any, Callable, Dict, Iterable, List, Optional, Sequence, Tuple, TypeVar, Union
 
-from . import _decode, _encode, _heads, _library
+from . import _decode, _encode, _heads, _library, _pieces
 from ._library import Desk, Library, Outcome, StrPath
 from ._records import LONGEST, apart, record
 from ._refusals import (
@@ -81,6 +81,16 @@ class Bactool:
         if code != _library.REFUSED:
             raise self._refusal(code, outcome)
         return _heads.head_of(octets, head, Refused(self._library.reasons[outcome.why], outcome.place))
+
+    def explain(self, octets: Octets) -> List[_pieces.Piece]:
+        """Returns what each octet of the frame is, also if it is refused."""
+        octets = octets_of(octets)
+        code, pieces = self._pieces_of(octets)
+        fields: List[Optional[str]] = [None] * len(pieces)
+        if code != _library.REFUSED:
+            fields = self._fields_of(octets, pieces)
+        texts = [self._text_of(piece, octets) for piece in pieces]
+        return [_pieces.piece_of(*row) for row in zip(pieces, texts, fields)]
 
     def normalise(self, octets: Octets) -> bytes:
         """Returns the canonical octets of the frame."""
@@ -161,6 +171,39 @@ class Bactool:
     def reasons(self) -> Dict[int, str]:
         """Returns the names of all reasons by their numbers."""
         return dict(self._library.reasons)
+
+    def _pieces_of(self, octets: bytes) -> Tuple[int, List[_pieces.PieceOfC]]:
+        """Returns the code of the octets and their pieces."""
+        most, outcome = len(octets) + 1, Outcome()
+        pieces = (_pieces.PieceOfC * most)()
+        code = self._library.explain(octets, len(octets), pieces, most, outcome)
+        if code == _library.NO_MEMORY:
+            raise self._refusal(code, outcome)
+        return code, list(pieces[: outcome.fields])
+
+    def _fields_of(self, octets: bytes, pieces: List[_pieces.PieceOfC]) -> List[Optional[str]]:
+        """Returns for each piece of octets that are accepted the word of the first field that begins in it. Canonical octets
+        have as many pieces as others that encode the frame, in the same order."""
+        canonical, fields = self._decoded(octets)
+        if canonical != octets:
+            _, pieces = self._pieces_of(canonical)
+        return _pieces.words_of(_pieces.begins_of(fields), pieces, self._library.words)
+
+    def _decoded(self, octets: bytes) -> Tuple[bytes, List[Sequence[int]]]:
+        """Returns the canonical octets of the frame and its fields."""
+        desk = Desk(len(octets), 2 * len(octets) + 2)
+        code = self._library.decode(octets, len(octets), desk.out, desk.room, desk.fields, desk.most, desk.outcome)
+        if code != _library.OK:
+            raise self._refusal(code, desk.outcome)
+        return bytes(desk.octets[: desk.outcome.count]), list(_decode.fields_of(desk, desk.outcome.fields))
+
+    def _text_of(self, piece: _pieces.PieceOfC, octets: bytes) -> str:
+        """Returns the words of a piece of octets."""
+
+        def call(octets: bytes, length: int, *room: Any) -> int:
+            return self._library.piece_text(piece, octets, length, *room)
+
+        return self._written(call, octets).decode()
 
     def _written(self, call: Callable[..., int], octets: bytes, refusal: Optional[RefusalOf] = None) -> bytes:
         """Returns what a call writes, or raises what the refusal makes of its code."""

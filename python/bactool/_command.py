@@ -15,6 +15,7 @@ from typing import Any, BinaryIO, Callable, Dict, Generator, Iterable, Iterator,
 
 from ._api import Bactool
 from ._joining import NOWHERE, Ends, Joining
+from ._pieces import lines_of
 from ._records import apart, pieces, record
 from ._refusals import CutRecord, Refused, RefusedField
 from .names import named
@@ -37,6 +38,7 @@ JOBS = {
     "json": "a line of JSON for each record of a frame file, or why it is refused",
     "encode": "a record for each line of JSON, as json writes it, up to the first line at fault",
     "check": "whether each record is canonical, tolerated or refused",
+    "explain": "the same, with a line for each piece of the record: what its octets are",
     "show": "a line for each record: what it means, or why it is refused",
     "read": "a record for each line, as show writes it, up to the first line at fault",
     "normalise": "each record in its canonical encoding, up to the first refused one",
@@ -124,6 +126,8 @@ def do(asked: argparse.Namespace, tool: Bactool, items: Iterable[bytes], target:
         return join(tool, placed(items, asked.where), target)
     if asked.job == "check":
         return tell(lambda number, octets: f"{number} {judged(tool.check(octets))}", refused_text, items, target)
+    if asked.job == "explain":
+        return explain(tool, items, target)
     if asked.job == "show":
         return tell(lambda number, octets: f"{number} {tool.show(octets)}", refused_text, items, target)
     if asked.names:
@@ -145,6 +149,25 @@ def tell(
         except Refused as refusal:
             line, status = line_of_refusal(number, refusal), REFUSED
         target.write(line.encode() + b"\n")
+    return status
+
+
+def explain(tool: Bactool, items: Iterable[bytes], target: BinaryIO) -> int:
+    """Writes the line of `check` for each record, and a line for each piece of it."""
+    status = WELL
+    for number, octets in enumerate(items, 1):
+        canonical = octets
+        try:
+            place = tool.check(octets)
+            line = f"{number} {judged(place)}"
+            if place is not None:
+                canonical = tool.normalise(octets)
+        except Refused as refusal:
+            line, status = refused_text(number, refusal), REFUSED
+        pieces = tool.explain(octets)
+        others = pieces if canonical is octets else tool.explain(canonical)
+        for text in (line, *lines_of(pieces, octets, others, canonical)):
+            target.write(text.encode() + b"\n")
     return status
 
 

@@ -45,6 +45,13 @@ def frame_of(steps: Steps, desk: Desk, count: int) -> Dict[str, Any]:
     return members(enumerate(names), steps, desk)
 
 
+def fields_of(desk: Desk, count: int) -> Iterator[List[int]]:
+    """Yields the first fields on the desk: name, number, place, head and length."""
+    names = desk.halves[: HALVES_OF_FIELD * count : HALVES_OF_FIELD].tolist()
+    for index, name in enumerate(names):
+        yield [name, *desk.words[WORDS_OF_FIELD * index + 1 : WORDS_OF_FIELD * (index + 1)].tolist()]
+
+
 def members(fields: Fields, steps: Steps, desk: Desk) -> Dict[str, Any]:
     """Returns the dict of a frame, of an item or of an error, and leaves what follows its end."""
     said: Dict[str, Any] = {}

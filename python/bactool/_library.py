@@ -8,7 +8,7 @@ import ctypes
 import os
 from typing import Any, Callable, Dict, Iterator, List, Optional, Tuple, Union, cast
 
-from . import _fields, _heads
+from . import _fields, _heads, _pieces
 
 OK, TOLERATED, DIFFERENT, REFUSED, LEFT_REFUSED, RIGHT_REFUSED, NO_ROOM, NO_MEMORY = range(8)
 NO_SERVICE, BAD_SIZE, BAD_WINDOW, TOO_LONG, TOO_MANY = range(8, 13)
@@ -71,6 +71,10 @@ class Library:
         outcome = [ctypes.POINTER(Outcome)]
         self.check = call_of(library, "check", [*octets, ctypes.c_bool, *outcome])
         self.head = call_of(library, "head", [*octets, ctypes.POINTER(_heads.HeadOfC), *outcome])
+        self.explain = call_of(library, "explain", [*octets, *room, *outcome])
+        self.piece_text = call_of(
+            library, "piece_text", [ctypes.POINTER(_pieces.PieceOfC), *octets, *room, *outcome]
+        )
         self.normalise = call_of(library, "normalise", [*octets, *room, *outcome])
         self.show = call_of(library, "show", [*octets, *room, *outcome])
         self.read = call_of(library, "read", [*octets, *room, *outcome])

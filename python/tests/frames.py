@@ -10,6 +10,9 @@ F4 = bytes.fromhex("0100 30010C 0C00000005 1955 3E 444290999A 3F")
 WHO_IS_ANYWHERE = bytes.fromhex("0120 FFFF00 FF 1008")
 WRITE = bytes.fromhex("0104 0005030F 0C00400001 1955 3E 4442C80000 3F 4908")
 
+# Example 17 with a priority that no frame has.
+PRIORITY_17 = WRITE[:-1] + b"\x11"
+
 LINE_OF_F1 = "prio=0 reply=1 conf id=1 sa=0 segs=0 resp=5 ReadProperty object=0:5 property=85"
 
 DICT_OF_F1: Dict[str, Any] = {

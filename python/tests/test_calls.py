@@ -8,9 +8,18 @@ import unittest
 from typing import Any, Callable, List
 
 import bactool
-from bactool import Refused
+from bactool import PieceKind, Refused
 
-from .frames import DICT_OF_F1, F1, F2, F4, LINE_OF_F1, WHO_IS_ANYWHERE
+from .frames import DICT_OF_F1, F1, F2, F4, LINE_OF_F1, PRIORITY_17, WHO_IS_ANYWHERE, WRITE
+
+
+def refused_at(octets: bytes) -> List[int]:
+    """Returns the place at which octets are refused, if they are."""
+    try:
+        bactool.check(octets)
+    except Refused as refusal:
+        return [refusal.place]
+    return []
 
 
 class Calls(unittest.TestCase):
@@ -48,6 +57,50 @@ class Calls(unittest.TestCase):
         message = bactool.head(bytes.fromhex("0180 80 0104 FF"))
         self.assertEqual((message.pdu, message.message, message.vendor, message.contents), ("message", 128, 260, 5))
         self.assertRaises(TypeError, bactool.head, 5)
+
+    def test_explain(self) -> None:
+        pieces = bactool.explain(PRIORITY_17)
+        self.assertEqual([piece.place for piece in pieces], [0, 1, 2, 3, 4, 5, 6, 11, 13, 14, 19, 20, 21])
+        self.assertEqual(
+            [tuple(piece[1:7]) for piece in pieces[7:]],
+            [
+                (2, 1, 0, PieceKind.ELEMENT, "context", 1),
+                (1, 1, 0, PieceKind.ELEMENT, "opening", 3),
+                (5, 1, 1, PieceKind.ELEMENT, "application", 4),
+                (1, 1, 0, PieceKind.ELEMENT, "closing", 3),
+                (1, 1, 0, PieceKind.ELEMENT, "context", 4),
+                (1, 0, 0, PieceKind.REFUSED, None, 9),
+            ],
+        )
+        self.assertTrue(pieces[-1].text.startswith("<- Content"))
+        self.assertTrue(all(piece.text and piece.field is None for piece in pieces))
+        self.assertEqual(bactool.explain(bytearray(PRIORITY_17)), pieces)
+        self.assertRaises(TypeError, bactool.explain, 5)
+
+    def test_explain_has_the_words_of_fields(self) -> None:
+        wanted = [None, "prio", "conf", "segs", "id", "ReadProperty", "object", "property"]
+        for octets in (F1, F2):
+            self.assertEqual([piece.field for piece in bactool.explain(octets)], wanted)
+        places = [piece.place for piece in bactool.explain(F2)]
+        self.assertEqual(places, [0, 1, 2, 3, 4, 5, 6, 11])
+        wanted = [None, "prio", "dest", None, "hops", "unconf", "Who-Is"]
+        self.assertEqual([piece.field for piece in bactool.explain(WHO_IS_ANYWHERE)], wanted)
+
+    def test_pieces_cover_the_octets(self) -> None:
+        whole = WRITE + b"\xff\xff"
+        for length in range(len(whole) + 1):
+            octets, end = whole[:length], 0
+            for piece in bactool.explain(octets):
+                self.assertEqual(piece.place, end)
+                end += piece.length
+            self.assertEqual(end, length)
+            refused = [piece.place for piece in bactool.explain(octets) if piece.kind == PieceKind.REFUSED]
+            self.assertEqual(refused, refused_at(octets))
+
+    def test_explain_of_a_service_without_layout(self) -> None:
+        head = bytes.fromhex("0100 1009")
+        self.assertEqual([piece.kind for piece in bactool.explain(head + b"\x1e\x21\x05\x1f")[4:]], [PieceKind.UNJUDGED] * 3)
+        self.assertEqual([piece.kind for piece in bactool.explain(head + b"\x1e\x21\x05")[4:]], [PieceKind.OCTETS])
 
     def test_normalise(self) -> None:
         self.assertEqual(bactool.normalise(F2), F1)

@@ -11,7 +11,7 @@ import threading
 import unittest
 from typing import Any, Tuple
 
-from .frames import DICT_OF_F1, F1, F2, LINE_OF_F1
+from .frames import DICT_OF_F1, F1, F2, LINE_OF_F1, PRIORITY_17, WRITE
 
 NAME = "python3 -m bactool"
 WORDS = [sys.executable, "-B", "-m", "bactool"]
@@ -41,6 +41,27 @@ class Command(unittest.TestCase):
         self.assert_runs("show", THREE, 1, f"1 {LINE_OF_F1}\n2 {LINE_OF_F1}\n3 refused Short at 0\n")
         self.assert_runs("check", record(F1) + b"\0", 2, "1 ok\n", "the file ends within record 2")
         self.assert_runs("check", b"", 0, "")
+
+    def test_explain(self) -> None:
+        status, written, complaint = run("explain", record(WRITE) + record(PRIORITY_17) + record(b""))
+        lines = written.decode().splitlines()
+        self.assertEqual((status, complaint, len(lines)), (1, "", 29))
+        self.assertEqual((lines[0], lines[13], lines[27]), ("1 ok", "2 refused Content at 21", "3 refused Short at 0"))
+        self.assertEqual(lines[6:9], [
+            "   5  0F           service choice 15 WriteProperty", "   6  0C 00400001  [0] object 1:1", "  11  19 55        [1] property 85"
+        ])
+        self.assertTrue(lines[26].startswith("  21  11           <- Content"))
+        self.assertTrue(lines[28].startswith("   0               <- Short"))
+        # More octets than a line has.
+        data = record(bytes.fromhex("0100 1009") + bytes.fromhex("6509") + bytes(range(9)))
+        lines = run("explain", data)[1].decode().splitlines()[5:]
+        self.assertEqual([line[:24] for line in lines], ["   4  6509 000102030405 ", "  12  060708"])
+
+    def test_explain_has_the_canonical_octets(self) -> None:
+        lines = run("explain", record(F2))[1].decode().splitlines()
+        self.assertEqual((lines[2], lines[-1]), (
+            "   1  54           control: reply 1, priority 0  ~ 04", "  11  1A 0055      [1] property 85  ~ 19 55"
+        ))
 
     def test_show_writes_utf_8(self) -> None:
         octets = bytes.fromhex("010030010C0C0000000519553E 7300C3A9 3F")

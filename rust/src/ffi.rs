@@ -64,6 +64,19 @@ pub(crate) struct Head {
     pub(crate) contents: usize,
 }
 
+/// `struct bactool_piece`.
+#[repr(C)]
+#[derive(Clone, Copy, Debug, Default)]
+pub(crate) struct Piece {
+    pub(crate) place: usize,
+    pub(crate) length: usize,
+    pub(crate) head: usize,
+    pub(crate) depth: usize,
+    pub(crate) kind: u32,
+    pub(crate) tag: u32,
+    pub(crate) number: u32,
+}
+
 // The codes of the header that this crate distinguishes. It takes each other code as a refusal.
 pub(crate) const OK: u32 = 0;
 pub(crate) const TOLERATED: u32 = 1;
@@ -89,6 +102,8 @@ pub(crate) type Answer = (u32, Outcome);
 extern "C" {
     fn bactool_check(octets: *const u8, length: usize, strict: bool, outcome: *mut Outcome) -> u32;
     fn bactool_head(octets: *const u8, length: usize, head: *mut Head, outcome: *mut Outcome) -> u32;
+    fn bactool_explain(octets: *const u8, length: usize, pieces: *mut Piece, most: usize, outcome: *mut Outcome) -> u32;
+    fn bactool_piece_text(piece: *const Piece, octets: *const u8, length: usize, out: *mut u8, room: usize, outcome: *mut Outcome) -> u32;
     fn bactool_normalise(octets: *const u8, length: usize, out: *mut u8, room: usize, outcome: *mut Outcome) -> u32;
     fn bactool_decode(octets: *const u8, length: usize, out: *mut u8, room: usize, fields: *mut Part, most: usize, outcome: *mut Outcome) -> u32;
     fn bactool_encode(fields: *const Part, count: usize, octets: *const u8, length: usize, out: *mut u8, room: usize, outcome: *mut Outcome) -> u32;
@@ -114,6 +129,24 @@ pub(crate) fn head(octets: &[u8]) -> (u32, Outcome, Head) {
     // SAFETY: as in `check`, and the head has the layout of the header and is borrowed by nobody else.
     let code = unsafe { bactool_head(octets.as_ptr(), octets.len(), &mut head, &mut outcome) };
     (code, outcome, head)
+}
+
+pub(crate) fn explain(octets: &[u8], pieces: &mut [Piece]) -> Answer {
+    let mut outcome = Outcome::default();
+    let (length, most) = (octets.len(), pieces.len());
+    // SAFETY: as in `check`, and `pieces` is a slice of structs with the layout of the header, which is borrowed by nobody
+    // else.
+    let code = unsafe { bactool_explain(octets.as_ptr(), length, pieces.as_mut_ptr(), most, &mut outcome) };
+    (code, outcome)
+}
+
+pub(crate) fn piece_text(piece: &Piece, octets: &[u8], out: &mut [u8]) -> Answer {
+    let mut outcome = Outcome::default();
+    let (length, room) = (octets.len(), out.len());
+    let (octets, out) = (octets.as_ptr(), out.as_mut_ptr());
+    // SAFETY: as in `normalise`, and the piece has the layout of the header, and nobody changes it meanwhile.
+    let code = unsafe { bactool_piece_text(piece, octets, length, out, room, &mut outcome) };
+    (code, outcome)
 }
 
 pub(crate) fn normalise(octets: &[u8], out: &mut [u8]) -> Answer {

@@ -96,8 +96,7 @@ pub struct Head<'a> {
 
 /// Returns what is known of the frame that octets begin, also if they are refused: then it is what the octets before the
 /// place of the refusal tell, and is so of every frame that they begin. A server needs it to reject a request that it does
-/// not understand. If the library was refused memory, the refusal is [`OutOfMemory`](crate::Why::OutOfMemory), and it is
-/// what all the octets tell.
+/// not understand.
 ///
 /// # Examples
 ///

@@ -3,7 +3,8 @@
 mod common;
 
 use bactool::{
-    check, check_strict, decode, head, normalise, read, same_meaning, show, Known, Pdu, Refusal, Side, Verdict, Why,
+    check, check_strict, decode, explain, head, normalise, read, same_meaning, show, Known, Pdu, PieceKind, Refusal,
+    Side, Tag, Verdict, Why,
 };
 use common::{octets, F1, F2, F4};
 
@@ -91,6 +92,40 @@ fn the_head_of_what_is_refused_is_known() {
     let found = head(&message);
     assert_eq!((found.refused, found.pdu, found.message), (None, Some(Pdu::Message), 128));
     assert_eq!((found.vendor, found.contents), (260, 5));
+}
+
+/// The pieces of octets: each begins where the one before it ends, and one is at the place of a refusal.
+fn covers(octets: &[u8]) {
+    let told = explain(octets);
+    assert_eq!(told.verdict, check(octets));
+    let mut end = 0;
+    for piece in &told.pieces {
+        assert_eq!(piece.place(), end);
+        let (head, contents) = piece.parts();
+        assert_eq!([head, contents].concat(), piece.octets());
+        assert!(!piece.to_string().is_empty());
+        end += piece.octets().len();
+    }
+    assert_eq!(end, octets.len());
+    let arrows: Vec<_> = told.pieces.iter().filter_map(|piece| Some((piece.why()?, piece.place()))).collect();
+    assert_eq!(arrows, told.verdict.map_err(of).err().into_iter().collect::<Vec<_>>());
+}
+
+#[test]
+fn each_octet_is_explained() {
+    let frame = octets("0104 0005030F 0C00400001 1955 3E 4442C80000 3F 4911 FF");
+    (0..=frame.len()).for_each(|length| covers(&frame[..length]));
+    [F1, F2, F4, "0100 1009 AABB", "0180 01 0002 0003"].map(octets).iter().for_each(|frame| covers(frame));
+    let told = explain(&frame);
+    let places: Vec<_> = told.pieces.iter().map(|piece| (piece.place(), piece.depth())).collect();
+    assert_eq!(places[6..], [(6, 0), (11, 0), (13, 0), (14, 1), (19, 0), (20, 0), (21, 0), (22, 0)]);
+    let tags: Vec<_> = told.pieces.iter().filter_map(|piece| piece.tag()).collect();
+    let wanted =
+        [Tag::Context(0), Tag::Context(1), Tag::Opening(3), Tag::Application(4), Tag::Closing(3), Tag::Context(4)];
+    assert_eq!(tags, wanted);
+    assert_eq!(told.pieces[4].kind(), PieceKind::InvokeId);
+    assert_eq!(told.pieces[13].kind(), PieceKind::Rest);
+    assert_eq!(explain(&octets(F2)).verdict, Ok(Verdict::Tolerated { place: 1 }));
 }
 
 #[test]
