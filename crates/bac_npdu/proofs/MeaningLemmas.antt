@@ -8,12 +8,7 @@ use Rattle.bac_tag.specs.Laws.Spelling.{IsLeast-one, unmarked_least}
 use Rattle.bac_productions.specs.Productions.{IsMarked}
 use Rattle.bac_npdu_parts.specs.Decoded.{IsFrameChecked, IsReasoned}
 use Rattle.bac_npdu_parts.specs.Frames.{FrameValue, SpellsFrame}
-use Rattle.bac_npdu.specs.Meanings.{IsNormalised, MeanTheSame, IsNormalOf}
-
--- what is written of a frame that octets with this mark spell
-pub normalised : (f : FrameValue) (octets : List ℕ) (mark : Option ℕ) (written : List ℕ) → HasMark (SpellsFrame f) octets mark → IsNormalised f octets mark written → IsLeast (SpellsFrame f) written
-normalised f octets None written h n = subst (IsLeast (SpellsFrame f)) (sym (n ∙ h.is_mark)) h.is_least
-normalised f octets (Some place) written h n = n
+use Rattle.bac_npdu.specs.Meanings.{MeanTheSame, IsNormalOf}
 
 -- octets without a mark are their own canonical octets
 pub normal_itself : (f : FrameValue) (b : List ℕ) (mark : Option ℕ) → mark ≡ None → SpellsFrame f b → HasMark (SpellsFrame f) b mark → IsNormalOf b b

@@ -1,5 +1,5 @@
 -- What two lists mean, and canonical octets of what was read.
-use Rattle.std.specs.Prelude.{◌≡◌, ◌⊎◌, ℕ, false, Option, None, Some, List}
+use Rattle.std.specs.Prelude.{◌≡◌, ◌⊎◌, ℕ, false, Some, List}
 use Rattle.bac_tag.specs.Spelling.{IsLeast, IsSpelling, HasMark}
 use Rattle.bac_npdu_parts.specs.Frames.{FrameValue, SpellsFrame}
 use Rattle.bac_npdu_parts.specs.Decoded.{begins_small}
@@ -16,12 +16,6 @@ IsNormalOf b c = (f : FrameValue) × SpellsFrame f b × IsLeast (SpellsFrame f) 
 -- canonical octets are written.
 abbrev pub IsShortOfMemory : List ℕ → Type 0
 IsShortOfMemory b = (begins_small b ≡ false) ⊎ IsSpelling SpellsFrame b
-
--- What normalise_frame writes of a frame that octets with this mark spell: these octets if they have no mark, else the
--- canonical ones of the frame.
-abbrev pub IsNormalised : FrameValue → List ℕ → Option ℕ → List ℕ → Type 0
-IsNormalised f octets None written = written ≡ octets
-IsNormalised f octets (Some place) written = IsLeast (SpellsFrame f) written
 
 -- The octets b spell a frame, and the place is the first at which they differ from the canonical octets of that frame.
 abbrev pub IsFirstFlaw : List ℕ → ℕ → Type 0

@@ -1,6 +1,6 @@
 //! Checking a frame: whether octets spell one, and their mark. No frame is made for it, so it takes no memory.
 
-ghost use Rattle.std.specs.Prelude.{◌≡◌, ◌≢◌, ◌↔◌, IfOk, IfErr};
+ghost use Rattle.std.specs.Prelude.{◌≢◌, IfOk, IfErr};
 ghost use Rattle.bac_productions.specs.Productions.{IsMarked};
 ghost use Rattle.bac_tag.specs.Spelling.{IsWholeRefusal};
 ghost use Rattle.bac_npdu_parts.specs.Frames.{SpellsFrame};

@@ -22,12 +22,12 @@
 //! frame of it (`local_frame`). Every other frame is decoded by a call (`decode_any`), which copies the addresses.
 //! [`decode_strict`] also looks at the mark.
 //!
-//! [`normalise_frame`] keeps no frame: where the frame was decoded, it copies octets without a mark, and writes the others
-//! into a vector with capacity for as many octets. More than 4,096 octets are first checked, so a long value is copied once
-//! and not twice. [`same_meaning`] compares canonical octets.
-//!
 //! [`check_frame`] reads the same head, and has the body checked by the crates below. It makes no value, so it takes no
 //! memory.
+//!
+//! [`normalise_frame`] checks first, and copies canonical octets. It decodes only the others, keeps no frame of them, and
+//! writes into a vector with capacity for as many octets. [`same_meaning`] compares canonical octets: those that it was
+//! given, or those that it wrote so.
 //!
 //! Where it is, in `src`, and after the semicolon in `specs`:
 //!

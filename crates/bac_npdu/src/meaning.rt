@@ -1,16 +1,15 @@
 //! Whether two inputs spell the same frame.
 
-ghost use Rattle.std.specs.Prelude.{◌≡◌, ◌≢◌, ◌↔◌, true, false, IfOk, IfErr, MatchOption};
+ghost use Rattle.std.specs.Prelude.{◌≡◌, ◌≢◌, ◌↔◌, true, IfOk, IfErr, MatchOption};
 ghost use Rattle.bac_tag.specs.declared.refusals.Why.TheVariants.{OutOfMemory};
-ghost use Rattle.bac_tag.specs.Spelling.{HasMark, IsLeast, IsSpelling, IsWholeRefusal};
-ghost use Rattle.bac_npdu_parts.specs.Frames.{SpellsFrame, value_of};
-ghost use Rattle.bac_npdu_parts.specs.Decoded.{begins_small, IsReasoned};
+ghost use Rattle.bac_tag.specs.Spelling.{IsSpelling, IsWholeRefusal};
+ghost use Rattle.bac_npdu_parts.specs.Frames.{SpellsFrame};
+ghost use Rattle.bac_npdu_parts.specs.Decoded.{IsReasoned};
 ghost use Rattle.bac_npdu.specs.Meanings.{IsNormalOf, IsShortOfMemory, MeanTheSame};
 
 use crate::frame_checking::check_frame;
-use crate::frame_decoding::decode_marked;
 use crate::laws::canonical_octets_tell_the_meaning;
-use bac_npdu_parts::{Frame, encode_frame};
+use crate::strict::decoded_and_written;
 use bac_tag::Refusal;
 use std::alloc::Global;
 
@@ -21,31 +20,6 @@ pub enum Side {
     Left,
     /// The second.
     Right,
-}
-
-/// Decodes the frame of one side, and returns it with its mark. OutOfMemory at 0 is then a refusal that what is written of
-/// the frame may have.
-fn read(alloc: Global, side: Side, octets: &[u8]) -> Result<(Frame, Option<usize>), (Side, Refusal)>
-    ensures spelled { IfOk result (λ found. SpellsFrame (value_of found.0) octets.now) }
-    ensures marked { IfOk result (λ found. HasMark (SpellsFrame (value_of found.0)) octets.now found.1) }
-    ensures unwritten { IfOk result (λ found. IsReasoned octets.now (record { place = 0; why = OutOfMemory })) }
-    ensures side { IfErr result (λ told. told.0 ≡ side) }
-    ensures refused { IfErr result (λ told. told.1.why ≢ OutOfMemory → IsWholeRefusal SpellsFrame octets.now told.1) }
-    ensures memory { IfErr result (λ told. told.1.why ≡ OutOfMemory → (told.1.place ≡ 0) × (begins_small octets.now ≡ false)) }
-    ensures reasons { IfErr result (λ told. IsReasoned octets.now told.1) }
-{
-    match decode_marked(alloc, octets) {
-        Ok(found) => Ok(found),
-        Err(refusal) => Err((side, refusal)),
-    }
-}
-
-/// Returns the canonical octets of the frame of one side.
-fn encoded(alloc: Global, side: Side, frame: &Frame) -> Result<Vec<u8>, (Side, Refusal)>
-    ensures ok { IfOk result (λ out. IsLeast (SpellsFrame (value_of frame.now)) out.items) }
-    ensures memory { IfErr result (λ told. told ≡ (side, record { place = 0; why = OutOfMemory })) }
-{
-    encode_frame(alloc, frame).map_err(|_refused| (side, Refusal::out_of_memory()))
 }
 
 /// Returns the canonical octets of the frame that one side spells, or None if they are the octets of the side: then no
@@ -60,10 +34,10 @@ fn rewritten(alloc: Global, side: Side, octets: &[u8]) -> Result<Option<Vec<u8>>
 {
     match check_frame(alloc, octets) {
         Ok(None) => Ok(None),
-        Ok(Some(_)) => {
-            let (frame, _) = read(alloc, side, octets)?;
-            Ok(Some(encoded(alloc, side, &frame)?))
-        }
+        Ok(Some(_)) => match decoded_and_written(alloc, octets) {
+            Ok(written) => Ok(Some(written)),
+            Err(refusal) => Err((side, refusal)),
+        },
         Err(refusal) => Err((side, refusal)),
     }
 }

@@ -1,7 +1,7 @@
 //! Decoding canonical octets and no others, and the canonical octets of what was read.
 
-ghost use Rattle.std.specs.Prelude.{◌≡◌, ◌≢◌, ◌↔◌, false, IsTrue, IfOk, IfErr};
-ghost use Rattle.bac_tag.specs.Spelling.{IsLeast, IsWholeRefusal, IsCanonical};
+ghost use Rattle.std.specs.Prelude.{◌≡◌, ◌≢◌, ◌↔◌, false, IfOk, IfErr};
+ghost use Rattle.bac_tag.specs.Spelling.{IsLeast, IsWholeRefusal};
 ghost use Rattle.bac_npdu_parts.specs.Frames.{SpellsFrame, value_of};
 ghost use Rattle.bac_npdu_parts.specs.Heads.{IsVersionPlace, IsAddressPlace};
 ghost use Rattle.bac_npdu_parts.specs.Decoded.{begins_small, IsPduTypePlace, IsFrameWindowPlace, IsFrameReason, IsReasoned};
@@ -101,53 +101,58 @@ pub fn decode_strict(alloc: Global, octets: &[u8]) -> Result<Frame, Refusal>
     Ok(local_frame(&front, apdu))
 }
 
-/// Returns true if the octets are the canonical ones of a frame (clause 6.2).
-fn is_canonical_frame(alloc: Global, octets: &[u8]) -> bool
-    ensures { IsTrue result → IsCanonical SpellsFrame octets.now }
-{
-    matches!(check_frame(alloc, octets), Ok(None))
-}
-
-/// A frame of more octets is first tested for being canonical. If it is, it is copied once: going through a long string is
-/// faster than copying it.
-const LONG: usize = 4096;
-
 /// Writes the canonical octets of a frame where it was decoded, so that the frame is not put together and moved.
 #[derive(Drop)]
-struct Normalising<'a> {
+struct Writing {
     alloc: Global,
-    /// The octets that spell the frame.
-    octets: &'a [u8],
+    /// For how many octets memory is asked, all at once.
+    capacity: usize,
 }
 
-impl FrameVisitor for Normalising<'_> {
+impl FrameVisitor for Writing {
     ghost use Rattle.std.specs.Prelude.{IfOk};
-    ghost use Rattle.bac_npdu.specs.Meanings.{IsNormalised};
+    ghost use Rattle.bac_tag.specs.Spelling.{IsLeast};
+    ghost use Rattle.bac_npdu_parts.specs.Frames.{SpellsFrame};
 
     type Place = ();
 
     type Made = Result<Vec<u8>, OutOfMemory>;
 
-    ghost makes = { λ normalising value mark _ _ made. IfOk made (λ out. IsNormalised value normalising.octets.now mark out.items) };
+    ghost makes = { λ _ value _ _ _ made. IfOk made (λ out. IsLeast (SpellsFrame value) out.items) };
 
     #[inline(always)]
     fn visit(
         self,
         head: &FrameHead<'_>,
         body: Body,
-        mark: Option<usize>,
+        _mark: Option<usize>,
         _place: &mut (),
     ) -> Result<Vec<u8>, OutOfMemory> {
-        let Normalising { alloc, octets } = self;
-        match mark {
-            None => Ok(Vec::from_slice(alloc, octets)?),
-            Some(_) => {
-                // The canonical octets are no more than these, so memory is asked for once.
-                let mut out = Vec::with_capacity(alloc, octets.len())?;
-                head.append_frame(&body, &mut out)?;
-                Ok(out)
-            }
-        }
+        let mut out = Vec::with_capacity(self.alloc, self.capacity)?;
+        head.append_frame(&body, &mut out)?;
+        Ok(out)
+    }
+}
+
+/// Decodes the frame that all the octets spell, and writes its canonical octets.
+///
+/// # Errors
+/// As those of [`normalise_frame`].
+#[inline(never)]
+pub(crate) fn decoded_and_written(alloc: Global, octets: &[u8]) -> Result<Vec<u8>, Refusal>
+    ensures written { IfOk result (λ out. IsNormalOf octets.now out.items) }
+    ensures refused { IfErr result (λ refusal. refusal.why ≢ Why.OutOfMemory → IsWholeRefusal SpellsFrame octets.now refusal) }
+    ensures memory { IfErr result (λ refusal. refusal.why ≡ Why.OutOfMemory → (refusal.place ≡ 0) × IsShortOfMemory octets.now) }
+    ensures reasons { IfErr result (IsReasoned octets.now) }
+{
+    // The canonical octets are no more than these.
+    let writing = Writing {
+        alloc,
+        capacity: octets.len(),
+    };
+    match visit_frame(alloc, octets, writing, &mut ())? {
+        Ok(canonical) => Ok(canonical),
+        Err(_) => Err(Refusal::out_of_memory()),
     }
 }
 
@@ -177,13 +182,12 @@ pub fn normalise_frame(alloc: Global, octets: &[u8]) -> Result<Vec<u8>, Refusal>
     ensures memory { IfErr result (λ refusal. refusal.why ≡ Why.OutOfMemory → (refusal.place ≡ 0) × IsShortOfMemory octets.now) }
     ensures reasons { IfErr result (IsReasoned octets.now) }
 {
-    if octets.len() > LONG && is_canonical_frame(alloc, octets) {
-        return match Vec::from_slice(alloc, octets) {
-            Ok(canonical) => Ok(canonical),
-            Err(_) => Err(Refusal::out_of_memory()),
-        };
+    let mark = check_frame(alloc, octets)?;
+    if mark.is_some() {
+        return decoded_and_written(alloc, octets);
     }
-    match visit_frame(alloc, octets, Normalising { alloc, octets }, &mut ())? {
+    // They are the canonical ones.
+    match Vec::from_slice(alloc, octets) {
         Ok(canonical) => Ok(canonical),
         Err(_) => Err(Refusal::out_of_memory()),
     }
