@@ -11,3 +11,4 @@ mod LineLemmas
 mod NumberLemmas
 mod OwnLemmas
 mod LabelLemmas
+mod CompletionLemmas

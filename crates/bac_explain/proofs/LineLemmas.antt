@@ -1,16 +1,21 @@
 -- The lines of pieces, one after another.
-use Rattle.std.proofs.Common.{◌≡◌, ℕ, ◌+◌, ◌-◌, ◌*◌, ◌/◌, List, [], ◌∷◌, ◌++◌, length, refl, sym, ap, ◌∙◌, append_assoc, add-one, replicate, take, get_or, subst, ◌<◌, eqb, true, arith, inl, inr}
-use Rattle.std.proofs.lemmas.List.{append-nil, replicate-append-replicate, take_more}
+use Rattle.std.proofs.Common.{◌≡◌, ℕ, ◌+◌, ◌-◌, ◌*◌, ◌/◌, ◌%◌, ◌≤◌, List, [], ◌∷◌, ◌++◌, length, refl, sym, ap, ◌∙◌, append_assoc, add-one, replicate, take, get_or, subst, ◌<◌, eqb, true, false, arith, inl, inr}
+use Rattle.std.proofs.lemmas.List.{append-nil, length-append, replicate-append-replicate, take_more}
 use Rattle.std.specs.Prelude.{Bool, Option, None, Result, Ok, Err, OnOk, OnErr, codes, drop, slice_get}
 use Rattle.std.specs.Cmp.Lexicographic.{pointwise, bytes_decides}
 use Rattle.std.specs.Fmt.{decimal}
 use Rattle.bac_value.specs.declared.prim.PrimitiveValue.{PrimitiveValue}
 use Rattle.bac_text.specs.PrimitiveText.{primitive_text}
+use Rattle.std.proofs.lemmas.Bool.{le-ltb, lt-ltb}
+use Rattle.bac_record.proofs.DigitLemmas.{one_digit, two_digits}
+use Rattle.bac_record.specs.Digits.{hexadecimal}
 use Rattle.bac_tag.specs.Octets.{Extends}
 use Rattle.bac_explain.specs.declared.piece.Piece.{Piece}
-use Rattle.bac_explain.specs.Lines.{AreLines, blanks, column, front_text, further_line, further_lines, piece_lines, place_text}
+use Rattle.bac_explain.specs.Lines.{AreLines, blanks, column, front_text, further_line, further_lines, gap, margin, parted, piece_lines, place_text}
 use Rattle.bac_field_parts.specs.declared.field.Field.{Field}
-use Rattle.bac_explain.specs.NamedLines.{AreLinesOf, AreNamedLines, IsNote, IsSaidBeside, left_for}
+use Rattle.bac_explain.specs.declared.label.Label.{Label}
+use Rattle.bac_explain.specs.Labels.{Either, IsLabel, IsNamed, within}
+use Rattle.bac_explain.specs.NamedLines.{AreDataLines, AreLinesBeside, AreLinesOf, AreNamedLines, ArePieceLines, IsNote, IsSaidBeside, IsSaidWith, begins_between, data_part, hint_for, is_data, left_for}
 use Rattle.bac_explain.specs.declared.verdict.Verdict.{Verdict}
 use Rattle.bac_explain.specs.declared.verdict.Verdict.TheVariants.{Accepted}
 use Rattle.bac_explain.specs.Explained.{Explains}
@@ -44,24 +49,39 @@ pub refused_after : {E : Type 0} (r : Result Unit E) (old mid new text : List �
 refused_after (Ok done) old mid new text q x = tt
 refused_after (Err fault) old mid new text q x = (text ++ x.0, x.1 ∙ ap (λ l. l ++ x.0) q ∙ append_assoc old text x.0)
 
--- as many blanks twice
-pub twice : {E : Type 0} (r : Result Unit E) (old mid new : List ℕ) (n : ℕ) → mid ≡ old ++ replicate n 32 → OnOk r (new ≡ mid ++ replicate n 32) → OnOk r (new ≡ old ++ blanks (2 * n))
-twice (Ok done) old mid new n q r =
-    appended old mid new (replicate n 32) (replicate n 32) q r
-    ∙ ap (λ l. old ++ l) (replicate-append-replicate n n 32)
-    ∙ ap (λ k. old ++ replicate k 32) (omega arith)
-twice (Err fault) old mid new n q r = tt
-
 -- the last of two texts, where the result of its call is handed on
 pub written_last : {E : Type 0} (r : Result Unit E) (old mid new a b : List ℕ) → mid ≡ old ++ a → OnOk r (new ≡ mid ++ b) → OnOk r (new ≡ old ++ (a ++ b))
 written_last (Ok done) old mid new a b q r = appended old mid new a b q r
 written_last (Err fault) old mid new a b q r = tt
 
--- the last of three texts, where the result of its call is handed on
-pub third : {E : Type 0} (r : Result Unit E) (old one two new a b c : List ℕ) → one ≡ old ++ a → two ≡ one ++ b → OnOk r (new ≡ two ++ c) → OnOk r (new ≡ old ++ (a ++ (b ++ c)))
-third (Ok done) old one two new a b c p q r =
-    appended old two new (a ++ b) c (appended old one two a b p q) r ∙ ap (λ l. old ++ l) (append_assoc a b c)
-third (Err fault) old one two new a b c p q r = tt
+-- the blanks before an offset of one digit, and of two
+margin_one : (n : ℕ) → n < 10 → margin n ≡ codes "   "
+margin_one n few = rw (lt-ltb n 10 few) refl
+
+margin_two : (n : ℕ) → 10 ≤ n → n < 100 → margin n ≡ codes "  "
+margin_two n ten few = rw (le-ltb n 10 ten, lt-ltb n 100 few) refl
+
+-- an offset of one digit, and of two
+pub place_one : (n d : ℕ) → n < 10 → d ≡ 48 + n → 32 ∷ 32 ∷ 32 ∷ d ∷ 32 ∷ 32 ∷ [] ≡ place_text n
+place_one n d few p =
+    ap (λ (l : List ℕ). 32 ∷ 32 ∷ 32 ∷ (l ++ codes "  ")) (one_digit n d few p)
+    ∙ sym (ap (λ (m : List ℕ). m ++ (decimal n ++ codes "  ")) (margin_one n few))
+
+pub place_two : (n a b : ℕ) → 10 ≤ n → n < 100 → a ≡ 48 + n / 10 → b ≡ 48 + n % 10 → 32 ∷ 32 ∷ a ∷ b ∷ 32 ∷ 32 ∷ [] ≡ place_text n
+place_two n a b ten few p q =
+    ap (λ (l : List ℕ). 32 ∷ 32 ∷ (l ++ codes "  ")) (two_digits n a b ten few p q)
+    ∙ sym (ap (λ (m : List ℕ). m ++ (decimal n ++ codes "  ")) (margin_two n ten few))
+
+-- each octet has two digits
+digits_length : (octets : List ℕ) → length (hexadecimal octets) ≡ 2 * length octets
+digits_length [] = refl
+digits_length (octet ∷ octets) = omega (arith, digits_length octets)
+
+-- how long a tag head and its contents are as digits
+pub parted_length : (head contents : List ℕ) (at head_end start end : ℕ) → head_end ≡ at + 2 * length head → start ≡ head_end + length (gap head contents) → end ≡ start + 2 * length contents → end ≡ at + length (parted head contents)
+parted_length head contents at head_end start end e f g =
+    let two = length-append (gap head contents) (hexadecimal contents) in
+    omega (arith, e, f, g, digits_length head, digits_length contents, two, length-append (hexadecimal head) (gap head contents ++ hexadecimal contents))
 
 -- the words of a piece, and what is after them
 pub said_piece : {E : Type 0} (P : List ℕ → Type 0) (r : Result Unit E) (p : Piece) (own old one two new said : List ℕ) → one ≡ old ++ (place_text p.place ++ (column (front_text p own) ++ blanks (2 * p.depth))) → two ≡ one ++ said → P said
@@ -109,27 +129,27 @@ lines_step octets ps i d own old mid new lines below is q are said =
     )
 
 -- the lines of pieces, whatever the lines of the others are
-pub Continues : List ℕ → List ℕ → List Field → List Piece → List Piece → List Field → List Piece → List Piece → List ℕ → Type 0
-Continues octets canonical fields all others ahead left right done =
-    (rest : List ℕ) → AreNamedLines octets canonical ahead left right rest → AreNamedLines octets canonical fields all others (done ++ rest)
+pub Continues : List ℕ → List ℕ → List Field → List ℕ → List Piece → List Piece → List Field → List Piece → List Piece → List ℕ → Type 0
+Continues octets canonical fields hint all others ahead left right done =
+    (rest : List ℕ) → AreNamedLines octets canonical ahead hint left right rest → AreNamedLines octets canonical fields hint all others (done ++ rest)
 
 -- one more piece
-pub continued : (octets canonical : List ℕ) (fields : List Field) (all others : List Piece) (ahead : List Field) (p : Piece) (left right : List Piece) (done first : List ℕ) → AreLinesOf octets canonical (left_for right ahead) p (slice_get right 0) first
-    → Continues octets canonical fields all others ahead (p ∷ left) right done → Continues octets canonical fields all others (left_for right ahead) left (drop 1 right) (done ++ first)
+pub continued : (octets canonical : List ℕ) (fields : List Field) (hint : List ℕ) (all others : List Piece) (ahead : List Field) (p : Piece) (left right : List Piece) (done first : List ℕ) → AreLinesOf octets canonical (left_for right ahead) hint p (slice_get right 0) first
+    → Continues octets canonical fields hint all others ahead (p ∷ left) right done → Continues octets canonical fields hint all others (left_for right ahead) left (drop 1 right) (done ++ first)
 unfolding Continues
-continued octets canonical fields all others ahead p left right done first is goes rest are =
-    subst (λ l. AreNamedLines octets canonical fields all others l) (sym (append_assoc done first rest)) (goes (first ++ rest) (first, is, (rest, are, refl)))
+continued octets canonical fields hint all others ahead p left right done first is goes rest are =
+    subst (λ l. AreNamedLines octets canonical fields hint all others l) (sym (append_assoc done first rest)) (goes (first ++ rest) (first, is, (rest, are, refl)))
 
 -- at first all pieces are left
-pub begun : (octets canonical : List ℕ) (fields : List Field) (all others : List Piece) → Continues octets canonical fields all others fields all others []
+pub begun : (octets canonical : List ℕ) (fields : List Field) (hint : List ℕ) (all others : List Piece) → Continues octets canonical fields hint all others fields all others []
 unfolding Continues
-begun octets canonical fields all others rest are = are
+begun octets canonical fields hint all others rest are = are
 
 -- at last none is left
-pub all_told : (octets canonical : List ℕ) (fields : List Field) (all others : List Piece) (ahead : List Field) (left right : List Piece) (done : List ℕ) → length left ≡ 0 → Continues octets canonical fields all others ahead left right done → AreNamedLines octets canonical fields all others done
+pub all_told : (octets canonical : List ℕ) (fields : List Field) (hint : List ℕ) (all others : List Piece) (ahead : List Field) (left right : List Piece) (done : List ℕ) → length left ≡ 0 → Continues octets canonical fields hint all others ahead left right done → AreNamedLines octets canonical fields hint all others done
 unfolding Continues
-all_told octets canonical fields all others ahead [] right done none goes = subst (λ l. AreNamedLines octets canonical fields all others l) (append-nil done) (goes [] refl)
-all_told octets canonical fields all others ahead (p ∷ left) right done none goes = absurd (omega (arith, none))
+all_told octets canonical fields hint all others ahead [] right done none goes = subst (λ l. AreNamedLines octets canonical fields hint all others l) (append-nil done) (goes [] refl)
+all_told octets canonical fields hint all others ahead (p ∷ left) right done none goes = absurd (omega (arith, none))
 
 -- equal octets compare as equal
 pub same_octets : (a b : List ℕ) → a ≡ b → pointwise eqb a b ≡ true
@@ -140,11 +160,10 @@ pub noted : {E : Type 0} (r : Result Unit E) (own : List ℕ) (q : Piece) (canon
 noted (Ok done) own q canonical old mid new other p r = (codes "  ~ " ++ front_text q canonical, appended old mid new (codes "  ~ ") (front_text q canonical) p r, inr (other, refl))
 noted (Err fault) own q canonical old mid new other p r = tt
 
--- the lines of a piece beside the first one of the canonical octets
-pub beside_first : {E : Type 0} (r : Result Unit E) (octets canonical : List ℕ) (fields : List Field) (p : Piece) (others : List Piece) (d : Piece) (own beside old new : List ℕ) → 0 < length others → own ≡ octets_of octets p → beside ≡ octets_of canonical (get_or others 0 d)
-    → OnOk r ((said : List ℕ) × IsSaidBeside fields p own (get_or others 0 d) beside said × (new ≡ old ++ piece_lines p own said)) → OnOk r ((x : List ℕ) × (new ≡ old ++ x) × AreLinesOf octets canonical fields p (slice_get others 0) x)
-beside_first (Ok done) octets canonical fields p [] d own beside old new some is is_beside told = absurd (omega (arith, some))
-beside_first (Ok done) octets canonical fields p (q ∷ qs) d own beside old new some is is_beside told =
+-- the lines of a piece with its own octets
+pub beside_own : {E : Type 0} (r : Result Unit E) (octets canonical : List ℕ) (fields : List Field) (p q : Piece) (own beside old new : List ℕ) → own ≡ octets_of octets p → beside ≡ octets_of canonical q
+    → OnOk r ((said : List ℕ) × IsSaidBeside fields p own q beside said × (new ≡ old ++ piece_lines p own said)) → OnOk r ((x : List ℕ) × (new ≡ old ++ x) × AreLinesBeside octets canonical fields p q x)
+beside_own (Ok done) octets canonical fields p q own beside old new is is_beside told =
     let said = told.0 in (
       piece_lines p own said,
       told.2,
@@ -154,7 +173,89 @@ beside_first (Ok done) octets canonical fields p (q ∷ qs) d own beside old new
         ap (λ o. piece_lines p o said) is,
       ),
     )
-beside_first (Err fault) octets canonical fields p others d own beside old new some is is_beside told = tt
+beside_own (Err fault) octets canonical fields p q own beside old new is is_beside told = tt
+
+-- what is said of a piece of canonical octets, which stands beside itself
+pub said_itself : {E : Type 0} (r : Result Unit E) (fields : List Field) (p : Piece) (own old one two new : List ℕ) (label : Option Label) → IsLabel (within p fields) p label → one ≡ old ++ (place_text p.place ++ (column (front_text p own) ++ blanks (2 * p.depth)))
+    → (said : List ℕ) × (two ≡ one ++ said) × IsNamed label p own said → OnOk r (new ≡ two ++ (codes "\n" ++ further_lines p own ((length own - 1) / 8))) → OnOk r ((x : List ℕ) × IsSaidBeside fields p own p own x × (new ≡ old ++ piece_lines p own x))
+said_itself r fields p own old one two new label is q says end =
+    let said = says.0 in
+    said_piece (IsSaidBeside fields p own p own) r p own old one two new said q says.1 (label, is, (said, says.2, ([], inl (refl, refl), sym (append-nil said)))) end
+
+-- those of a piece that is no data
+pub no_data : {E : Type 0} (r : Result Unit E) (octets canonical : List ℕ) (fields : List Field) (p q : Piece) (old new : List ℕ) → is_data p.kind ≡ false
+    → OnOk r ((x : List ℕ) × (new ≡ old ++ x) × AreLinesBeside octets canonical fields p q x) → OnOk r ((x : List ℕ) × (new ≡ old ++ x) × ArePieceLines octets canonical fields p q x)
+no_data (Ok done) octets canonical fields p q old new other told =
+    (told.0, told.1, subst (λ b. Either b (AreDataLines octets canonical fields p.place (p.place + length (octets_of octets p)) fields told.0) (AreLinesBeside octets canonical fields p q told.0)) (sym other) told.2)
+no_data (Err fault) octets canonical fields p q old new other told = tt
+
+-- those of data
+pub data_told : {E : Type 0} (r : Result Unit E) (octets canonical : List ℕ) (fields : List Field) (p q : Piece) (own old new : List ℕ) → is_data p.kind ≡ true → own ≡ octets_of octets p
+    → OnOk r ((x : List ℕ) × (new ≡ old ++ x) × AreDataLines octets canonical fields p.place (p.place + length own) fields x) → OnOk r ((x : List ℕ) × (new ≡ old ++ x) × ArePieceLines octets canonical fields p q x)
+data_told (Ok done) octets canonical fields p q own old new sure is told = (
+  told.0,
+  told.1,
+  subst (λ b. Either b (AreDataLines octets canonical fields p.place (p.place + length (octets_of octets p)) fields told.0) (AreLinesBeside octets canonical fields p q told.0)) (sym sure)
+      (subst (λ o. AreDataLines octets canonical fields p.place (p.place + length o) fields told.0) is told.2),
+)
+data_told (Err fault) octets canonical fields p q own old new sure is told = tt
+
+-- those of a piece beside the first one of the canonical octets
+pub beside_first : {E : Type 0} (r : Result Unit E) (octets canonical : List ℕ) (fields : List Field) (hint : List ℕ) (p : Piece) (others : List Piece) (d : Piece) (old new : List ℕ) → 0 < length others
+    → OnOk r ((x : List ℕ) × (new ≡ old ++ x) × ArePieceLines octets canonical fields p (get_or others 0 d) x) → OnOk r ((x : List ℕ) × (new ≡ old ++ x) × AreLinesOf octets canonical fields hint p (slice_get others 0) x)
+beside_first (Ok done) octets canonical fields hint p [] d old new some told = absurd (omega (arith, some))
+beside_first (Ok done) octets canonical fields hint p (q ∷ qs) d old new some told = told
+beside_first (Err fault) octets canonical fields hint p others d old new some told = tt
+
+-- those of a piece that is beside none
+pub beside_none : {E : Type 0} (r : Result Unit E) (octets canonical : List ℕ) (fields : List Field) (hint : List ℕ) (p : Piece) (others : List Piece) (own old new : List ℕ) → length others ≡ 0 → own ≡ octets_of octets p
+    → OnOk r ((said : List ℕ) × IsSaidWith hint p own said × (new ≡ old ++ piece_lines p own said)) → OnOk r ((x : List ℕ) × (new ≡ old ++ x) × AreLinesOf octets canonical fields hint p (slice_get others 0) x)
+beside_none (Ok done) octets canonical fields hint p [] own old new none is told = (
+  piece_lines p own told.0,
+  told.2,
+  (told.0, subst (λ o. IsSaidWith hint p o told.0) is told.1, ap (λ o. piece_lines p o told.0) is),
+)
+beside_none (Ok done) octets canonical fields hint p (q ∷ qs) own old new none is told = absurd (omega (arith, none))
+beside_none (Err fault) octets canonical fields hint p others own old new none is told = tt
+
+-- the words of a piece, and the hint
+pub hinted : (hint : List ℕ) (p : Piece) (own old mid new said shown : List ℕ) → mid ≡ old ++ said → IsSaid p own said → shown ≡ hint_for p.kind hint → new ≡ mid ++ shown → (x : List ℕ) × (new ≡ old ++ x) × IsSaidWith hint p own x
+hinted hint p own old mid new said shown q is shows r =
+    (said ++ shown, appended old mid new said shown q r, (said, is, ap (λ l. said ++ l) shows))
+
+-- the lines of data, whatever those of what is left are
+pub DataContinues : List ℕ → List ℕ → List Field → ℕ → ℕ → ℕ → List Field → List Field → List ℕ → Type 0
+DataContinues octets canonical fields from to place left rest done =
+    (lines : List ℕ) → AreDataLines octets canonical left place to rest lines → AreDataLines octets canonical fields from to fields (done ++ lines)
+
+-- at first all is left
+pub data_begun : (octets canonical : List ℕ) (fields : List Field) (from to : ℕ) → DataContinues octets canonical fields from to from fields fields []
+unfolding DataContinues
+data_begun octets canonical fields from to lines are = are
+
+-- one more part
+pub data_cut : (octets canonical : List ℕ) (fields : List Field) (from to place : ℕ) (left : List Field) (f : Field) (more : List Field) (done first : List ℕ) → begins_between place to f ≡ true
+    → AreLinesBeside octets canonical left (data_part place f.place) (data_part place f.place) first → DataContinues octets canonical fields from to place left (f ∷ more) done → DataContinues octets canonical fields from to f.place (f ∷ more) more (done ++ first)
+unfolding DataContinues
+data_cut octets canonical fields from to place left f more done first cut is goes lines are =
+    let two = (x : List ℕ) × AreLinesBeside octets canonical left (data_part place f.place) (data_part place f.place) x × ((rest : List ℕ) × AreDataLines octets canonical (f ∷ more) f.place to more rest × (first ++ lines ≡ x ++ rest)) in
+    subst (λ l. AreDataLines octets canonical fields from to fields l) (sym (append_assoc done first lines))
+    (goes (first ++ lines) (subst (λ b. Either b two (AreDataLines octets canonical left place to more (first ++ lines))) (sym cut) (first, is, (lines, are, refl))))
+
+-- a field that begins elsewhere
+pub data_passed : (octets canonical : List ℕ) (fields : List Field) (from to place : ℕ) (left : List Field) (f : Field) (more : List Field) (done : List ℕ) → begins_between place to f ≡ false → DataContinues octets canonical fields from to place left (f ∷ more) done → DataContinues octets canonical fields from to place left more done
+unfolding DataContinues
+data_passed octets canonical fields from to place left f more done other goes lines are =
+    let two = (x : List ℕ) × AreLinesBeside octets canonical left (data_part place f.place) (data_part place f.place) x × ((rest : List ℕ) × AreDataLines octets canonical (f ∷ more) f.place to more rest × (lines ≡ x ++ rest)) in
+    goes lines (subst (λ b. Either b two (AreDataLines octets canonical left place to more lines)) (sym other) are)
+
+-- the last part
+pub data_last : {E : Type 0} (r : Result Unit E) (octets canonical : List ℕ) (fields : List Field) (from to place : ℕ) (left rest : List Field) (done old mid new : List ℕ) → length rest ≡ 0 → mid ≡ old ++ done → DataContinues octets canonical fields from to place left rest done
+    → OnOk r ((x : List ℕ) × (new ≡ mid ++ x) × AreLinesBeside octets canonical left (data_part place to) (data_part place to) x) → OnOk r ((x : List ℕ) × (new ≡ old ++ x) × AreDataLines octets canonical fields from to fields x)
+unfolding DataContinues
+data_last (Ok is) octets canonical fields from to place left [] done old mid new none q goes told = (done ++ told.0, appended old mid new done told.0 q told.1, goes told.0 told.2)
+data_last (Ok is) octets canonical fields from to place left (f ∷ rest) done old mid new none q goes told = absurd (omega (arith, none))
+data_last (Err fault) octets canonical fields from to place left rest done old mid new none q goes told = tt
 
 -- the lines of all pieces explain the octets
 pub explained_lines : {E : Type 0} (r : Result Unit E) (octets : List ℕ) (v : Verdict) (slice pieces : List Piece) (old new : List ℕ) → slice ≡ pieces → Explains octets v pieces → OnOk r ((x : List ℕ) × (new ≡ old ++ x) × AreLines octets slice x) → OnOk r ((x : List ℕ) × (new ≡ old ++ x) × IsExplanation octets v x)
@@ -163,8 +264,8 @@ explained_lines (Err fault) octets v slice pieces old new is explains told = tt
 
 -- the same beside the pieces of the canonical octets
 pub named_explained : {E : Type 0} (r : Result Unit E) (octets : List ℕ) (mark : Option ℕ) (typed : Bool) (canonical : List ℕ) (fields : List Field) (slice pieces beside others : List Piece) (old new : List ℕ) → slice ≡ pieces → beside ≡ others → Explains octets (Accepted mark typed) pieces → Explains canonical (Accepted None typed) others
-    → OnOk r ((x : List ℕ) × (new ≡ old ++ x) × AreNamedLines octets canonical fields slice beside x) → OnOk r ((x : List ℕ) × (new ≡ old ++ x) × IsNamedExplanation octets mark typed canonical fields x)
+    → OnOk r ((x : List ℕ) × (new ≡ old ++ x) × AreNamedLines octets canonical fields [] slice beside x) → OnOk r ((x : List ℕ) × (new ≡ old ++ x) × IsNamedExplanation octets mark typed canonical fields x)
 named_explained (Ok done) octets mark typed canonical fields slice pieces beside others old new is same explains least told =
     let lines = told.0 in
-    (lines, told.1, (pieces, explains, (others, least, subst (λ l. AreNamedLines octets canonical fields pieces l lines) same (subst (λ l. AreNamedLines octets canonical fields l beside lines) is told.2))))
+    (lines, told.1, (pieces, explains, (others, least, subst (λ l. AreNamedLines octets canonical fields [] pieces l lines) same (subst (λ l. AreNamedLines octets canonical fields [] l beside lines) is told.2))))
 named_explained (Err fault) octets mark typed canonical fields slice pieces beside others old new is same explains least told = tt

@@ -1,5 +1,5 @@
 -- What is written to explain octets.
-use Rattle.std.specs.Prelude.{ℕ, Bool, Option, None, List}
+use Rattle.std.specs.Prelude.{ℕ, Bool, Option, None, List, []}
 use Rattle.bac_tag.specs.Spelling.{IsLeast}
 use Rattle.bac_npdu_parts.specs.Frames.{FrameValue, SpellsFrame}
 use Rattle.bac_field_parts.specs.declared.field.Field.{Field}
@@ -20,7 +20,7 @@ IsExplanation octets verdict lines = (pieces : List Piece) × Explains octets ve
 abbrev pub IsNamedExplanation : List ℕ → Option ℕ → Bool → List ℕ → List Field → List ℕ → Type 0
 IsNamedExplanation octets mark typed canonical fields lines =
     (pieces : List Piece) × Explains octets (Accepted mark typed) pieces
-    × ((others : List Piece) × Explains canonical (Accepted None typed) others × AreNamedLines octets canonical fields pieces others lines)
+    × ((others : List Piece) × Explains canonical (Accepted None typed) others × AreNamedLines octets canonical fields [] pieces others lines)
 
 -- They are the lines of the pieces of octets that spell the frame with this mark, beside those of its canonical octets, with its
 -- fields.

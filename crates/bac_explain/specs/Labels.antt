@@ -92,6 +92,21 @@ is_service name.ConfirmedCovNotification = true
 is_service name.UnconfirmedCovNotification = true
 is_service _ = false
 
+-- The names of parts of network messages that are numbers.
+abbrev pub is_datum : Name → Bool
+is_datum name.Network = true
+is_datum name.ListedNetwork = true
+is_datum name.Performance = true
+is_datum name.PortId = true
+is_datum name.Reason = true
+is_datum name.Time = true
+is_datum name.Flag = true
+is_datum _ = false
+
+-- The word of a part of a network message, and its number if it is one.
+abbrev pub data_words : Label → List ℕ
+data_words label = word_of label.name ++ (if is_datum label.name then codes " " ++ decimal label.number else [])
+
 -- An object identifier as type and instance.
 abbrev pub object_words : ℕ → List ℕ
 object_words bits = decimal (bits / 2 ^ 22) ++ (codes ":" ++ decimal (bits % 2 ^ 22))
@@ -113,10 +128,11 @@ IsSaidOfNamed label (Open number) contents text = Either (is_group label.name) (
 IsSaidOfNamed label tag contents text = IsSaidOfTag tag contents text
 
 -- What is said of a piece of a kind with a label and these octets, of which so many are a tag head. A service choice has the word
--- of the service.
+-- of the service, and data of a network message that of the field.
 abbrev pub IsNamedOf : Label → Kind → ℕ → List ℕ → List ℕ → Type 0
 IsNamedOf label (kind.Element tag) head own text = IsSaidOfNamed label tag (drop head own) text
 IsNamedOf label kind.Choice head own text = Either (is_service label.name) (text ≡ numbered_words kind.Choice own ++ (codes " " ++ word_of label.name)) (IsSaidOf kind.Choice head own text)
+IsNamedOf label kind.Data head own text = text ≡ data_words label
 IsNamedOf label k head own text = IsSaidOf k head own text
 
 -- What is said of a piece with these octets and this label, if it has one.

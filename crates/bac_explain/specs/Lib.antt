@@ -18,3 +18,5 @@ pub mod Explanations
 pub mod Labels
 pub mod NamedLines
 pub mod Numbers
+pub mod Hints
+pub mod Completions

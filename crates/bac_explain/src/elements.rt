@@ -1,10 +1,13 @@
 //! The tags of a service and their contents, piece by piece.
 
-ghost use Rattle.std.specs.Prelude.{◌≡◌, ◌≤◌, ◌<◌, ◌+◌, ◌^◌, length};
+ghost use Rattle.std.specs.Prelude.{◌≡◌, ◌≤◌, ◌<◌, ◌+◌, ◌^◌, IfNone, IfSome, length};
+ghost use Rattle.bac_tag.specs.Heads.{Heads};
+ghost use Rattle.bac_tag.specs.Spelling.{NoFront, Takes};
 ghost use Rattle.bac_explain.specs.Elements.{IsElement, PutsElements, contents_size, element_kind, depth_around, depth_behind};
 
 use crate::cursor::{Cursor, put};
 use crate::piece::{Kind, Piece};
+use bac_tag::layers::quick_head;
 use bac_tag::{TagHead, read_head};
 
 /// Returns how many octets of contents follow a head.
@@ -56,6 +59,22 @@ fn depth_of(head: TagHead, depth: usize) -> usize
     }
 }
 
+/// Returns the head at the front of octets, and how many octets it takes, or None if they begin with none.
+// Most heads are found at once.
+#[inline(always)]
+fn front_head(octets: &[u8]) -> Option<(TagHead, usize)>
+    ensures some { IfSome result (Takes Heads octets.now) }
+    ensures none { IfNone result (NoFront Heads octets.now) }
+{
+    if let Some(found) = quick_head(octets) {
+        return Some(found);
+    }
+    match read_head(octets) {
+        Ok(found) => Some(found),
+        Err(_) => None,
+    }
+}
+
 /// Returns the piece that begins at a place, if `depth` groups are open there: a tag head and its contents, as far as
 /// the octets reach. If they end within the head, or it is none, the piece is all octets that are left.
 pub(crate) fn element_at(octets: &[u8], typed: bool, place: usize, depth: usize) -> Piece
@@ -63,7 +82,7 @@ pub(crate) fn element_at(octets: &[u8], typed: bool, place: usize, depth: usize)
     ensures { IsElement typed octets.now depth place result }
 {
     let (_, rest) = octets.split_at(place);
-    let Ok((head, taken)) = read_head(rest) else {
+    let Some((head, taken)) = front_head(rest) else {
         return Piece {
             place,
             length: rest.len(),

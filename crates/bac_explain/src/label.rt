@@ -1,7 +1,7 @@
 //! The name of a piece.
 
 ghost use Rattle.std.specs.Prelude.{◌≡◌, ◌+◌, nat_lt};
-ghost use Rattle.bac_explain.specs.Labels.{IsLabel, ahead, within, is_group, is_object, is_part, is_service};
+ghost use Rattle.bac_explain.specs.Labels.{IsLabel, ahead, within, is_datum, is_group, is_object, is_part, is_service};
 
 use crate::fields::begins_in;
 use crate::piece::Piece;
@@ -91,6 +91,22 @@ impl Label {
                 | Name::Segmentation
                 | Name::ErrorClass
                 | Name::ErrorCode
+        )
+    }
+
+    /// Returns true if it is that of a part of a network message that is a number.
+    pub(crate) fn is_datum(self) -> bool
+        ensures { result ≡ is_datum self.name }
+    {
+        matches!(
+            self.name,
+            Name::Network
+                | Name::ListedNetwork
+                | Name::Performance
+                | Name::PortId
+                | Name::Reason
+                | Name::Time
+                | Name::Flag
         )
     }
 

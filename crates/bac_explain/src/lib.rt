@@ -1,7 +1,7 @@
 //! What each octet of a frame is, also of a frame that is refused. [`explain`] writes the pieces of octets into a slice of the
 //! caller's. A [`Piece`] has the place of some octets, how many they are, and what they are: a part of a head, or a tag
-//! head and its contents. [`append_lines`] shows pieces line by line, and [`append_frame_explanation`] those of a frame with
-//! the names of its fields.
+//! head and its contents. [`append_lines`] shows pieces line by line, and [`append_octets_explanation`] with the names of
+//! fields.
 //!
 //! In the examples `rt` is the program's `HostRuntime`.
 //!
@@ -16,11 +16,18 @@
 //! elements as an open value has them (`nests.rt`). At the place of a refusal the octet there is a piece of its own
 //! (`refusals.rt`).
 //!
-//! A piece that does not fit in the slice is only counted (`cursor.rt`), so this crate needs no memory for pieces. Each piece
-//! but that of a refusal has an octet, so octets have at most as many pieces as they are, and one more.
+//! A piece that does not fit in the slice is only counted (`cursor.rt`), so [`explain`] and [`write_pieces`] need no memory
+//! for pieces; the lines of more than 64 take a vector. Each piece but that of a refusal has an octet, so octets have at most
+//! as many pieces as they are, and one more.
 //!
-//! Fields of a frame have places in its canonical octets, so they are attached to pieces by place: [`begins_in`]. A
-//! tolerated frame has as many pieces as its canonical octets, so the piece with the same index has the field.
+//! Fields of a frame have places in its canonical octets, so they are attached to pieces by place: [`begins_in`]. A piece of
+//! tolerated octets has the name of the piece with its index of the canonical ones. The data of a network message is cut
+//! where its fields begin (`named_lines.rt`).
+//!
+//! Octets that are refused have no fields. But those before the place begin a frame, and mostly a few octets more make one
+//! (`completing.rt`): they are found octet by octet, by asking `check_frame` where it refuses, so no message has a layout for
+//! it. The fields of that frame name the pieces that both have, and the next piece of the frame is what is possible at the
+//! place (`named_refusal.rt`).
 //!
 //! The laws (`laws.rt`) say what it means that pieces cover octets: joined they are the octets, each octet is in exactly
 //! one of them, and each field with octets begins in exactly one of them.
@@ -35,13 +42,17 @@
 //! - a refusal: `refusals.rt`; `Refusals.antt`
 //! - fields: `fields.rt`; `FieldPieces.antt`
 //! - words: `words.rt`, `tag_words.rt`, `reasons.rt`; `Words.antt`
-//! - lines: `lines.rt`, `explanation.rt`; `Lines.antt`, `Explanations.antt`
+//! - lines: `lines.rt`, `beginnings.rt`, `explanation.rt`; `Lines.antt`, `Explanations.antt`
 //! - names of fields in the words, and canonical octets beside: `label.rt`, `named_words.rt`, `named_lines.rt`,
 //!   `named_pieces.rt`, `named_explanation.rt`; `Labels.antt`, `NamedLines.antt`
+//! - the same of octets that are refused: `completing.rt`, `hints.rt`, `named_refusal.rt`; `Hints.antt`, `Completions.antt`
+//! - the same of any octets: `named_octets.rt`
 //! - a piece as numbers: `numbers.rt`; `Numbers.antt`
 #![tactic(auto)]
 
 mod appending;
+mod beginnings;
+mod completing;
 mod cursor;
 mod elements;
 mod explaining;
@@ -49,12 +60,15 @@ mod explanation;
 mod fields;
 mod front;
 mod heads;
+mod hints;
 mod label;
 pub mod laws;
 mod lines;
 mod named_explanation;
 mod named_lines;
+mod named_octets;
 mod named_pieces;
+mod named_refusal;
 mod named_words;
 mod nests;
 mod numbers;
@@ -72,7 +86,9 @@ pub use explanation::append_explanation;
 pub use fields::begins_in;
 pub use label::{Label, label_of};
 pub use lines::append_lines;
-pub use named_explanation::append_frame_explanation;
+pub use named_explanation::{append_frame_explanation, append_marked_explanation};
+pub use named_octets::append_octets_explanation;
+pub use named_refusal::append_refusal_explanation;
 pub use numbers::PieceNumbers;
 pub use piece::{Kind, Piece};
 pub use pieces::write_pieces;

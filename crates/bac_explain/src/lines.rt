@@ -1,110 +1,17 @@
 //! The lines of pieces.
 
-ghost use Rattle.std.specs.Prelude.{◌≡◌, ◌≤◌, ◌<◌, ◌+◌, ◌*◌, ◌^◌, ◌++◌, ◌-◌, ◌/◌, List, ℕ, OnErr, OnOk, codes, length, take};
+ghost use Rattle.std.specs.Prelude.{◌≡◌, ◌≤◌, ◌<◌, ◌+◌, ◌*◌, ◌^◌, ◌++◌, ◌-◌, ◌/◌, List, ℕ, OnErr, OnOk, codes, length};
 ghost use Rattle.bac_tag.specs.Octets.{Extends};
-ghost use Rattle.bac_explain.specs.Lines.{AreLines, blanks, column, front_text, further_line, further_lines, margin, parted, piece_lines, place_text};
+ghost use Rattle.bac_explain.specs.Lines.{AreLines, further_line, further_lines, piece_lines};
 ghost use Rattle.bac_explain.specs.Tiles.{octets_of};
 ghost use Rattle.bac_explain.specs.Words.{IsSaid};
 
-use crate::appending::{append_blanks, append_digits, append_number};
+use crate::appending::append_digits;
+use crate::beginnings::{WIDTH, append_beginning, append_place, first_octets};
 use crate::piece::Piece;
 use crate::words::append_words;
 use bac_tag::OutOfMemory;
 use bac_tag::layers::or_cut_back;
-
-/// How many octets a line has at most.
-const WIDTH: usize = 8;
-
-/// How many columns the octets of a first line have at least.
-const COLUMN: usize = 11;
-
-/// Returns the blanks before an offset of fewer than four digits.
-fn margin_of(place: usize) -> &'static [u8]
-    ensures { result.now ≡ margin place }
-{
-    match place {
-        0..=9 => b"   ",
-        10..=99 => b"  ",
-        100..=999 => b" ",
-        _ => b"",
-    }
-}
-
-/// Appends an offset at the right of at least four columns, and two blanks.
-fn append_place(place: usize, out: &mut Vec<u8>) -> Result<(), OutOfMemory>
-    ensures text { OnOk result (out.new.items ≡ out.old.items ++ place_text place) }
-    ensures err { OnErr result (Extends out.old.items out.new.items) }
-{
-    out.extend_from_slice(margin_of(place))?;
-    append_number(place as u64, out)?;
-    out.extend_from_slice(b"  ")?;
-    Ok(())
-}
-
-/// Appends a tag head and its contents as digits, with a blank between them.
-fn append_parted(head: &[u8], contents: &[u8], out: &mut Vec<u8>) -> Result<(), OutOfMemory>
-    ensures text { OnOk result (out.new.items ≡ out.old.items ++ parted head.now contents.now) }
-    ensures err { OnErr result (Extends out.old.items out.new.items) }
-{
-    append_digits(head, out)?;
-    if !head.is_empty() && !contents.is_empty() {
-        out.push(b' ')?;
-    }
-    append_digits(contents, out)
-}
-
-/// Returns at most so many of the first octets.
-fn first_octets(octets: &[u8], count: usize) -> &[u8]
-    ensures { result.now ≡ take count octets.now }
-{
-    octets.get(..count).unwrap_or(octets)
-}
-
-/// Appends the first octets of a piece as digits.
-pub(crate) fn append_front(piece: &Piece, own: &[u8], out: &mut Vec<u8>) -> Result<(), OutOfMemory>
-    ensures text { OnOk result (out.new.items ≡ out.old.items ++ front_text piece.now own.now) }
-    ensures err { OnErr result (Extends out.old.items out.new.items) }
-{
-    let front = first_octets(own, WIDTH);
-    let (head, contents) = front.split_at(piece.head.min(front.len()));
-    append_parted(head, contents, out)
-}
-
-/// Appends the first octets of a piece in their column.
-fn append_column(piece: &Piece, own: &[u8], out: &mut Vec<u8>) -> Result<(), OutOfMemory>
-    ensures text { OnOk result (out.new.items ≡ out.old.items ++ column (front_text piece.now own.now)) }
-    ensures err { OnErr result (Extends out.old.items out.new.items) }
-{
-    let start = out.len();
-    append_front(piece, own, out)?;
-    let used = out.len() - start;
-    append_blanks(COLUMN.saturating_sub(used), out)?;
-    out.extend_from_slice(b"  ")?;
-    Ok(())
-}
-
-/// Appends two blanks for each group around a piece.
-fn append_indent(depth: usize, out: &mut Vec<u8>) -> Result<(), OutOfMemory>
-    ensures text { OnOk result (out.new.items ≡ out.old.items ++ blanks (2 * depth)) }
-    ensures err { OnErr result (Extends out.old.items out.new.items) }
-{
-    append_blanks(depth, out)?;
-    append_blanks(depth, out)
-}
-
-/// Appends the first line of a piece, but for its words.
-pub(crate) fn append_beginning(
-    piece: &Piece,
-    own: &[u8],
-    out: &mut Vec<u8>,
-) -> Result<(), OutOfMemory>
-    ensures text { OnOk result (out.new.items ≡ out.old.items ++ (place_text piece.now.place ++ (column (front_text piece.now own.now) ++ blanks (2 * piece.now.depth)))) }
-    ensures err { OnErr result (Extends out.old.items out.new.items) }
-{
-    append_place(piece.place, out)?;
-    append_column(piece, own, out)?;
-    append_indent(piece.depth, out)
-}
 
 /// Appends a line of the octets of a piece after its first line.
 fn append_further(
@@ -144,17 +51,21 @@ fn append_further_lines(
 }
 
 /// Appends the end of the first line of a piece, and its further lines.
+#[inline(always)]
 pub(crate) fn append_end(piece: &Piece, own: &[u8], out: &mut Vec<u8>) -> Result<(), OutOfMemory>
     requires { piece.now.place + length own.now < 2 ^ 64 }
     ensures text { OnOk result (out.new.items ≡ out.old.items ++ (codes "\n" ++ further_lines piece.now own.now ((length own.now - 1) / 8))) }
     ensures err { OnErr result (Extends out.old.items out.new.items) }
 {
     out.push(b'\n')?;
+    if own.len() <= WIDTH {
+        return Ok(());
+    }
     append_further_lines(piece, own, own.len().saturating_sub(1) / WIDTH, out)
 }
 
 /// Appends the lines of a piece with these octets.
-pub(crate) fn append_piece(piece: &Piece, own: &[u8], out: &mut Vec<u8>) -> Result<(), OutOfMemory>
+fn append_piece(piece: &Piece, own: &[u8], out: &mut Vec<u8>) -> Result<(), OutOfMemory>
     requires { piece.now.place + length own.now < 2 ^ 64 }
     ensures text { OnOk result ((said : List ℕ) × IsSaid piece.now own.now said × (out.new.items ≡ out.old.items ++ piece_lines piece.now own.now said)) }
     ensures err { OnErr result (Extends out.old.items out.new.items) }

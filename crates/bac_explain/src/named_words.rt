@@ -4,7 +4,7 @@ ghost use Rattle.std.specs.Prelude.{◌≡◌, ◌++◌, List, ℕ, OnErr, OnOk,
 ghost use Rattle.bac_tag.specs.Octets.{Extends};
 ghost use Rattle.bac_field_parts.specs.Names.{word_of as word_of_name};
 ghost use Rattle.bac_explain.specs.declared.piece.Kind.TheVariants.{Choice};
-ghost use Rattle.bac_explain.specs.Labels.{IsNamed, IsNamedOf, IsSaidOfNamed, object_words, part_words};
+ghost use Rattle.bac_explain.specs.Labels.{IsNamed, IsNamedOf, IsSaidOfNamed, data_words, object_words, part_words};
 ghost use Rattle.bac_explain.specs.Words.{bracketed, numbered_words};
 
 use crate::appending::append_number;
@@ -96,6 +96,19 @@ fn append_choice(label: Label, own: &[u8], out: &mut Vec<u8>) -> Result<(), OutO
     append_name(label, out)
 }
 
+/// Appends the word of a part of a network message, and its number if it is one.
+fn append_datum(label: Label, out: &mut Vec<u8>) -> Result<(), OutOfMemory>
+    ensures text { OnOk result (out.new.items ≡ out.old.items ++ data_words label) }
+    ensures err { OnErr result (Extends out.old.items out.new.items) }
+{
+    out.extend_from_slice(label.name.word().as_bytes())?;
+    if label.is_datum() {
+        out.push(b' ')?;
+        append_number(label.number, out)?;
+    }
+    Ok(())
+}
+
 /// Appends the words of a piece with a label. If memory is refused, `out` may hold some of them.
 fn append_labelled(
     label: Label,
@@ -108,6 +121,7 @@ fn append_labelled(
 {
     match piece.kind {
         Kind::Element(tag) => append_named_tag(label, tag, contents_of(own, piece.head), out),
+        Kind::Data => append_datum(label, out),
         Kind::Choice if label.is_service() => append_choice(label, own, out),
         _ => append_said(piece, own, out),
     }

@@ -95,12 +95,12 @@ pub struct Piece {
 }
 
 impl Piece {
-    /// A piece of no octets, to fill a room for pieces with.
+    /// A piece of no octets, to fill a room for pieces with. Its kind, the first one, makes it octets 0 in memory.
     pub const BLANK: Piece = Piece {
         place: 0,
         length: 0,
         head: 0,
         depth: 0,
-        kind: Kind::Rest,
+        kind: Kind::Version,
     };
 }

@@ -11,11 +11,15 @@ mod fields;
 #[cfg(test)]
 mod lines;
 #[cfg(test)]
+mod message_lines;
+#[cfg(test)]
 mod named_lines;
 #[cfg(test)]
 mod numbers;
 #[cfg(test)]
 mod pieces;
+#[cfg(test)]
+mod refused_lines;
 #[cfg(test)]
 mod shown;
 #[cfg(test)]

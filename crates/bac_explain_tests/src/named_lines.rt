@@ -8,7 +8,7 @@ use std::alloc::Global;
 use std::process::Abort;
 
 /// The octets of a text spell a frame that has these lines.
-fn has_lines(rt: &impl Abort, alloc: Global, octets: &str, lines: &str) {
+pub(crate) fn has_lines(rt: &impl Abort, alloc: Global, octets: &str, lines: &str) {
     let octets = octets_of(octets).expect(rt, "octets");
     let (frame, mark) = decode_marked(alloc, &octets).expect(rt, "a frame");
     let mut text = Vec::new(alloc);

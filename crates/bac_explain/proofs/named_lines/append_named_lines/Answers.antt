@@ -7,13 +7,14 @@ use Rattle.bac_explain.proofs.LineLemmas.{Continues, all_told, appended, begun, 
 use Rattle.bac_explain.proofs.named_lines.append_named_lines.Goals as goal
 
 pub loop-piece-init : goal.loop-piece-init
-loop-piece-init c = ([], sym (append-nil c.args.out.now.items), begun c.args.octets.now c.args.canonical.now c.args.fields.now c.args.pieces.now c.args.others.now)
+loop-piece-init c = ([], sym (append-nil c.args.out.now.items), begun c.args.octets.now c.args.canonical.now c.args.fields.now c.args.hint.now c.args.pieces.now c.args.others.now)
 
 pub loop-piece-preserved : goal.loop-piece-preserved
 loop-piece-preserved c =
     let octets = c.args.octets.now in
     let canonical = c.args.canonical.now in
     let fields = c.args.fields.now in
+    let hint = c.args.hint.now in
     let all = c.args.pieces.now in
     let others = c.args.others.now in
     let ahead = c.loop-piece.ahead.now in
@@ -21,17 +22,17 @@ loop-piece-preserved c =
     let so_far = c.loop-piece.invariant in
     let is = c.fields_for-ahead.ensures in
     let lines = c.in_ok-append_lines_of.ensures.text in
-    let goes = subst (λ (l : List Piece). Continues octets canonical fields all others ahead l right so_far.0) c.in-Some.ensures.cases.0 so_far.2 in
-    let first = subst (λ (l : List Field). AreLinesOf octets canonical l c.in-Some.piece.now (slice_get right 0) lines.0) is lines.2 in
-    let told = continued octets canonical fields all others ahead c.in-Some.piece.now c.in-Some.more.now right so_far.0 lines.0 first goes in (
+    let goes = subst (λ (l : List Piece). Continues octets canonical fields hint all others ahead l right so_far.0) c.in-Some.ensures.cases.0 so_far.2 in
+    let first = subst (λ (l : List Field). AreLinesOf octets canonical l hint c.in-Some.piece.now (slice_get right 0) lines.0) is lines.2 in
+    let told = continued octets canonical fields hint all others ahead c.in-Some.piece.now c.in-Some.more.now right so_far.0 lines.0 first goes in (
       so_far.0 ++ lines.0,
       appended c.args.out.now.items c.loop-piece.out.items c.append_lines_of.new.out.items so_far.0 lines.0 so_far.1 lines.1,
-      subst (λ (l : List Piece). Continues octets canonical fields all others c.fields_for-ahead.result.now c.in-Some.more.now l (so_far.0 ++ lines.0)) (sym c.after_first-right.ensures)
-          (subst (λ (l : List Field). Continues octets canonical fields all others l c.in-Some.more.now (drop 1 right) (so_far.0 ++ lines.0)) (sym is) told),
+      subst (λ (l : List Piece). Continues octets canonical fields hint all others c.fields_for-ahead.result.now c.in-Some.more.now l (so_far.0 ++ lines.0)) (sym c.after_first-right.ensures)
+          (subst (λ (l : List Field). Continues octets canonical fields hint all others l c.in-Some.more.now (drop 1 right) (so_far.0 ++ lines.0)) (sym is) told),
     )
 
 pub returns-clause-text : goal.returns-clause-text
 returns-clause-text c =
     let so_far = c.loop-piece.invariant in
     let cases = rw c.in_default.is at c.split_first.ensures.cases in
-    (so_far.0, so_far.1, all_told c.args.octets.now c.args.canonical.now c.args.fields.now c.args.pieces.now c.args.others.now c.loop-piece.ahead.now c.loop-piece.left.now c.loop-piece.right.now so_far.0 cases so_far.2)
+    (so_far.0, so_far.1, all_told c.args.octets.now c.args.canonical.now c.args.fields.now c.args.hint.now c.args.pieces.now c.args.others.now c.loop-piece.ahead.now c.loop-piece.left.now c.loop-piece.right.now so_far.0 cases so_far.2)

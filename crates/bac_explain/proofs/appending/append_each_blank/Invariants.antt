@@ -1,5 +1,5 @@
 use Rattle.std.proofs.Common.{◌≡◌, ◌++◌, replicate}
-use Rattle.bac_explain.proofs.appending.append_blanks.Given as goal
+use Rattle.bac_explain.proofs.appending.append_each_blank.Given as goal
 
 -- As many blanks so far as turns.
 abbrev pub invariant-loop : goal.invariant-loop
