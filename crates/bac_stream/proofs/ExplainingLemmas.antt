@@ -8,8 +8,8 @@ use Rattle.bac_tag.specs.Spelling.{HasMark}
 use Rattle.bac_record.specs.Deals.{IsDealt}
 use Rattle.bac_record.specs.declared.dealing.Dealt.{Dealt}
 use Rattle.bac_npdu_parts.specs.Frames.{FrameValue, SpellsFrame}
-use Rattle.bac_explain.specs.declared.verdict.Verdict.TheVariants.{Refused}
-use Rattle.bac_explain.specs.Explanations.{IsExplanation, IsFrameExplanation}
+use Rattle.bac_explain.specs.Completions.{IsRefusalExplanation}
+use Rattle.bac_explain.specs.Explanations.{IsFrameExplanation}
 use Rattle.bac_stream.specs.declared.modes.Mode.{Mode}
 use Rattle.bac_stream.specs.declared.modes.Mode.TheVariants.{Strict}
 use Rattle.bac_stream.specs.Explaining.{ExplainsAs, IsFrameOf, IsRefusedBy}
@@ -68,7 +68,7 @@ frame_explained mode number octets old new frame mark dealt is told counted kept
 
 -- the output of what is refused
 pub refusal_explained : (mode : Mode) (number : ℕ) (octets old new : List ℕ) (refusal : Refusal) (dealt : Dealt) → IsRefusedBy mode octets refusal
-    → (lines : List ℕ) × (new ≡ old ++ (numbered number (said_text (refused refusal)) ++ lines)) × IsExplanation octets (Refused refusal) lines
+    → (lines : List ℕ) × (new ≡ old ++ (numbered number (said_text (refused refusal)) ++ lines)) × IsRefusalExplanation octets refusal lines
     → dealt ≡ record { is_canonical = false; is_refused = true } → IsDealt (ExplainsAs mode) IsCanonical (IsRefused mode) number octets old new dealt
 refusal_explained mode number octets old new refusal dealt is told counted = rw counted (record {
   output = numbered number (said_text (refused refusal)) ++ told.0;

@@ -3,8 +3,8 @@ use Rattle.std.specs.Prelude.{◌≡◌, ◌↔◌, ◌⊎◌, ℕ, ◌≤◌, �
 use Rattle.bac_tag.specs.declared.refusals.Refusal.{Refusal}
 use Rattle.bac_tag.specs.Spelling.{HasMark}
 use Rattle.bac_npdu_parts.specs.Frames.{FrameValue, SpellsFrame}
-use Rattle.bac_explain.specs.declared.verdict.Verdict.TheVariants as verdict
-use Rattle.bac_explain.specs.Explanations.{IsExplanation, IsFrameExplanation}
+use Rattle.bac_explain.specs.Completions.{IsRefusalExplanation}
+use Rattle.bac_explain.specs.Explanations.{IsFrameExplanation}
 use Rattle.bac_stream.specs.declared.modes.Mode.{Mode}
 use Rattle.bac_stream.specs.Judging.{Accepts, IsCanonical, IsRefused, Refuses}
 use Rattle.bac_stream.specs.Lines.{IsChecked, numbered, refused, said_of, said_text}
@@ -32,12 +32,13 @@ pub record ExplainsFrame (mode : Mode) (number : ℕ) (octets output : List ℕ)
   pub are_lines : IsFrameExplanation octets frame mark lines
   pub is : output ≡ numbered number (said_text (said_of mark)) ++ lines
 
--- The output of octets that are refused: the line that check writes of them, and the lines of their pieces.
+-- The output of octets that are refused: the line that check writes of them, and the lines of their pieces, with the names of the
+-- fields of a frame that begins so, or without.
 pub record ExplainsRefusal (mode : Mode) (number : ℕ) (octets output : List ℕ) : Type 0 where
   pub refusal : Refusal
   pub checked : IsChecked mode octets (refused refusal)
   pub lines : List ℕ
-  pub are_lines : IsExplanation octets (verdict.Refused refusal) lines
+  pub are_lines : IsRefusalExplanation octets refusal lines
   pub is : output ≡ numbered number (said_text (refused refusal)) ++ lines
 
 -- The output of a record: that of octets that are accepted, or of octets that are refused.

@@ -90,11 +90,9 @@ pub record AppendsRecord (frame : FrameValue) (old new : List ℕ) : Type 0 wher
   pub is_canonical : IsCanonicalFor frame canonical
   pub new_is : new ≡ old ++ record_of canonical
 
--- What normalise appends for a frame that was decoded: nothing if the octets have no mark, else the canonical ones as a record,
--- if these fit in one.
-abbrev pub IsRewritten : FrameValue → Option ℕ → List ℕ → List ℕ → Type 0
-IsRewritten frame None old new = new ≡ old
-IsRewritten frame (Some place) old new = ((canonical : List ℕ) → IsCanonicalFor frame canonical → IsRecord canonical) → AppendsRecord frame old new
+-- What normalise appends for a frame that was decoded: its canonical octets as a record, if these fit in one.
+abbrev pub IsRewritten : FrameValue → List ℕ → List ℕ → Type 0
+IsRewritten frame old new = ((canonical : List ℕ) → IsCanonicalFor frame canonical → IsRecord canonical) → AppendsRecord frame old new
 
 -- The file is so many records, and in each mode what normalise may write of these is the file, and nothing else.
 pub record IsKept (records : ℕ) (file : List ℕ) : Type 0 where

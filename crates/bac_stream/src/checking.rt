@@ -1,18 +1,16 @@
 //! The run of `check`.
 
-ghost use Rattle.std.specs.Prelude.{◌≡◌, ◌↔◌, IfErr, IfOk, MatchResult, List, ℕ, None, Some};
-ghost use Rattle.bac_stream.specs.Judging.{IsAcceptedAs, IsCanonical, IsRefused, Refuses};
+ghost use Rattle.std.specs.Prelude.{◌≡◌, IfErr, IfOk, MatchResult, List, ℕ, Some};
+ghost use Rattle.bac_stream.specs.Judging.{IsCanonical, IsRefused};
 ghost use Rattle.bac_stream.specs.Lines.{ChecksAs};
 ghost use Rattle.bac_record.specs.Records.{Records};
 ghost use Rattle.bac_record.specs.Runs.{RanThrough, ReadsAtMost, RunCounts, Stopped};
 ghost use Rattle.bac_record.specs.Files.{RunsOver};
 
+use crate::judging::accepted_mark;
 use crate::lines::Line;
 use crate::{Input, Mode, Output, RunFault, Summary};
-use bac_npdu::check_frame;
-use bac_npdu::laws::frames_have_one_value;
 use bac_record::{DealFault, Dealt, Job, run};
-use bac_tag::Refusal;
 use std::alloc::Global;
 
 /// Says of each record whether it is canonical. No frame is made for it.
@@ -20,28 +18,6 @@ use std::alloc::Global;
 struct Check {
     alloc: Global,
     mode: Mode,
-}
-
-impl Check {
-    /// Returns the first place where accepted octets differ from the canonical ones, or None.
-    ///
-    /// # Errors
-    /// The refusal of [`check_frame`]. In mode Strict also `NotCanonical` at that first place.
-    #[inline(always)]
-    fn mark_of(self, octets: &[u8]) -> Result<Option<usize>, Refusal>
-        ensures accepted { IfOk result (IsAcceptedAs self.mode octets.now) }
-        ensures canonical { IfOk result (λ mark. (mark ≡ None) ↔ IsCanonical octets.now) }
-        ensures fault { IfErr result (Refuses self.mode octets.now) }
-        ensures refused { IfErr result (λ _. IsRefused self.mode octets.now) }
-    {
-        // By this law octets that differ from the canonical ones of their frame are not canonical for any other frame.
-        frames_have_one_value();
-        let mark = check_frame(self.alloc, octets)?;
-        match self.mode.flaw(mark) {
-            None => Ok(mark),
-            Some(refusal) => Err(refusal),
-        }
-    }
 }
 
 impl Job for Check {
@@ -54,7 +30,7 @@ impl Job for Check {
     ghost is_refused = { λ check. IsRefused check.mode };
 
     fn deal(&self, number: u32, octets: &[u8], out: &mut Vec<u8>) -> Result<Dealt, DealFault> {
-        match self.mark_of(octets) {
+        match accepted_mark(self.alloc, self.mode, octets) {
             Ok(mark) => {
                 Line::of_mark(mark).push(number, out)?;
                 Ok(Dealt::accepted(mark))

@@ -2,9 +2,10 @@
 
 ghost use Rattle.std.specs.Prelude.{◌≡◌, ◌≢◌, ◌≤◌, ◌++◌, IfErr, IfOk, MatchResult, OnErr, OnOk, List, ℕ, Some, length};
 ghost use Rattle.bac_tag.specs.declared.refusals.Why.TheVariants as why;
-ghost use Rattle.bac_npdu_parts.specs.Frames.{value_of};
-ghost use Rattle.bac_explain.specs.declared.verdict.Verdict.TheVariants.{Refused};
-ghost use Rattle.bac_explain.specs.Explanations.{IsExplanation, IsFrameExplanation};
+ghost use Rattle.bac_tag.specs.Spelling.{HasMark};
+ghost use Rattle.bac_npdu_parts.specs.Frames.{SpellsFrame, value_of};
+ghost use Rattle.bac_explain.specs.Completions.{IsRefusalExplanation};
+ghost use Rattle.bac_explain.specs.Explanations.{IsFrameExplanation};
 ghost use Rattle.bac_stream.specs.Explaining.{ExplainsAs, IsFrameOf, IsRefusedBy};
 ghost use Rattle.bac_stream.specs.Judging.{IsCanonical, IsRefused};
 ghost use Rattle.bac_stream.specs.Lines.{numbered, refused, said_of, said_text};
@@ -14,7 +15,7 @@ ghost use Rattle.bac_record.specs.Files.{RunsOver};
 
 use crate::lines::Line;
 use crate::{Input, Mode, Output, RunFault, Summary};
-use bac_explain::{Verdict, append_explanation, append_frame_explanation};
+use bac_explain::{append_marked_explanation, append_refusal_explanation};
 use bac_npdu::laws::frames_have_one_value;
 use bac_npdu::{Frame, decode_marked};
 use bac_record::{DealFault, Dealt, Job, run};
@@ -32,12 +33,13 @@ fn append_accepted(
     mark: Option<usize>,
     out: &mut Vec<u8>,
 ) -> Result<(), OutOfMemory>
+    requires { HasMark (SpellsFrame (value_of frame.now)) octets.now mark }
     ensures ok { OnOk result ((lines : List ℕ) × (out.new.items ≡ out.old.items ++ (numbered number (said_text (said_of mark)) ++ lines)) × IsFrameExplanation octets.now (value_of frame.now) mark lines) }
     ensures err { OnErr result (out.new.items ≡ out.old.items) }
 {
     let start = out.len();
     Line::of_mark(mark).push(number, out)?;
-    let appended = append_frame_explanation(alloc, octets, frame, mark, out);
+    let appended = append_marked_explanation(alloc, octets, frame, mark, out);
     or_cut_back(appended, start, out)
 }
 
@@ -51,12 +53,12 @@ fn append_refused(
     out: &mut Vec<u8>,
 ) -> Result<(), OutOfMemory>
     requires { refusal.place ≤ length octets.now }
-    ensures ok { OnOk result ((lines : List ℕ) × (out.new.items ≡ out.old.items ++ (numbered number (said_text (refused refusal)) ++ lines)) × IsExplanation octets.now (Refused refusal) lines) }
+    ensures ok { OnOk result ((lines : List ℕ) × (out.new.items ≡ out.old.items ++ (numbered number (said_text (refused refusal)) ++ lines)) × IsRefusalExplanation octets.now refusal lines) }
     ensures err { OnErr result (out.new.items ≡ out.old.items) }
 {
     let start = out.len();
     Line::Refused(refusal).push(number, out)?;
-    let appended = append_explanation(alloc, octets, Verdict::Refused(refusal), out);
+    let appended = append_refusal_explanation(alloc, octets, refusal, out);
     or_cut_back(appended, start, out)
 }
 

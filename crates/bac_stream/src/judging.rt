@@ -4,15 +4,39 @@ ghost use Rattle.std.specs.Prelude.{◌≡◌, ◌↔◌, ℕ, List, Option, Non
 ghost use Rattle.bac_npdu_parts.specs.FrameHeads.{frame_with};
 ghost use Rattle.bac_npdu_parts.specs.Frames.{FrameValue, body_value};
 ghost use Rattle.bac_record.specs.Deals.{DealFails};
-ghost use Rattle.bac_stream.specs.Judging.{IsAccepted, IsCanonical, IsRefused, Refuses};
+ghost use Rattle.bac_stream.specs.Judging.{IsAccepted, IsAcceptedAs, IsCanonical, IsRefused, Refuses};
 
 use crate::Mode;
 use bac_npdu::laws::frames_have_one_value;
 use bac_npdu::layers::{FrameVisitor, visit_frame};
-use bac_npdu::{Body, FrameHead};
+use bac_npdu::{Body, FrameHead, check_frame};
 use bac_record::DealFault;
-use bac_tag::{OutOfMemory, Why};
+use bac_tag::{OutOfMemory, Refusal, Why};
 use std::alloc::Global;
+
+/// Returns the first place where accepted octets differ from the canonical ones, or None. No frame is made for it.
+///
+/// # Errors
+/// The refusal of [`check_frame`]. In mode Strict also `NotCanonical` at that first place.
+#[inline(always)]
+pub(crate) fn accepted_mark(
+    alloc: Global,
+    mode: Mode,
+    octets: &[u8],
+) -> Result<Option<usize>, Refusal>
+    ensures accepted { IfOk result (IsAcceptedAs mode octets.now) }
+    ensures canonical { IfOk result (λ mark. (mark ≡ None) ↔ IsCanonical octets.now) }
+    ensures fault { IfErr result (Refuses mode octets.now) }
+    ensures refused { IfErr result (λ _. IsRefused mode octets.now) }
+{
+    // By this law octets that differ from the canonical ones of their frame are not canonical for any other frame.
+    frames_have_one_value();
+    let mark = check_frame(alloc, octets)?;
+    match mode.flaw(mark) {
+        None => Ok(mark),
+        Some(refusal) => Err(refusal),
+    }
+}
 
 /// What a run appends for a frame that is accepted.
 pub(crate) trait Appending: Drop {

@@ -12,11 +12,14 @@
 //!
 //! # How it works
 //!
-//! `judge` (`judging.rt`) decides on a record for `show` and `normalise`: bac_npdu decodes the frame (`visit_frame`), mode
+//! Two calls decide on a record (`judging.rt`). `accepted_mark` makes no frame: it checks the octets (`check_frame` of
+//! bac_npdu), and mode Strict refuses those with a mark. With `judge`, bac_npdu decodes the frame (`visit_frame`), mode
 //! Strict refuses a frame with a mark, and otherwise something is appended for it where it was decoded, so the frame is
-//! neither put together nor moved. `show` writes a line for each record (`reporting.rt`). `normalise` copies a record
-//! without a mark, and writes any other from head and body. `check` makes no frame (`check_frame` of bac_npdu), and
-//! `explain` adds to its lines those of the pieces that bac_explain finds.
+//! neither put together nor moved.
+//!
+//! `show` judges, and writes a line for each record (`reporting.rt`). `check` needs only the mark. `normalise` copies a
+//! record without a mark, and judges only what is tolerated, to write it from head and body. `explain` adds to the lines
+//! of `check` those of the pieces that bac_explain finds.
 //!
 //! An [`Intake`] holds the mode, the number of records so far, and less than a record, with capacity for the longest.
 //! `feed` first completes a record that is held in part, reads every further one from the piece itself, and holds what

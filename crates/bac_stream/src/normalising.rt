@@ -10,7 +10,7 @@ ghost use Rattle.bac_record.specs.Records.{Records, IsRecord, LONGEST};
 ghost use Rattle.bac_record.specs.Runs.{RanThrough, ReadsAtMost, RunCounts, Stopped};
 ghost use Rattle.bac_record.specs.Files.{RunsOver};
 
-use crate::judging::{Appending, discard, judge};
+use crate::judging::{Appending, accepted_mark, discard, judge};
 use crate::{Input, Mode, Output, RunFault, Summary};
 use bac_npdu::{Body, FrameHead};
 use bac_record::{DealFault, Dealt, Job, LONGEST, layers, run};
@@ -66,26 +66,23 @@ fn push_record(head: &FrameHead<'_>, body: &Body, out: &mut Vec<u8>) -> Result<(
     or_cut_back(appended, start, out)
 }
 
-/// Appends the canonical octets of a frame as a record, if the octets that were read differ from them.
+/// Appends the canonical octets of a frame as a record.
 #[derive(Drop)]
 struct Rewritten;
 
 impl Appending for Rewritten {
     ghost use Rattle.bac_stream.specs.Lines.{IsRewritten};
 
-    ghost appends = { λ _. IsRewritten };
+    ghost appends = { λ _ frame _. IsRewritten frame };
 
     #[inline(always)]
     fn append(
         self,
         head: &FrameHead<'_>,
         body: Body,
-        mark: Option<usize>,
+        _mark: Option<usize>,
         out: &mut Vec<u8>,
     ) -> Result<(), OutOfMemory> {
-        if mark.is_none() {
-            return Ok(());
-        }
         let appended = push_record(head, &body, out);
         discard(body);
         appended
@@ -102,12 +99,16 @@ impl Job for Normalise {
     ghost is_refused = { λ normalise. IsRefused normalise.mode };
 
     fn deal(&self, _number: u32, octets: &[u8], out: &mut Vec<u8>) -> Result<Dealt, DealFault> {
-        let mark = judge(self.alloc, self.mode, octets, Rewritten, out)?;
-        // What is tolerated was rewritten where it was decoded.
-        if mark.is_some() {
+        let mark = match accepted_mark(self.alloc, self.mode, octets) {
+            Ok(mark) => mark,
+            Err(refusal) => return Err(DealFault::Stop(refusal)),
+        };
+        if mark.is_none() {
+            layers::append_record(octets, out)?;
             return Ok(Dealt::accepted(mark));
         }
-        layers::append_record(octets, out)?;
+        // Only what is tolerated is decoded.
+        let mark = judge(self.alloc, self.mode, octets, Rewritten, out)?;
         Ok(Dealt::accepted(mark))
     }
 }
