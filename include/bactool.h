@@ -35,8 +35,9 @@
  *   - What a call writes, `out`, `fields`, `head`, `pieces` and `outcome`, must not overlap anything else that is
  *     passed to it. What it reads may overlap, and is never written.
  *   - Each call except bactool_reason, bactool_name and bactool_version returns one of the codes below and fills in the
- *     whole of `outcome`. If the code is not BACTOOL_OK, `out` and `fields` are as they were. If it is, what is after
- *     the octets and the fields that are written is as it was. No text ends in a NUL.
+ *     whole of `outcome`. If the code is not BACTOOL_OK, `out` and `fields` are as they were; only bactool_explain_text
+ *     writes with other codes too. What is after the octets and the fields that are written is as it was. No text ends
+ *     in a NUL.
  *
  * Link with -lbactool; `pkg-config --cflags --libs bactool` prints the flags, and CMake has find_package(bactool) and
  * the target bactool::bactool. The shared library is libbactool.so.1. The 1 changes with each release in which a
@@ -71,6 +72,7 @@ extern "C" {
 #define BACTOOL_HAS_JOIN 1
 #define BACTOOL_HAS_EXPLAIN 1
 #define BACTOOL_HAS_PIECE_TEXT 1
+#define BACTOOL_HAS_EXPLAIN_TEXT 1
 
 /* A conversion that compilers for C and for C++ take without a warning. */
 #ifdef __cplusplus
@@ -426,10 +428,11 @@ struct bactool_piece {
 
 /*
  * Says what each octet of a frame is, also if it is refused: cuts the octets into pieces, as `bactool explain` prints
- * them. The pieces are in order: the first one begins at 0, each other one where the one before it ends, and the last
- * one ends with the octets. If the octets are refused, the pieces before `place` are those of a frame that begins so,
- * the octet at `place` is one piece, BACTOOL_PIECE_REFUSED, and those after it are one, BACTOOL_PIECE_REST. The first
- * `most` pieces are written at the front of `pieces`. There are at most `length` + 1, which is always enough.
+ * them, but that all data of a network message is one. The pieces are in order: the first one begins at 0, each other
+ * one where the one before it ends, and the last one ends with the octets. If the octets are refused, the pieces before
+ * `place` are those of a frame that begins so, the octet at `place` is one piece, BACTOOL_PIECE_REFUSED, and those
+ * after it are one, BACTOOL_PIECE_REST. The first `most` pieces are written at the front of `pieces`. There are at most
+ * `length` + 1, which is always enough.
  *
  *   BACTOOL_OK          the octets are the canonical ones of a frame: `fields` is the number of all their pieces
  *   BACTOOL_TOLERATED   they encode a frame otherwise: `fields` too, and `place` is the offset of the first octet that
@@ -452,7 +455,7 @@ uint32_t bactool_explain(const uint8_t *octets, size_t length, struct bactool_pi
 
 /*
  * Writes, at the front of `out`, the words of a piece that bactool_explain wrote of these octets, as `bactool explain`
- * prints them of a refused record: without the name of a field. To learn their length first, call with room 0.
+ * prints them where it has no name of a field. To learn their length first, call with room 0.
  *
  *   BACTOOL_OK          they are written: `count` is the number of their octets
  *   BACTOOL_NO_ROOM     `room` is too small for them: nothing is written, and `count` is the number of their octets
@@ -461,6 +464,26 @@ uint32_t bactool_explain(const uint8_t *octets, size_t length, struct bactool_pi
  */
 uint32_t bactool_piece_text(const struct bactool_piece *piece, const uint8_t *octets, size_t length, char *out,
                             size_t room, struct bactool_outcome *outcome);
+
+/*
+ * Writes, at the front of `out`, the lines that `bactool explain` prints of a record with these octets, after its first
+ * one: what each octet is, with the names of fields, also if the octets are refused. Each line ends in a line feed. If
+ * `room` is too small for all of them, nothing is written. To learn their length first, call with room 0.
+ *
+ *   BACTOOL_OK          the octets are the canonical ones of a frame: `count` is the number of octets of the lines
+ *   BACTOOL_TOLERATED   they encode a frame otherwise: `count` too, and `place` is the offset of the first octet that
+ *                       differs from the canonical ones
+ *   BACTOOL_REFUSED     no frame: `count` too, `why`, and `place` is the offset of the first octet that no frame has
+ *                       there, or `length` with BACTOOL_SHORT
+ *   BACTOOL_NO_MEMORY   memory was refused: nothing is written
+ *
+ *     char lines[4096];
+ *     if (bactool_explain_text(octets, length, lines, sizeof lines, &outcome) != BACTOOL_NO_MEMORY
+ *         && outcome.count <= sizeof lines)
+ *         fwrite(lines, 1, outcome.count, stdout);
+ */
+uint32_t bactool_explain_text(const uint8_t *octets, size_t length, char *out, size_t room,
+                              struct bactool_outcome *outcome);
 
 /*
  * Writes, at the front of `out`, the canonical octets of the frame that the octets encode. There are at most as many of
@@ -807,6 +830,12 @@ static inline uint32_t bactool_piece_text_any(const struct bactool_piece *piece,
     return bactool_piece_text(piece, bactool_octets(octets), length, bactool_text(out), room, outcome);
 }
 
+static inline uint32_t bactool_explain_text_any(const uint8_t *octets, size_t length, char *out, size_t room,
+                                                struct bactool_outcome *outcome)
+{
+    return bactool_explain_text(bactool_octets(octets), length, bactool_text(out), room, outcome);
+}
+
 static inline uint32_t bactool_normalise_any(const uint8_t *octets, size_t length, uint8_t *out, size_t room,
                                              struct bactool_outcome *outcome)
 {
@@ -871,6 +900,7 @@ static inline size_t bactool_name_any(uint32_t name, char *out, size_t room)
 #define bactool_head(...) bactool_head_any(__VA_ARGS__)
 #define bactool_explain(...) bactool_explain_any(__VA_ARGS__)
 #define bactool_piece_text(...) bactool_piece_text_any(__VA_ARGS__)
+#define bactool_explain_text(...) bactool_explain_text_any(__VA_ARGS__)
 #define bactool_normalise(...) bactool_normalise_any(__VA_ARGS__)
 #define bactool_decode(...) bactool_decode_any(__VA_ARGS__)
 #define bactool_encode(...) bactool_encode_any(__VA_ARGS__)

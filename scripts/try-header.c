@@ -167,6 +167,28 @@ static void try_pieces(void)
     EXPECT(bactool_explain(NULL, 0, NULL, 0, &outcome) == BACTOOL_REFUSED && outcome.fields == 1);
 }
 
+/* The lines of a Who-Is that has a low limit, and no high one. */
+static void try_lines(void)
+{
+    static const uint8_t octets[] = {0x01, 0x00, 0x10, 0x08, 0x09, 0x05};
+    static const char wanted[] = "   0  01           version 1\n"
+                                 "   1  00           control: reply 0, priority 0\n"
+                                 "   2  10           Unconfirmed-Request\n"
+                                 "   3  08           service choice 8 Who-Is\n"
+                                 "   4  09 05        [0] low 5\n"
+                                 "   6               <- Short: the octets end, and more must come; possible here: [1] high\n";
+    const size_t count = sizeof wanted - 1;
+    struct bactool_outcome outcome;
+    char lines[4096];
+    EXPECT(bactool_explain_text(octets, COUNT(octets), NULL, 0, &outcome) == BACTOOL_REFUSED && outcome.count == count);
+    EXPECT(bactool_explain_text(octets, COUNT(octets), lines, sizeof lines, &outcome) == BACTOOL_REFUSED);
+    EXPECT(outcome.why == BACTOOL_SHORT && outcome.place == 6 && outcome.count == count && outcome.fields == 0);
+    EXPECT(memcmp(lines, wanted, count) == 0);
+    EXPECT(bactool_explain_text(octets, 4, lines, sizeof lines, &outcome) == BACTOOL_OK && outcome.place == 0);
+    EXPECT(outcome.count > 0 && memcmp(lines, wanted, outcome.count) == 0);
+    EXPECT(bactool_explain_text(NULL, 0, NULL, 0, &outcome) == BACTOOL_REFUSED && outcome.count > 0);
+}
+
 /* The lists of the header's comment are those of examples 1, 4 and 18. */
 static void try_lists(void)
 {
@@ -683,6 +705,7 @@ int main(int count, char **words)
     try_calls();
     try_segments();
     try_pieces();
+    try_lines();
     try_lists();
     try_long();
     try_long_element();

@@ -34,6 +34,9 @@ enum { FIELDS = 2 * (LONGEST + 2), SOME_FIELDS = 1 << 10 };
 /* Octets have at most one piece for each, and one more. They are written where fields are, which take more room. */
 enum { PIECES = LONGEST + 1, SOME_PIECES = SOME_FIELDS * sizeof(struct bactool_field) / sizeof(struct bactool_piece) };
 
+/* More octets than the lines of all pieces have. */
+enum { LINES = 1 << 24 };
+
 static _Atomic unsigned long faults;
 
 #define EXPECT(holds)                                                                \
@@ -91,7 +94,7 @@ static bool is_kept(struct yard yard, size_t room)
 
 /* Octets that are passed, octets and fields that are written, and what was written at first. */
 struct bench {
-    struct yard left, right, out, fields, records;
+    struct yard left, right, out, fields, records, lines;
     struct bactool_field *known;
     struct bactool_piece *explained;
     char *line;
@@ -101,7 +104,8 @@ struct bench {
 static struct bench new_bench(void)
 {
     struct bench bench = {new_yard(RECORDS), new_yard(LONGEST), new_yard(TEXT),
-                          new_yard(FIELDS * sizeof(struct bactool_field)), new_yard(RECORDS), NULL, NULL, NULL, NULL, NULL, NULL};
+                          new_yard(FIELDS * sizeof(struct bactool_field)), new_yard(RECORDS), new_yard(LINES),
+                          NULL, NULL, NULL, NULL, NULL, NULL};
     bench.known = (struct bactool_field *)new_yard(FIELDS * sizeof(struct bactool_field)).end - FIELDS;
     bench.explained = (struct bactool_piece *)new_yard(PIECES * sizeof(struct bactool_piece)).end - PIECES;
     bench.line = (char *)new_yard(TEXT).end - TEXT;
@@ -433,6 +437,48 @@ static void try_other_pieces(struct bench bench, struct bactool_piece piece, con
     }
 }
 
+/* Whether each of these lines has its offset, eight octets to a line. The data of a network message is cut where its fields
+   begin, so the lines from there on are not looked at. */
+static bool are_lines_of(const char *lines, size_t count, const struct bactool_piece *pieces, size_t most)
+{
+    const char *line = lines, *end = lines + count;
+    size_t k = 0;
+    for (; k < most && pieces[k].kind != BACTOOL_PIECE_DATA; k++) {
+        for (size_t at = 0; at == 0 || at < pieces[k].length; at += 8) {
+            char place[32];
+            size_t width = (size_t)snprintf(place, sizeof place, "%4zu  ", pieces[k].place + at);
+            const char *last = memchr(line, '\n', (size_t)(end - line));
+            if (last == NULL || (size_t)(last - line) < width || memcmp(line, place, width) != 0)
+                return false;
+            line = last + 1;
+        }
+    }
+    return end[-1] == '\n' && (line == end) == (k == most);
+}
+
+/* The lines of octets that have so many pieces, with the outcome of bactool_check: they are written where there is room for
+   all of them. */
+static void try_lines(struct bench bench, const uint8_t *octets, size_t length, uint32_t code,
+                      struct bactool_outcome found, size_t pieces)
+{
+    struct bactool_outcome told = UNTOLD;
+    EXPECT(bactool_explain_text(octets, length, NULL, 0, &told) == code);
+    size_t count = told.count;
+    EXPECT(tells(told, found.why, found.place, count, 0) && 0 < count && count < LINES - 8);
+    const size_t rooms[] = {length % 2 == 0 ? count - 1 : count + 7, count};
+    for (size_t k = 0; k < sizeof rooms / sizeof *rooms; k++) {
+        uint8_t *out = cleared(bench.lines, rooms[k]);
+        EXPECT(bactool_explain_text(octets, length, (char *)out, rooms[k], &told) == code);
+        EXPECT(tells(told, found.why, found.place, count, 0));
+        if (rooms[k] < count) {
+            EXPECT(is_kept(bench.lines, rooms[k]));
+        } else {
+            EXPECT(are_lines_of((const char *)out, count, bench.explained, pieces));
+            EXPECT(all_kept(out - BEHIND, BEHIND) && all_kept(out + count, rooms[k] - count));
+        }
+    }
+}
+
 /* The pieces of octets, with the outcome of bactool_check: one after the other they are the octets, and one is at the place
    of a refusal. */
 static void try_explained(struct bench bench, const uint8_t *octets, size_t length, uint32_t code,
@@ -462,6 +508,7 @@ static void try_explained(struct bench bench, const uint8_t *octets, size_t leng
     for (size_t k = 0; k < count && k < 24; k++)
         try_words(bench, bench.explained[k], octets, length);
     try_words(bench, bench.explained[count - 1], octets, length);
+    try_lines(bench, octets, length, code, found, count);
     if (length % 16 == 0)
         try_other_pieces(bench, bench.explained[count / 2], octets, length);
 }
@@ -760,6 +807,8 @@ static void try_edges(struct bench bench)
     struct bactool_outcome told = UNTOLD;
     EXPECT(bactool_check(NULL, 0, false, &told) == BACTOOL_REFUSED && says(told, BACTOOL_SHORT, 0, 0));
     EXPECT(bactool_explain(NULL, 0, NULL, 0, &told) == BACTOOL_REFUSED && tells(told, BACTOOL_SHORT, 0, 0, 1));
+    EXPECT(bactool_explain_text(NULL, 0, NULL, 0, &told) == BACTOOL_REFUSED && told.count > 0);
+    EXPECT(tells(told, BACTOOL_SHORT, 0, told.count, 0));
     EXPECT(bactool_normalise(NULL, 0, NULL, 0, &told) == BACTOOL_REFUSED && says(told, BACTOOL_SHORT, 0, 0));
     EXPECT(bactool_show(NULL, 0, NULL, 0, &told) == BACTOOL_REFUSED && says(told, BACTOOL_SHORT, 0, 0));
     EXPECT(bactool_same_meaning(NULL, 0, NULL, 0, &told) == BACTOOL_LEFT_REFUSED && says(told, BACTOOL_SHORT, 0, 0));
@@ -834,7 +883,7 @@ static void try_reasons(struct bench bench)
     try_text(bench, reason, UINT32_MAX, "");
 }
 
-enum { CALLS = 9 };
+enum { CALLS = 10 };
 
 /* The fields that octets come to, the canonical octets, their line, and the first piece of the octets. */
 struct said {
@@ -845,7 +894,7 @@ struct said {
     struct bactool_piece piece;
 };
 
-/* One of the six calls that read a frame, one of the two that make a frame of its fields or of its line, or the one that
+/* One of the seven calls that read a frame, one of the two that make a frame of its fields or of its line, or the one that
    writes the words of a piece, with room for half a yard, and for some fields or pieces. */
 static uint32_t call(int job, struct bench bench, const uint8_t *octets, size_t length, struct said said,
                      struct bactool_outcome *told)
@@ -860,6 +909,7 @@ static uint32_t call(int job, struct bench bench, const uint8_t *octets, size_t 
            : job == 5 ? bactool_encode(said.fields, said.count, said.octets, said.length, out, TEXT / 2, told)
            : job == 6 ? bactool_read(said.line, said.line_length, out, TEXT / 2, told)
            : job == 7 ? bactool_explain(octets, length, (struct bactool_piece *)fields, SOME_PIECES, told)
+           : job == 8 ? bactool_explain_text(octets, length, (char *)out, TEXT / 2, told)
                       : bactool_piece_text(&said.piece, octets, length, (char *)out, TEXT / 2, told);
 }
 
@@ -1554,6 +1604,7 @@ int main(int count_of_words, char **words)
         size_t length = (size_t)file[records[k]] << 8 | file[records[k] + 1];
         EXPECT(try_input(bench, file + records[k] + 2, length, true));
         try_without_memory(bench, file + records[k] + 2, length);
+        try_without_memory(bench, file + records[k] + 2, length - 1); /* most are refused */
     }
     for (size_t k = 0; k < NAMES; k++)
         EXPECT(was_seen[k] == (named[k].form != NO_FIELD));

@@ -40,7 +40,7 @@ static bool tells(struct bactool_outcome told, uint32_t why, size_t place, size_
 }
 
 /* The calls of which all but bactool_check may report that memory was refused. */
-enum call { CHECK, NORMALISE, DECODE, ENCODE, SHOW, READ, CUT, JOIN, SAME, CALLS };
+enum call { CHECK, NORMALISE, DECODE, ENCODE, SHOW, READ, EXPLAIN_TEXT, CUT, JOIN, SAME, CALLS };
 
 /* ---- refused allocations */
 
@@ -75,20 +75,21 @@ static const struct example {
      "value={r:42C80000} priority=8))))", 0},
 };
 
-enum { EXAMPLES = sizeof examples / sizeof *examples, LONGEST = 64, LINE = 256, FIELDS = 64, KEPT = 0xA5 };
+enum { EXAMPLES = sizeof examples / sizeof *examples, LONGEST = 64, LINE = 256, LINES = 4096, FIELDS = 64, KEPT = 0xA5 };
 
-/* The octets of an example, which is not written to; its canonical octets, and its fields. If it is cut, the records of its
-   segments, and otherwise its own. */
+/* The octets of an example, which is not written to; its canonical octets, its fields, and the lines that explain it. If it is
+   cut, the records of its segments, and otherwise its own. */
 struct said {
     const struct example *example;
     uint8_t octets[LONGEST], canonical[LONGEST], records[LINE];
-    size_t length, count, fields, records_length;
+    char lines[LINES];
+    size_t length, count, fields, records_length, lines_length;
     bool is_cut;
     struct bactool_field known[FIELDS];
 };
 
 /* Where the calls write. */
-static uint8_t out[LINE];
+static uint8_t out[LINES];
 static struct bactool_field fields[FIELDS];
 
 static size_t octets_of(const char *digits, uint8_t *octets)
@@ -138,7 +139,7 @@ static void put_records(struct said *said)
 }
 
 /* The example as the calls want it. Its fields are those that the library decodes, if the line that they make is the
-   example's. */
+   example's. The lines that explain it are those that the library writes where no memory is refused. */
 static struct said said_by(const struct example *example)
 {
     struct said said = {.example = example};
@@ -146,6 +147,9 @@ static struct said said_by(const struct example *example)
     said.length = octets_of(example->octets, said.octets);
     said.count = octets_of(example->canonical != NULL ? example->canonical : example->octets, said.canonical);
     put_records(&said);
+    EXPECT(bactool_explain_text(said.octets, said.length, said.lines, LINES, &told) != BACTOOL_NO_MEMORY);
+    EXPECT(0 < told.count && told.count < LINES);
+    said.lines_length = told.count;
     if (example->line == NULL)
         return said;
     EXPECT(bactool_decode(said.octets, said.length, out, sizeof out, said.known, FIELDS, &told) == BACTOOL_OK);
@@ -173,6 +177,8 @@ static uint32_t made(enum call call, const struct said *said, const struct said 
         return bactool_show(said->octets, said->length, (char *)out, sizeof out, told);
     case READ:
         return bactool_read(line, strlen(line), out, sizeof out, told);
+    case EXPLAIN_TEXT:
+        return bactool_explain_text(said->octets, said->length, (char *)out, sizeof out, told);
     case CUT:
         return bactool_cut(said->octets, said->length, PIECE, WINDOW, out, sizeof out, told);
     case JOIN:
@@ -209,6 +215,9 @@ static bool is_answered(enum call call, const struct said *said, const struct sa
     const struct example *example = said->example;
     bool is_tolerated = example->canonical != NULL, is_right = example->why == 0;
     size_t length = example->line != NULL ? strlen(example->line) : 0;
+    if (call == EXPLAIN_TEXT)
+        return code == (!is_right ? BACTOOL_REFUSED : is_tolerated ? BACTOOL_TOLERATED : BACTOOL_OK)
+            && tells(told, example->why, is_tolerated, said->lines_length, 0) && is_written(said->lines, said->lines_length);
     if (call == SAME && is_right && other->example->why == 0)
         return code == (are_same(said, other) ? BACTOOL_OK : BACTOOL_DIFFERENT) && tells(told, 0, 0, 0, 0);
     if (call == SAME)
@@ -504,7 +513,7 @@ static void try_without_memory(const struct frame *frame)
     EXPECT(most_held == 0);
 }
 
-/* bactool_explain says what bactool_check said, and the first piece has words. */
+/* bactool_explain and bactool_explain_text say what bactool_check said. The first piece has words, and there are lines. */
 static void try_explained(const struct frame *frame, uint32_t code, struct bactool_outcome checked)
 {
     struct bactool_outcome told = UNTOLD;
@@ -513,6 +522,13 @@ static void try_explained(const struct frame *frame, uint32_t code, struct bacto
     EXPECT(tells(told, checked.why, checked.place, 0, told.fields));
     EXPECT(0 < told.fields && told.fields <= frame->length + 1);
     EXPECT(bactool_piece_text(pieces, frame->octets, frame->length, (char *)out, sizeof out, &told) == BACTOOL_OK);
+    EXPECT(granted(EXPLAIN_TEXT, bactool_explain_text(frame->octets, frame->length, NULL, 0, &told), &told) == code);
+    EXPECT(tells(told, checked.why, checked.place, told.count, 0) && told.count > frame->length);
+    size_t room = told.count;
+    char *lines = taken(room);
+    EXPECT(granted(EXPLAIN_TEXT, bactool_explain_text(frame->octets, frame->length, lines, room, &told), &told) == code);
+    EXPECT(tells(told, checked.why, checked.place, room, 0) && room > 0 && lines[room - 1] == '\n');
+    free(lines);
 }
 
 /* Makes each call with a drawn frame, or with what is drawn in its place. */

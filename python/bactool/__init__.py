@@ -66,6 +66,7 @@ __all__ = [
     "decode",
     "encode",
     "explain",
+    "explain_text",
     "head",
     "join",
     "named",
@@ -128,6 +129,21 @@ def explain(octets: Octets) -> List[Piece]:
     21 1 REFUSED None 9
     """
     return _found().explain(octets)
+
+
+def explain_text(octets: Octets) -> str:
+    """Returns the lines of `bactool explain` on the octets after its first one, also of octets that are refused: what each
+    octet is, with the names of fields. Each line ends in a line feed.
+
+    >>> print(explain_text(bytes.fromhex("0100 1008 0905")), end="")
+       0  01           version 1
+       1  00           control: reply 0, priority 0
+       2  10           Unconfirmed-Request
+       3  08           service choice 8 Who-Is
+       4  09 05        [0] low 5
+       6               <- Short: the octets end, and more must come; possible here: [1] high
+    """
+    return _found().explain_text(octets)
 
 
 def normalise(octets: Octets) -> bytes:

@@ -92,6 +92,21 @@ class Bactool:
         texts = [self._text_of(piece, octets) for piece in pieces]
         return [_pieces.piece_of(*row) for row in zip(pieces, texts, fields)]
 
+    def explain_text(self, octets: Octets) -> str:
+        """Returns the lines that say what each octet of the frame is, also if it is refused."""
+        octets = octets_of(octets)
+        desk = kept = taken(self._desks, Desk)
+        while True:
+            code = self._library.explain_text(octets, len(octets), desk.out, desk.room, desk.outcome)
+            if code == _library.NO_MEMORY:
+                raise self._refusal(code, desk.outcome)
+            if desk.outcome.count <= desk.room:
+                break
+            desk = Desk(desk.outcome.count, 0)
+        lines = bytes(desk.octets[: desk.outcome.count]).decode()
+        self._desks.append(kept)
+        return lines
+
     def normalise(self, octets: Octets) -> bytes:
         """Returns the canonical octets of the frame."""
         return self._written(self._library.normalise, octets_of(octets))

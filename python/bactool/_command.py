@@ -15,7 +15,6 @@ from typing import Any, BinaryIO, Callable, Dict, Generator, Iterable, Iterator,
 
 from ._api import Bactool
 from ._joining import NOWHERE, Ends, Joining
-from ._pieces import lines_of
 from ._records import apart, pieces, record
 from ._refusals import CutRecord, Refused, RefusedField
 from .names import named
@@ -156,18 +155,11 @@ def explain(tool: Bactool, items: Iterable[bytes], target: BinaryIO) -> int:
     """Writes the line of `check` for each record, and a line for each piece of it."""
     status = WELL
     for number, octets in enumerate(items, 1):
-        canonical = octets
         try:
-            place = tool.check(octets)
-            line = f"{number} {judged(place)}"
-            if place is not None:
-                canonical = tool.normalise(octets)
+            line = f"{number} {judged(tool.check(octets))}"
         except Refused as refusal:
             line, status = refused_text(number, refusal), REFUSED
-        pieces = tool.explain(octets)
-        others = pieces if canonical is octets else tool.explain(canonical)
-        for text in (line, *lines_of(pieces, octets, others, canonical)):
-            target.write(text.encode() + b"\n")
+        target.write(f"{line}\n{tool.explain_text(octets)}".encode())
     return status
 
 

@@ -75,6 +75,7 @@ class Library:
         self.piece_text = call_of(
             library, "piece_text", [ctypes.POINTER(_pieces.PieceOfC), *octets, *room, *outcome]
         )
+        self.explain_text = call_of(library, "explain_text", [*octets, *room, *outcome])
         self.normalise = call_of(library, "normalise", [*octets, *room, *outcome])
         self.show = call_of(library, "show", [*octets, *room, *outcome])
         self.read = call_of(library, "read", [*octets, *room, *outcome])

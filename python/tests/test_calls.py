@@ -102,6 +102,23 @@ class Calls(unittest.TestCase):
         self.assertEqual([piece.kind for piece in bactool.explain(head + b"\x1e\x21\x05\x1f")[4:]], [PieceKind.UNJUDGED] * 3)
         self.assertEqual([piece.kind for piece in bactool.explain(head + b"\x1e\x21\x05")[4:]], [PieceKind.OCTETS])
 
+    def test_explain_text(self) -> None:
+        lines = bactool.explain_text(F2).splitlines()
+        self.assertEqual([int(line[:4]) for line in lines], [piece.place for piece in bactool.explain(F2)])
+        self.assertEqual(lines[1], "   1  54           control: reply 1, priority 0  ~ 04")
+        self.assertEqual(lines[-1], "  11  1A 0055      [1] property 85  ~ 19 55")
+        # What is refused has the names of a frame that begins so, and of what is possible at the place.
+        lines = bactool.explain_text(bytearray(PRIORITY_17)).splitlines()
+        self.assertEqual(lines[6], "   6  0C 00400001  [0] object 1:1")
+        self.assertTrue(lines[-1].startswith("  21  11           <- Content: "))
+        self.assertTrue(bactool.explain_text(F1[:11]).endswith("; possible here: [1] property\n"))
+        self.assertTrue(bactool.explain_text(b"").startswith("   0               <- Short: "))
+        self.assertRaises(TypeError, bactool.explain_text, 5)
+
+    def test_explain_text_of_many_pieces(self) -> None:
+        octets = bytes.fromhex("0100 1009") + bytes(20_000)
+        self.assertEqual(bactool.explain_text(octets).count("\n"), len(octets))
+
     def test_normalise(self) -> None:
         self.assertEqual(bactool.normalise(F2), F1)
         self.assert_refused("PduType", 2, bactool.normalise, bytes.fromhex("010080"))

@@ -104,6 +104,7 @@ extern "C" {
     fn bactool_head(octets: *const u8, length: usize, head: *mut Head, outcome: *mut Outcome) -> u32;
     fn bactool_explain(octets: *const u8, length: usize, pieces: *mut Piece, most: usize, outcome: *mut Outcome) -> u32;
     fn bactool_piece_text(piece: *const Piece, octets: *const u8, length: usize, out: *mut u8, room: usize, outcome: *mut Outcome) -> u32;
+    fn bactool_explain_text(octets: *const u8, length: usize, out: *mut u8, room: usize, outcome: *mut Outcome) -> u32;
     fn bactool_normalise(octets: *const u8, length: usize, out: *mut u8, room: usize, outcome: *mut Outcome) -> u32;
     fn bactool_decode(octets: *const u8, length: usize, out: *mut u8, room: usize, fields: *mut Part, most: usize, outcome: *mut Outcome) -> u32;
     fn bactool_encode(fields: *const Part, count: usize, octets: *const u8, length: usize, out: *mut u8, room: usize, outcome: *mut Outcome) -> u32;
@@ -146,6 +147,14 @@ pub(crate) fn piece_text(piece: &Piece, octets: &[u8], out: &mut [u8]) -> Answer
     let (octets, out) = (octets.as_ptr(), out.as_mut_ptr());
     // SAFETY: as in `normalise`, and the piece has the layout of the header, and nobody changes it meanwhile.
     let code = unsafe { bactool_piece_text(piece, octets, length, out, room, &mut outcome) };
+    (code, outcome)
+}
+
+pub(crate) fn explain_text(octets: &[u8], out: &mut [u8]) -> Answer {
+    let mut outcome = Outcome::default();
+    // SAFETY: as in `normalise`.
+    let code =
+        unsafe { bactool_explain_text(octets.as_ptr(), octets.len(), out.as_mut_ptr(), out.len(), &mut outcome) };
     (code, outcome)
 }
 

@@ -1,6 +1,6 @@
 // SPDX-License-Identifier: Apache-2.0 OR MIT
 //! The messages of BACnet (ANSI/ASHRAE 135): checked, explained, normalised, shown, read, compared, decoded, encoded, cut
-//! into segments and joined by the library libbactool, whose fifteen calls this crate wraps.
+//! into segments and joined by the library libbactool, whose sixteen calls this crate wraps.
 //!
 //! A *frame* is one NPDU (clause 6 of the standard), with an APDU or a network message in it. It begins with the version
 //! octet, so the BVLL header of a UDP payload must be removed first. Some frames can be encoded in several ways. One
@@ -71,7 +71,7 @@ pub use fields::{decode, Field, Fields, Iter};
 pub use frame::{check, check_strict, normalise, read, same_meaning, show, version, Verdict};
 pub use head::{head, Address, Head, Known, Pdu};
 pub use name::Name;
-pub use pieces::{explain, Explained, Piece, PieceKind, Tag};
+pub use pieces::{explain, explain_text, Explained, ExplainedText, Piece, PieceKind, Tag};
 pub use records::{records, write_record, Records};
 pub use refusal::{Refusal, Side, SideRefusal, Why};
 pub use segments::{cut, join, CutFault, JoinFault};

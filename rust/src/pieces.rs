@@ -1,6 +1,6 @@
 // SPDX-License-Identifier: Apache-2.0 OR MIT
 //! What each octet of a frame is, also if it is refused.
-use crate::ffi;
+use crate::ffi::{self, Outcome};
 use crate::{Refusal, Verdict, Why};
 use std::fmt;
 
@@ -207,11 +207,59 @@ pub fn explain(octets: &[u8]) -> Explained<'_> {
     // The header promises that this is enough.
     let mut told = vec![ffi::Piece::default(); octets.len() + 1];
     let (code, outcome) = ffi::explain(octets, &mut told);
-    let verdict = match code {
+    let verdict = verdict_of(code, outcome);
+    told.truncate(if code == ffi::NO_MEMORY { 0 } else { outcome.fields });
+    Explained { verdict, pieces: told.into_iter().map(|told| Piece { octets, told }).collect() }
+}
+
+/// What [`explain_text`] tells of octets.
+#[derive(Clone, Debug)]
+#[non_exhaustive]
+pub struct ExplainedText {
+    /// Whether they encode a frame: what [`check`](crate::check) returns of them.
+    pub verdict: Result<Verdict, Refusal>,
+    /// The lines of `bactool explain` after its first one. Each ends in a line feed.
+    pub lines: String,
+}
+
+/// Returns the lines of `bactool explain` that say what each octet is, with the names of fields, also if the octets are
+/// refused. There are no lines if the library was refused memory.
+///
+/// # Examples
+///
+/// ```
+/// use bactool::explain_text;
+///
+/// // A Who-Is that has a low limit, and no high one.
+/// let told = explain_text(&[0x01, 0x00, 0x10, 0x08, 0x09, 0x05]);
+/// assert_eq!(told.verdict.unwrap_err().to_string(), "Short at 6");
+/// let lines = "   0  01           version 1
+///    1  00           control: reply 0, priority 0
+///    2  10           Unconfirmed-Request
+///    3  08           service choice 8 Who-Is
+///    4  09 05        [0] low 5
+///    6               <- Short: the octets end, and more must come; possible here: [1] high
+/// ";
+/// assert_eq!(told.lines, lines);
+/// ```
+pub fn explain_text(octets: &[u8]) -> ExplainedText {
+    // Enough for the lines of most frames.
+    let mut out = vec![0; 2048];
+    let (mut code, mut outcome) = ffi::explain_text(octets, &mut out);
+    if outcome.count > out.len() {
+        out = vec![0; outcome.count];
+        (code, outcome) = ffi::explain_text(octets, &mut out);
+    }
+    out.truncate(outcome.count);
+    let lines = String::from_utf8(out).unwrap_or_else(|fault| String::from_utf8_lossy(fault.as_bytes()).into_owned());
+    ExplainedText { verdict: verdict_of(code, outcome), lines }
+}
+
+/// Returns what the code and the outcome of an explanation say of the octets.
+fn verdict_of(code: u32, outcome: Outcome) -> Result<Verdict, Refusal> {
+    match code {
         ffi::OK => Ok(Verdict::Canonical),
         ffi::TOLERATED => Ok(Verdict::Tolerated { place: outcome.place }),
         _ => Err(outcome.into()),
-    };
-    told.truncate(if code == ffi::NO_MEMORY { 0 } else { outcome.fields });
-    Explained { verdict, pieces: told.into_iter().map(|told| Piece { octets, told }).collect() }
+    }
 }

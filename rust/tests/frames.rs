@@ -3,8 +3,8 @@
 mod common;
 
 use bactool::{
-    check, check_strict, decode, explain, head, normalise, read, same_meaning, show, Known, Pdu, PieceKind, Refusal,
-    Side, Tag, Verdict, Why,
+    check, check_strict, decode, explain, explain_text, head, normalise, read, same_meaning, show, Known, Pdu,
+    PieceKind, Refusal, Side, Tag, Verdict, Why,
 };
 use common::{octets, F1, F2, F4};
 
@@ -126,6 +126,21 @@ fn each_octet_is_explained() {
     assert_eq!(told.pieces[4].kind(), PieceKind::InvokeId);
     assert_eq!(told.pieces[13].kind(), PieceKind::Rest);
     assert_eq!(explain(&octets(F2)).verdict, Ok(Verdict::Tolerated { place: 1 }));
+}
+
+#[test]
+fn each_octet_has_its_line() {
+    let tolerated = explain_text(&octets(F2));
+    assert_eq!(tolerated.verdict, Ok(Verdict::Tolerated { place: 1 }));
+    assert!(tolerated.lines.ends_with("  11  1A 0055      [1] property 85  ~ 19 55\n"));
+    let refused = explain_text(&octets(F1)[..11]);
+    assert_eq!(refused.verdict.map_err(of), Err((Why::Short, 11)));
+    assert!(refused.lines.contains("   6  0C 00000005  [0] object 0:5\n"));
+    assert!(refused.lines.ends_with("; possible here: [1] property\n"));
+    // More lines than there is room for at first.
+    let long = [octets("0100 1009"), vec![0; 20_000]].concat();
+    let told = explain_text(&long);
+    assert_eq!((told.verdict, told.lines.lines().count()), (Ok(Verdict::Canonical), long.len()));
 }
 
 #[test]

@@ -43,19 +43,27 @@ fn write_numbers(pieces: &[Piece], out: &mut [PieceNumbers])
     }
 }
 
-/// Puts what octets are and the number of their pieces into `outcome`. Returns the code.
-fn tell(explained: Explained, outcome: &mut Outcome) -> u32
-    ensures code { result ≡ verdict_code explained.verdict }
-    ensures told { outcome.new ≡ with_pieces explained.count (verdict_outcome explained.verdict) }
+/// Returns the code of a verdict, and its outcome before anything is counted.
+pub(crate) fn told_of(verdict: Verdict) -> (u32, Outcome)
+    ensures code { result.0 ≡ verdict_code verdict }
+    ensures outcome { result.1 ≡ verdict_outcome verdict }
 {
-    let (code, told) = match explained.verdict {
+    match verdict {
         Verdict::Accepted { mark: None, .. } => (BACTOOL_OK, Outcome::nothing()),
         Verdict::Accepted {
             mark: Some(place),
             ..
         } => (BACTOOL_TOLERATED, Outcome::differs_at(place)),
         Verdict::Refused(refusal) => (BACTOOL_REFUSED, Outcome::refused(refusal)),
-    };
+    }
+}
+
+/// Puts what octets are and the number of their pieces into `outcome`. Returns the code.
+fn tell(explained: Explained, outcome: &mut Outcome) -> u32
+    ensures code { result ≡ verdict_code explained.verdict }
+    ensures told { outcome.new ≡ with_pieces explained.count (verdict_outcome explained.verdict) }
+{
+    let (code, told) = told_of(explained.verdict);
     *outcome = Outcome {
         fields: explained.count,
         ..told
