@@ -206,3 +206,13 @@ fn is_whole_or_wants_memory(
         }
     }
 }
+
+// The laws are functions that do nothing: their contracts are what they say.
+#[test]
+fn laws_can_be_called() {
+    bac_stream::laws::normalised_files_are_kept();
+    bac_stream::laws::feeds_give_records();
+    bac_stream::laws::feeds_end_as_files();
+    bac_stream::laws::items_want_no_memory();
+    bac_stream::laws::joined_segments_give_the_service();
+}

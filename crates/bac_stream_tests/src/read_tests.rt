@@ -1,11 +1,10 @@
 //! Runs over lines of `show` at work.
 
-use crate::expectations::{assert_holds, assert_same, assert_same_of};
-use crate::fakes::{Drain, Feed};
-use bac_lines::run_read;
+use crate::expectations::{assert_holds, assert_same, assert_same_of, assert_shown};
+use bac_lines::{LineFault, run_read};
 use bac_pack::PackFault;
 use bac_record::Counted;
-use bac_tables::{enclosed, octets_of};
+use bac_tables::{Drain, Feed, enclosed, octets_of};
 use std::alloc::Global;
 use std::process::Abort;
 
@@ -68,23 +67,29 @@ fn stops(rt: &impl Abort, alloc: Global, line: &str, column: usize) {
     reads(rt, alloc, &text, Err(fault), RECORD);
 }
 
+/// Lines, and the column that they are unreadable at.
+static UNREADABLE: [(&str, usize); 14] = [
+    ("\n", 1),
+    ("\r\n", 1),
+    (" prio=0\n", 1),
+    ("0 prio=0\n", 1),
+    ("1000001 prio=0\n", 7),
+    ("12", 3),
+    ("12  prio=0\n", 4),
+    ("2 ok\n", 3),
+    ("2 prio=4 reply=0 unconf Who-Is\n", 8),
+    ("2 prio=0 reply=0 unconf Who-Is \n", 32),
+    ("2 prio=0 reply=0 unconf Who-Is\r\r\n", 31),
+    ("2 refu", 7),
+    ("2 refused Shorter at 0\n", 16),
+    ("2 refused Short at 65536\n", 24),
+];
+
 #[test]
 fn a_text_stops_at_an_unreadable_line(rt: HostRuntime) {
-    let alloc = rt.alloc();
-    stops(&rt, alloc, "\n", 1);
-    stops(&rt, alloc, "\r\n", 1);
-    stops(&rt, alloc, " prio=0\n", 1);
-    stops(&rt, alloc, "0 prio=0\n", 1);
-    stops(&rt, alloc, "1000001 prio=0\n", 7);
-    stops(&rt, alloc, "12", 3);
-    stops(&rt, alloc, "12  prio=0\n", 4);
-    stops(&rt, alloc, "2 ok\n", 3);
-    stops(&rt, alloc, "2 prio=4 reply=0 unconf Who-Is\n", 8);
-    stops(&rt, alloc, "2 prio=0 reply=0 unconf Who-Is \n", 32);
-    stops(&rt, alloc, "2 prio=0 reply=0 unconf Who-Is\r\r\n", 31);
-    stops(&rt, alloc, "2 refu", 7);
-    stops(&rt, alloc, "2 refused Shorter at 0\n", 16);
-    stops(&rt, alloc, "2 refused Short at 65536\n", 24);
+    for (line, column) in &UNREADABLE {
+        stops(&rt, rt.alloc(), line, *column);
+    }
 }
 
 /// The run stops at this line, which is that of a refused record.
@@ -183,4 +188,11 @@ fn a_failed_device_tells_the_line_or_the_octets(rt: HostRuntime) {
     for room in 0..12 {
         fills(&rt, rt.alloc(), room);
     }
+}
+
+#[test]
+fn faults_of_lines_are_told(rt: HostRuntime) {
+    let alloc = rt.alloc();
+    assert_shown(&rt, alloc, LineFault::Stop(7), "unreadable at 7");
+    assert_shown(&rt, alloc, LineFault::OutOfMemory, "out of memory");
 }

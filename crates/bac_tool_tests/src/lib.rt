@@ -3,4 +3,14 @@
 #![tactic(auto)]
 
 #[cfg(test)]
-mod tool_tests;
+mod devices;
+#[cfg(test)]
+mod faults;
+#[cfg(test)]
+mod frames;
+#[cfg(test)]
+mod lines;
+#[cfg(test)]
+mod running;
+#[cfg(test)]
+mod words;

@@ -3,25 +3,34 @@
 use crate::expectations::assert_shown;
 use bac_segment::{CutFault, TakeFault};
 
+/// Why a segment is not taken, as it is printed.
+static TAKE_FAULTS: [(TakeFault, &str); 6] = [
+    (TakeFault::OtherKey, "the segment is of another message"),
+    (TakeFault::Conflict, "the segment contradicts what is held"),
+    (TakeFault::PastEnd, "the segment is after the last one"),
+    (
+        TakeFault::TooLarge,
+        "the message has more than 65535 octets",
+    ),
+    (TakeFault::OutOfMemory, "out of memory"),
+    (TakeFault::DeskFull, "eight other keys are open"),
+];
+
+/// Why a message is not cut, as it is printed.
+static CUT_FAULTS: [(CutFault, &str); 5] = [
+    (CutFault::Size, "a piece has no octets"),
+    (CutFault::Window, "a window is 1 to 127"),
+    (CutFault::TooLong, "the message has more than 65535 octets"),
+    (CutFault::TooMany, "the message has more than 256 pieces"),
+    (CutFault::OutOfMemory, "out of memory"),
+];
+
 #[test]
 fn faults_are_told(rt: HostRuntime) {
-    let alloc = rt.alloc();
-    let text = "the segment is of another message";
-    assert_shown(&rt, alloc, TakeFault::OtherKey, text);
-    let text = "the segment contradicts what is held";
-    assert_shown(&rt, alloc, TakeFault::Conflict, text);
-    let text = "the segment is after the last one";
-    assert_shown(&rt, alloc, TakeFault::PastEnd, text);
-    let text = "the message has more than 65535 octets";
-    assert_shown(&rt, alloc, TakeFault::TooLarge, text);
-    assert_shown(&rt, alloc, TakeFault::OutOfMemory, "out of memory");
-    let text = "eight other keys are open";
-    assert_shown(&rt, alloc, TakeFault::DeskFull, text);
-    assert_shown(&rt, alloc, CutFault::Size, "a piece has no octets");
-    assert_shown(&rt, alloc, CutFault::Window, "a window is 1 to 127");
-    let text = "the message has more than 65535 octets";
-    assert_shown(&rt, alloc, CutFault::TooLong, text);
-    let text = "the message has more than 256 pieces";
-    assert_shown(&rt, alloc, CutFault::TooMany, text);
-    assert_shown(&rt, alloc, CutFault::OutOfMemory, "out of memory");
+    for (fault, text) in &TAKE_FAULTS {
+        assert_shown(&rt, rt.alloc(), *fault, text);
+    }
+    for (fault, text) in &CUT_FAULTS {
+        assert_shown(&rt, rt.alloc(), *fault, text);
+    }
 }

@@ -30,31 +30,52 @@ fn is_canonical(rt: &impl Abort, alloc: Global, service: (Kind, u8), octets: &st
 const NOTIFICATION: &str =
     "09 12 1C 02 00 00 04 2C 00 00 00 0A 39 00 4E 09 55 2E 44 42 90 00 00 2F 4F";
 
+/// The canonical octets of services, by kind and choice.
+static CANONICAL: [(Kind, u8, &str); 15] = [
+    (Kind::Confirmed, 1, NOTIFICATION),
+    (Kind::Unconfirmed, 2, NOTIFICATION),
+    (
+        Kind::Confirmed,
+        14,
+        "0C 00 00 00 21 1E 09 55 09 4D 1F 0C 00 00 00 22 1E 09 55 1F",
+    ),
+    (
+        Kind::Confirmed,
+        15,
+        "0C 00 00 00 05 19 55 3E 21 05 3F 49 08",
+    ),
+    (
+        Kind::Confirmed,
+        16,
+        "0C 00 40 00 01 1E 09 55 2E 21 05 2F 39 08 1F",
+    ),
+    (
+        Kind::ComplexAck,
+        12,
+        "0C 00 00 00 05 19 55 29 01 3E 21 05 3F",
+    ),
+    (
+        Kind::ComplexAck,
+        14,
+        "0C 00 00 00 05 1E 29 55 4E 21 05 4F 29 4D 5E 91 02 91 20 5F 1F",
+    ),
+    (Kind::Confirmed, 14, "none"),
+    // Services without a production are their octets.
+    (Kind::Confirmed, 6, "FF 00 1F"),
+    (Kind::Unconfirmed, 9, "none"),
+    (Kind::ComplexAck, 6, "2E"),
+    (Kind::Error, 6, "91 02 91 20"),
+    // Services that are always short.
+    (Kind::Confirmed, 12, "0C 00 00 00 05 19 55"),
+    (Kind::Unconfirmed, 8, "none"),
+    (Kind::Error, 12, "91 02 91 20"),
+];
+
 #[test]
 fn canonical_services_have_no_mark(rt: HostRuntime) {
-    let alloc = rt.alloc();
-    is_canonical(&rt, alloc, (Kind::Confirmed, 1), NOTIFICATION);
-    is_canonical(&rt, alloc, (Kind::Unconfirmed, 2), NOTIFICATION);
-    let list = "0C 00 00 00 21 1E 09 55 09 4D 1F 0C 00 00 00 22 1E 09 55 1F";
-    is_canonical(&rt, alloc, (Kind::Confirmed, 14), list);
-    let written = "0C 00 00 00 05 19 55 3E 21 05 3F 49 08";
-    is_canonical(&rt, alloc, (Kind::Confirmed, 15), written);
-    let written = "0C 00 40 00 01 1E 09 55 2E 21 05 2F 39 08 1F";
-    is_canonical(&rt, alloc, (Kind::Confirmed, 16), written);
-    let answer = "0C 00 00 00 05 19 55 29 01 3E 21 05 3F";
-    is_canonical(&rt, alloc, (Kind::ComplexAck, 12), answer);
-    let answers = "0C 00 00 00 05 1E 29 55 4E 21 05 4F 29 4D 5E 91 02 91 20 5F 1F";
-    is_canonical(&rt, alloc, (Kind::ComplexAck, 14), answers);
-    is_canonical(&rt, alloc, (Kind::Confirmed, 14), "none");
-    // Services without a production are their octets.
-    is_canonical(&rt, alloc, (Kind::Confirmed, 6), "FF 00 1F");
-    is_canonical(&rt, alloc, (Kind::Unconfirmed, 9), "none");
-    is_canonical(&rt, alloc, (Kind::ComplexAck, 6), "2E");
-    is_canonical(&rt, alloc, (Kind::Error, 6), "91 02 91 20");
-    // Services that are always short.
-    is_canonical(&rt, alloc, (Kind::Confirmed, 12), "0C 00 00 00 05 19 55");
-    is_canonical(&rt, alloc, (Kind::Unconfirmed, 8), "none");
-    is_canonical(&rt, alloc, (Kind::Error, 12), "91 02 91 20");
+    for (kind, choice, octets) in &CANONICAL {
+        is_canonical(&rt, rt.alloc(), (*kind, *choice), octets);
+    }
 }
 
 #[test]

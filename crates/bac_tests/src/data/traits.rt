@@ -70,18 +70,24 @@ fn groups_are_passed_over(rt: HostRuntime) {
     assert_same(&rt, events.len(), 0);
 }
 
-// The spelling does not count, but each number, each octet and each group does.
+/// Octets of open values, and whether they say what the octets 3E 7E 21 05 7F 3F do: the spelling does not count, but each
+/// number, each octet and each group does.
+static COMPARED: [(&str, bool); 7] = [
+    ("3E 7E 22 00 05 7F 3F", true),
+    ("3E 3F", false),
+    ("3E 21 05 3F", false),
+    ("3E 6E 21 05 6F 3F", false),
+    ("3E 7E 21 06 7F 3F", false),
+    ("3E 7E 91 05 7F 3F", false),
+    ("3E 7E 7F 21 05 3F", false),
+];
+
 #[test]
 fn values_are_compared_by_what_they_say(rt: HostRuntime) {
-    let alloc = rt.alloc();
-    let value = value_of(&rt, alloc, "3E 7E 21 05 7F 3F");
-    says(&rt, alloc, &value, "3E 7E 22 00 05 7F 3F", true);
-    says(&rt, alloc, &value, "3E 3F", false);
-    says(&rt, alloc, &value, "3E 21 05 3F", false);
-    says(&rt, alloc, &value, "3E 6E 21 05 6F 3F", false);
-    says(&rt, alloc, &value, "3E 7E 21 06 7F 3F", false);
-    says(&rt, alloc, &value, "3E 7E 91 05 7F 3F", false);
-    says(&rt, alloc, &value, "3E 7E 7F 21 05 3F", false);
+    let value = value_of(&rt, rt.alloc(), "3E 7E 21 05 7F 3F");
+    for (octets, is_same) in &COMPARED {
+        says(&rt, rt.alloc(), &value, octets, *is_same);
+    }
     let clone = value.clone().expect(&rt, "memory");
     assert_same(&rt, clone, value);
 }

@@ -23,22 +23,27 @@ fn is_named(rt: &impl Abort, alloc: Global, why: Why, number: u8, name: &str) {
     assert_shown(rt, alloc, why, name);
 }
 
-// In the order of their enum, from 1 on. The names are those of section 10 of docs/FORMATS.md.
+/// In the order of their enum, from 1 on. The names are those of section 10 of docs/FORMATS.md.
+static REASONS: [(Why, u8, &str); 12] = [
+    (Why::Short, 1, "Short"),
+    (Why::Trailing, 2, "Trailing"),
+    (Why::Version, 3, "Version"),
+    (Why::Address, 4, "Address"),
+    (Why::PduType, 5, "PduType"),
+    (Why::Window, 6, "Window"),
+    (Why::Tag, 7, "Tag"),
+    (Why::Length, 8, "Length"),
+    (Why::Content, 9, "Content"),
+    (Why::Depth, 10, "Depth"),
+    (Why::NotCanonical, 11, "NotCanonical"),
+    (Why::OutOfMemory, 12, "OutOfMemory"),
+];
+
 #[test]
 fn reasons_have_numbers_and_names(rt: HostRuntime) {
-    let alloc = rt.alloc();
-    is_named(&rt, alloc, Why::Short, 1, "Short");
-    is_named(&rt, alloc, Why::Trailing, 2, "Trailing");
-    is_named(&rt, alloc, Why::Version, 3, "Version");
-    is_named(&rt, alloc, Why::Address, 4, "Address");
-    is_named(&rt, alloc, Why::PduType, 5, "PduType");
-    is_named(&rt, alloc, Why::Window, 6, "Window");
-    is_named(&rt, alloc, Why::Tag, 7, "Tag");
-    is_named(&rt, alloc, Why::Length, 8, "Length");
-    is_named(&rt, alloc, Why::Content, 9, "Content");
-    is_named(&rt, alloc, Why::Depth, 10, "Depth");
-    is_named(&rt, alloc, Why::NotCanonical, 11, "NotCanonical");
-    is_named(&rt, alloc, Why::OutOfMemory, 12, "OutOfMemory");
+    for (why, number, name) in &REASONS {
+        is_named(&rt, rt.alloc(), *why, *number, name);
+    }
 }
 
 /// Values that are octets, each spelled by itself.

@@ -57,22 +57,26 @@ fn are_packed(rt: &impl Abort, alloc: Global, bits: &[bool], contents: &[u8]) {
     }
 }
 
-// Of examples 32 and 39 of docs/EXAMPLES.md.
+/// Bits, and the contents that they are packed into. Of examples 32 and 39 of docs/EXAMPLES.md.
+static PACKED: [(&[bool], &[u8]); 8] = [
+    (&[], &[0]),
+    (&[false], &[7, 0]),
+    (&[true], &[7, 0x80]),
+    (&[false; 4], &[4, 0]),
+    (&[true; 4], &[4, 0xF0]),
+    (&[false, true, false, true], &[4, 0x50]),
+    (&[true; 8], &[0, 0xFF]),
+    (
+        &[true, false, false, false, false, false, false, true, true],
+        &[7, 0x81, 0x80],
+    ),
+];
+
 #[test]
 fn bits_are_packed_from_the_highest_downwards(rt: HostRuntime) {
-    let alloc = rt.alloc();
-    are_packed(&rt, alloc, &[], &[0]);
-    are_packed(&rt, alloc, &[false], &[7, 0]);
-    are_packed(&rt, alloc, &[true], &[7, 0x80]);
-    are_packed(&rt, alloc, &[false; 4], &[4, 0]);
-    are_packed(&rt, alloc, &[true; 4], &[4, 0xF0]);
-    are_packed(&rt, alloc, &[false, true, false, true], &[4, 0x50]);
-    are_packed(&rt, alloc, &[true; 8], &[0, 0xFF]);
-    let mut nine = [false; 9];
-    nine[0] = true;
-    nine[7] = true;
-    nine[8] = true;
-    are_packed(&rt, alloc, &nine, &[7, 0x81, 0x80]);
+    for (bits, contents) in &PACKED {
+        are_packed(&rt, rt.alloc(), bits, contents);
+    }
 }
 
 /// By the bound alone: the contents are those of this value, and not of the other.

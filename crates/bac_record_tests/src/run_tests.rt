@@ -3,8 +3,7 @@
 ghost use Rattle.std.specs.Prelude.{◌≤◌};
 
 use crate::expectations::{assert_holds, assert_same, assert_same_of, assert_shown};
-use crate::fakes::{CopyOctets, Drain, Feed, Interrupted, Troubled, Unending};
-use bac_lines::LineFault;
+use crate::fakes::{CopyOctets, Interrupted, Troubled, Unending};
 use bac_record::layers::{
     front_record, make_room, put_decimal, put_hexadecimal, put_signed_decimal, write_whole,
 };
@@ -12,7 +11,7 @@ use bac_record::{
     Counted, DealFault, Device, Input, RunFault, StreamFault, Summary, read_record, run,
     write_record,
 };
-use bac_tables::{enclosed, mixed};
+use bac_tables::{Drain, Feed, enclosed, mixed};
 use bac_tag::Why;
 use std::alloc::Global;
 use std::io::ErrorKind;
@@ -322,7 +321,7 @@ fn is_told(rt: &impl Abort, alloc: Global, fault: StreamFault, text: &str) {
 
 // The texts are those of section 9 of docs/FORMATS.md, but "too long" and the number before some that it leaves out.
 #[test]
-fn faults_of_streams_runs_and_lines_are_told(rt: HostRuntime) {
+fn faults_of_streams_and_runs_are_told(rt: HostRuntime) {
     let alloc = rt.alloc();
     is_told(&rt, alloc, StreamFault::Truncated, "truncated");
     is_told(&rt, alloc, StreamFault::RecordTooLong, "too long");
@@ -335,8 +334,6 @@ fn faults_of_streams_runs_and_lines_are_told(rt: HostRuntime) {
     let (at, refusal) = (3, Why::Short.at(0));
     let fault = RunFault::Frame { at, refusal };
     assert_shown(&rt, alloc, fault, "record 3: refused Short at 0");
-    assert_shown(&rt, alloc, LineFault::Stop(7), "unreadable at 7");
-    assert_shown(&rt, alloc, LineFault::OutOfMemory, "out of memory");
 }
 
 /// The record at the front of the octets has these octets, or there is none.
@@ -344,15 +341,22 @@ fn begins(rt: &impl Abort, octets: &[u8], want: Option<&[u8]>) {
     assert_same_of(rt, front_record(octets), want, octets);
 }
 
+/// Octets, and the record at the front of them.
+static FRONTS: [(&[u8], Option<&[u8]>); 7] = [
+    (&[], None),
+    (&[0], None),
+    (&[0, 0], Some(&[])),
+    (&[0, 2, 7], None),
+    (&[0, 2, 7, 8], Some(&[7, 8])),
+    (&[0, 2, 7, 8, 9], Some(&[7, 8])),
+    (&[1, 0, 7], None),
+];
+
 #[test]
 fn the_record_at_the_front_is_found(rt: HostRuntime) {
-    begins(&rt, &[], None);
-    begins(&rt, &[0], None);
-    begins(&rt, &[0, 0], Some(&[]));
-    begins(&rt, &[0, 2, 7], None);
-    begins(&rt, &[0, 2, 7, 8], Some(&[7, 8]));
-    begins(&rt, &[0, 2, 7, 8, 9], Some(&[7, 8]));
-    begins(&rt, &[1, 0, 7], None);
+    for (octets, want) in &FRONTS {
+        begins(&rt, octets, *want);
+    }
 }
 
 /// Stops the test unless all `size` octets are written if there is room for them, or the fault reports how many were.
@@ -410,22 +414,35 @@ fn is_signed_decimal(rt: &impl Abort, alloc: Global, number: i64, text: &str) {
     assert_same(rt, &out[..end], text.as_bytes());
 }
 
+/// Numbers, and their decimal digits.
+static DECIMAL: [(u64, &str); 9] = [
+    (0, "0"),
+    (10, "10"),
+    (100, "100"),
+    (9_999, "9999"),
+    (10_000, "10000"),
+    (4_194_303, "4194303"),
+    (100_000_000, "100000000"),
+    (1_000_000_000_007, "1000000000007"),
+    (u64::MAX, "18446744073709551615"),
+];
+
+/// The same of signed numbers.
+static SIGNED_DECIMAL: [(i64, &str); 4] = [
+    (i64::MIN, "-9223372036854775808"),
+    (-1, "-1"),
+    (0, "0"),
+    (i64::MAX, "9223372036854775807"),
+];
+
 #[test]
 fn numbers_are_decimal(rt: HostRuntime) {
-    let alloc = rt.alloc();
-    is_decimal(&rt, alloc, 0, "0");
-    is_decimal(&rt, alloc, 10, "10");
-    is_decimal(&rt, alloc, 100, "100");
-    is_decimal(&rt, alloc, 9_999, "9999");
-    is_decimal(&rt, alloc, 10_000, "10000");
-    is_decimal(&rt, alloc, 4_194_303, "4194303");
-    is_decimal(&rt, alloc, 100_000_000, "100000000");
-    is_decimal(&rt, alloc, 1_000_000_000_007, "1000000000007");
-    is_decimal(&rt, alloc, u64::MAX, "18446744073709551615");
-    is_signed_decimal(&rt, alloc, i64::MIN, "-9223372036854775808");
-    is_signed_decimal(&rt, alloc, -1, "-1");
-    is_signed_decimal(&rt, alloc, 0, "0");
-    is_signed_decimal(&rt, alloc, i64::MAX, "9223372036854775807");
+    for (number, text) in &DECIMAL {
+        is_decimal(&rt, rt.alloc(), *number, text);
+    }
+    for (number, text) in &SIGNED_DECIMAL {
+        is_signed_decimal(&rt, rt.alloc(), *number, text);
+    }
 }
 
 #[test]
@@ -441,9 +458,4 @@ fn octets_are_hexadecimal(rt: HostRuntime) {
 fn laws_can_be_called() {
     bac_record::laws::records_are_unique();
     bac_record::laws::records_exist();
-    bac_stream::laws::normalised_files_are_kept();
-    bac_stream::laws::feeds_give_records();
-    bac_stream::laws::feeds_end_as_files();
-    bac_stream::laws::items_want_no_memory();
-    bac_stream::laws::joined_segments_give_the_service();
 }

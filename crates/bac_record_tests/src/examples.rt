@@ -1,10 +1,49 @@
-//! The examples of the doc comments of bac_message, with the same lines.
+//! The examples of the doc comments of bac_record, bac_pack and bac_message, with the same lines.
 
 use bac_message::{
     FrameJoinFault, RecordJoinFault, cut_frame, cut_records, join_frames, join_records,
 };
 use bac_npdu::{decode_frame, encode_frame};
+use bac_pack::run_pack;
+use bac_record::{Counted, read_record, write_record};
 use std::test::Fail;
+
+// Of `bac_record::read_record`.
+#[test]
+fn records_are_read(rt: HostRuntime) -> Result<(), Fail> {
+    // A record of a Who-Is, and one of no octets.
+    let file = [0x00, 0x04, 0x01, 0x00, 0x10, 0x08, 0x00, 0x00];
+    let mut reader = Counted::new(file.as_slice());
+    let first = read_record(rt.alloc(), &mut reader)?;
+    assert_eq!(rt; first.as_deref(), Some([0x01, 0x00, 0x10, 0x08].as_slice()));
+    let second = read_record(rt.alloc(), &mut reader)?;
+    assert_eq!(rt; second.as_deref(), Some([].as_slice()));
+    assert_eq!(rt; read_record(rt.alloc(), &mut reader)?, None);
+    Ok(())
+}
+
+// Of `bac_record::write_record`.
+#[test]
+fn a_record_is_written(rt: HostRuntime) -> Result<(), Fail> {
+    // Two octets of length, and those of a Who-Is.
+    let mut writer = Counted::new(Vec::new(rt.alloc()));
+    write_record(&mut writer, &[0x01, 0x00, 0x10, 0x08])?;
+    let file = [0x00, 0x04, 0x01, 0x00, 0x10, 0x08];
+    assert_eq!(rt; writer.device.as_slice(), file.as_slice());
+    Ok(())
+}
+
+// Of `bac_pack::run_pack`.
+#[test]
+fn lines_are_packed(rt: HostRuntime) -> Result<(), Fail> {
+    // A line of a Who-Is, and a last one without LF.
+    let mut reader = Counted::new(b"0100 1008\r\nAB".as_slice());
+    let mut writer = Counted::new(Vec::new(rt.alloc()));
+    assert_eq!(rt; run_pack(rt.alloc(), &mut reader, &mut writer), Ok(2));
+    let records = [0x00, 0x04, 0x01, 0x00, 0x10, 0x08, 0x00, 0x01, 0xAB];
+    assert_eq!(rt; writer.device.as_slice(), records.as_slice());
+    Ok(())
+}
 
 // Of `bac_message::cut_frame`.
 #[test]

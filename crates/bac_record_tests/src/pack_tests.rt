@@ -3,10 +3,10 @@
 ghost use Rattle.std.specs.Prelude.{◌≤◌};
 
 use crate::expectations::{assert_holds, assert_same, assert_same_of, assert_shown};
-use crate::fakes::{Drain, Feed, Interrupted};
+use crate::fakes::Interrupted;
 use bac_pack::{PackFault, run_pack};
 use bac_record::Counted;
-use bac_tables::{enclosed, octets_of};
+use bac_tables::{Drain, Feed, enclosed, octets_of};
 use std::alloc::Global;
 use std::process::Abort;
 
@@ -59,26 +59,34 @@ fn takes(rt: &impl Abort, alloc: Global, text: &str, lines: u32, records: &str) 
     packs(rt, alloc, text, Ok(lines), records);
 }
 
+/// The record of example 1.
+const RECORD_OCTETS: &str = "00 0D 01 04 00 05 01 0C 0C 00 00 00 05 19 55";
+
+/// Texts, how many lines they have, and their records.
+static TAKEN: [(&str, u32, &str); 16] = [
+    ("", 0, "none"),
+    ("\n", 1, "00 00"),
+    ("\n\n", 2, "00 00 00 00"),
+    ("\r\n", 1, "00 00"),
+    ("\r", 1, "00 00"),
+    (" ", 1, "00 00"),
+    ("  \r\n", 1, "00 00"),
+    ("0104 0005010C 0C00000005 1955", 1, RECORD_OCTETS),
+    ("0104 0005010C 0C00000005 1955\n", 1, RECORD_OCTETS),
+    ("AB\r\nCD", 2, "00 01 AB 00 01 CD"),
+    ("AB\nCD\r", 2, "00 01 AB 00 01 CD"),
+    ("AB\nCD\r\n", 2, "00 01 AB 00 01 CD"),
+    ("ab\naB\nAb\n", 3, "00 01 AB 00 01 AB 00 01 AB"),
+    (" a b \r\n", 1, "00 01 AB"),
+    ("0 1 0 4", 1, "00 02 01 04"),
+    ("12\n\n34", 3, "00 01 12 00 00 00 01 34"),
+];
+
 #[test]
 fn texts_are_packed_in_pieces_of_any_size(rt: HostRuntime) {
-    let alloc = rt.alloc();
-    takes(&rt, alloc, "", 0, "none");
-    takes(&rt, alloc, "\n", 1, "00 00");
-    takes(&rt, alloc, "\n\n", 2, "00 00 00 00");
-    takes(&rt, alloc, "\r\n", 1, "00 00");
-    takes(&rt, alloc, "\r", 1, "00 00");
-    takes(&rt, alloc, " ", 1, "00 00");
-    takes(&rt, alloc, "  \r\n", 1, "00 00");
-    let record = "00 0D 01 04 00 05 01 0C 0C 00 00 00 05 19 55";
-    takes(&rt, alloc, "0104 0005010C 0C00000005 1955", 1, record);
-    takes(&rt, alloc, "0104 0005010C 0C00000005 1955\n", 1, record);
-    takes(&rt, alloc, "AB\r\nCD", 2, "00 01 AB 00 01 CD");
-    takes(&rt, alloc, "AB\nCD\r", 2, "00 01 AB 00 01 CD");
-    takes(&rt, alloc, "AB\nCD\r\n", 2, "00 01 AB 00 01 CD");
-    takes(&rt, alloc, "ab\naB\nAb\n", 3, "00 01 AB 00 01 AB 00 01 AB");
-    takes(&rt, alloc, " a b \r\n", 1, "00 01 AB");
-    takes(&rt, alloc, "0 1 0 4", 1, "00 02 01 04");
-    takes(&rt, alloc, "12\n\n34", 3, "00 01 12 00 00 00 01 34");
+    for (text, lines, records) in &TAKEN {
+        takes(&rt, rt.alloc(), text, *lines, records);
+    }
 }
 
 /// The same, if this line has an octet that is no digit, or half an octet.
@@ -86,23 +94,29 @@ fn stops(rt: &impl Abort, alloc: Global, text: &str, line: u32, records: &str) {
     packs(rt, alloc, text, Err(PackFault::NotHex(line)), records);
 }
 
+/// Texts, the line that they stop at, and the records of the lines before it.
+static STOPPED: [(&str, u32, &str); 14] = [
+    ("01 4", 1, "none"),
+    ("0\nzz", 1, "none"),
+    ("00\nzz", 2, "00 01 00"),
+    ("00\nzz\n00\n", 2, "00 01 00"),
+    ("00\n0\n", 2, "00 01 00"),
+    ("00\n0\n0", 2, "00 01 00"),
+    ("AB\r\r\n", 1, "none"),
+    ("AB\r \n", 1, "none"),
+    ("A\rB\n", 1, "none"),
+    ("\n\rAB\n", 2, "00 00"),
+    ("AB\tCD\n", 1, "none"),
+    ("0x12\n", 1, "none"),
+    ("1G\n", 1, "none"),
+    ("AB\né\n", 2, "00 01 AB"),
+];
+
 #[test]
 fn a_text_stops_at_what_is_not_hexadecimal(rt: HostRuntime) {
-    let alloc = rt.alloc();
-    stops(&rt, alloc, "01 4", 1, "none");
-    stops(&rt, alloc, "0\nzz", 1, "none");
-    stops(&rt, alloc, "00\nzz", 2, "00 01 00");
-    stops(&rt, alloc, "00\nzz\n00\n", 2, "00 01 00");
-    stops(&rt, alloc, "00\n0\n", 2, "00 01 00");
-    stops(&rt, alloc, "00\n0\n0", 2, "00 01 00");
-    stops(&rt, alloc, "AB\r\r\n", 1, "none");
-    stops(&rt, alloc, "AB\r \n", 1, "none");
-    stops(&rt, alloc, "A\rB\n", 1, "none");
-    stops(&rt, alloc, "\n\rAB\n", 2, "00 00");
-    stops(&rt, alloc, "AB\tCD\n", 1, "none");
-    stops(&rt, alloc, "0x12\n", 1, "none");
-    stops(&rt, alloc, "1G\n", 1, "none");
-    stops(&rt, alloc, "AB\né\n", 2, "00 01 AB");
+    for (text, line, records) in &STOPPED {
+        stops(&rt, rt.alloc(), text, *line, records);
+    }
 }
 
 /// How many octets the writer of the next test has room for.
@@ -160,8 +174,7 @@ fn packs_or_wants_memory(
 fn refused_memory_leaves_whole_records(rt: HostRuntime) {
     let alloc = rt.alloc();
     let line = "0104 0005010C 0C00000005 1955";
-    let record = "00 0D 01 04 00 05 01 0C 0C 00 00 00 05 19 55";
-    packs_or_wants_memory(&rt, alloc, line, Ok(1), record);
+    packs_or_wants_memory(&rt, alloc, line, Ok(1), RECORD_OCTETS);
     let fault = Err(PackFault::NotHex(1));
     packs_or_wants_memory(&rt, alloc, "01 4", fault, "none");
     let lines = "0104 0005010C 0C00000005 1955\n0104 0005010C 0C00000005 1955\n01 4";
@@ -368,23 +381,30 @@ fn interrupted_reads_are_tried_again(rt: HostRuntime) {
     is_interrupted(&rt, rt.alloc(), 64, Err(PackFault::ReadFault(1)), &[]);
 }
 
+/// Faults, and their texts.
+static FAULTS: [(PackFault, &str); 9] = [
+    (PackFault::LineTooLong(3), "line 3: too long"),
+    (PackFault::NotHex(1), "line 1: not hexadecimal"),
+    (
+        PackFault::RecordTooLong(1_000_000),
+        "line 1000000: too long",
+    ),
+    (PackFault::ReadFault(2), "line 2: read fault"),
+    (PackFault::WriteFault(0), "write fault after 0 octets"),
+    (PackFault::TooManyLines, "more than 1000000 records"),
+    (PackFault::OutOfMemory(1), "out of memory"),
+    (
+        PackFault::Unreadable { line: 2, column: 7 },
+        "line 2: unreadable at column 7",
+    ),
+    (PackFault::Refused(3), "line 3: refused"),
+];
+
 #[test]
 fn faults_are_told(rt: HostRuntime) {
-    let alloc = rt.alloc();
-    assert_shown(&rt, alloc, PackFault::LineTooLong(3), "line 3: too long");
-    assert_shown(&rt, alloc, PackFault::NotHex(1), "line 1: not hexadecimal");
-    let fault = PackFault::RecordTooLong(1_000_000);
-    assert_shown(&rt, alloc, fault, "line 1000000: too long");
-    assert_shown(&rt, alloc, PackFault::ReadFault(2), "line 2: read fault");
-    let fault = PackFault::WriteFault(0);
-    assert_shown(&rt, alloc, fault, "write fault after 0 octets");
-    let fault = PackFault::TooManyLines;
-    assert_shown(&rt, alloc, fault, "more than 1000000 records");
-    assert_shown(&rt, alloc, PackFault::OutOfMemory(1), "out of memory");
-    let (line, column) = (2, 7);
-    let fault = PackFault::Unreadable { line, column };
-    assert_shown(&rt, alloc, fault, "line 2: unreadable at column 7");
-    assert_shown(&rt, alloc, PackFault::Refused(3), "line 3: refused");
+    for (fault, text) in &FAULTS {
+        assert_shown(&rt, rt.alloc(), *fault, text);
+    }
 }
 
 // The laws are functions that do nothing: their contracts are what they say.

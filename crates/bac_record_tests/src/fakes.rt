@@ -1,56 +1,10 @@
-//! Devices and a job for tests.
+//! Devices without end or with interruptions, and a job.
 
-ghost use Rattle.std.specs.Prelude.{◌-◌, ◌<◌, ◌≡◌, None, length, ⊤};
+ghost use Rattle.std.specs.Prelude.{◌≡◌, None, length, ⊤};
 
-use bac_record::{DealFault, Dealt, Device, Input, Job, Output};
+use bac_record::{DealFault, Dealt, Device, Input, Job};
 use bac_tag::{Refusal, Why};
-use std::alloc::Global;
 use std::io::{self, ErrorKind, Read, Write};
-
-/// Gives octets, at most so many a call, up to the call that fails.
-#[derive(Drop)]
-pub(crate) struct Feed<'a> {
-    pub(crate) octets: &'a [u8],
-    pub(crate) size: usize,
-    /// How many calls succeed.
-    pub(crate) calls: usize,
-    pub(crate) given: u64,
-    pub(crate) failures: u64,
-}
-
-impl<'a> Feed<'a> {
-    /// Gives the octets without a failure.
-    pub(crate) fn new(octets: &'a [u8], size: usize) -> Self {
-        Self {
-            octets,
-            size,
-            calls: usize::MAX,
-            given: 0,
-            failures: 0,
-        }
-    }
-}
-
-impl<'a> Input for Feed<'a> {
-    ghost left = { λ _. None };
-
-    ghost given = { λ feed. feed.given };
-
-    ghost failures = { λ feed. feed.failures };
-
-    fn read(&mut self, buffer: &mut [u8]) -> Result<usize, Device> {
-        if self.calls == 0 {
-            self.failures = self.failures.saturating_add(1);
-            return Err(Device::Failed);
-        }
-        self.calls -= 1;
-        let count = self.octets.len().min(self.size).min(buffer.len());
-        buffer[..count].copy_from_slice(&self.octets[..count]);
-        self.octets = &self.octets[count..];
-        self.given = self.given.saturating_add(count as u64);
-        Ok(count)
-    }
-}
 
 /// Gives these three octets again and again.
 #[derive(Drop)]
@@ -76,42 +30,6 @@ impl Input for Unending {
         self.octets = octets;
         self.given = self.given.saturating_add(buffer.len() as u64);
         Ok(buffer.len())
-    }
-}
-
-/// Takes so many octets, at most so many a call, and then fails.
-#[derive(Drop)]
-pub(crate) struct Drain {
-    pub(crate) taken: Vec<u8>,
-    pub(crate) size: usize,
-    pub(crate) room: usize,
-    pub(crate) failures: u64,
-}
-
-impl Drain {
-    pub(crate) fn new(alloc: Global, size: usize, room: usize) -> Self {
-        Self {
-            taken: Vec::new(alloc),
-            size,
-            room,
-            failures: 0,
-        }
-    }
-}
-
-impl Output for Drain {
-    ghost taken = { λ _. None };
-
-    ghost failures = { λ drain. drain.failures };
-
-    fn write(&mut self, octets: &[u8]) -> Result<usize, Device> {
-        let count = octets.len().min(self.size).min(self.room);
-        if count == 0 || self.taken.extend_from_slice(&octets[..count]).is_err() {
-            self.failures = self.failures.saturating_add(1);
-            return Err(Device::Failed);
-        }
-        self.room -= count;
-        Ok(count)
     }
 }
 

@@ -1,6 +1,7 @@
 //! Frames that are cut: their sizes, and those that are not cut.
 
-use crate::expectations::{assert_fault, assert_same_of, frame_of};
+use super::frame_of;
+use crate::expectations::{assert_fault, assert_same_of};
 use bac_message::{cut_frame, join_frames};
 use bac_npdu::{Frame, decode_frame};
 use bac_tables::{enclosed, mixed};

@@ -1,10 +1,14 @@
 //! What a test expects. Each is a function, which is proved once for all tests; what they compare by is proved in bac_tables.
 
-use bac_npdu::{Frame, decode_frame};
-use bac_tables::{octets_of, same_of};
+use bac_tables::{holds, same, same_of};
 use std::alloc::Global;
 use std::fmt::{Debug, Display};
 use std::process::Abort;
+
+/// Stops the test unless what it found is what it wanted.
+pub fn assert_same<T: PartialEq + Debug + Drop>(rt: &impl Abort, found: T, wanted: T) {
+    same(found, wanted).expect(rt, "another value is wanted");
+}
 
 /// Stops the test unless what it found is what it wanted. A failure shows the case.
 pub fn assert_same_of<T: PartialEq + Debug + Drop, C: Debug + Drop>(
@@ -14,6 +18,17 @@ pub fn assert_same_of<T: PartialEq + Debug + Drop, C: Debug + Drop>(
     case: C,
 ) {
     same_of(found, wanted, case).expect(rt, "another value is wanted");
+}
+
+/// Stops the test unless this holds of the case.
+pub fn assert_holds<C: Debug + Drop>(rt: &impl Abort, is_so: bool, case: C) {
+    holds(is_so, case).expect(rt, "it does not hold");
+}
+
+/// Stops the test unless this is how the value is shown.
+pub fn assert_shown<D: Display + Drop>(rt: &impl Abort, alloc: Global, value: D, text: &str) {
+    let shown = value.to_string(alloc).expect(rt, "memory");
+    assert_same(rt, shown.as_str(), text);
 }
 
 /// Stops the test unless there is a fault, and this is how it is shown.
@@ -30,10 +45,4 @@ pub fn assert_fault<T: Drop, F: Display + Drop, C: Debug + Drop>(
     };
     let text = shown.expect(rt, "memory");
     assert_same_of(rt, text.as_str(), wanted, case);
-}
-
-/// The frame that these octets spell.
-pub fn frame_of(rt: &impl Abort, alloc: Global, text: &str) -> Frame {
-    let octets = octets_of(text).expect(rt, "octets");
-    decode_frame(alloc, &octets).expect(rt, "a frame")
 }

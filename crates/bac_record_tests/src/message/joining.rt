@@ -1,6 +1,7 @@
 //! Frames of segments that are joined: in any order, lost, repeated, and of other messages.
 
-use crate::expectations::{assert_fault, assert_same_of, frame_of};
+use super::frame_of;
+use crate::expectations::{assert_fault, assert_same_of};
 use bac_message::{FrameJoinFault, join_frames};
 use bac_npdu::Frame;
 use std::alloc::Global;
