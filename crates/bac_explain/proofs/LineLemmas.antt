@@ -1,7 +1,9 @@
 -- The lines of pieces, one after another.
 use Rattle.std.proofs.Common.{◌≡◌, ℕ, ◌+◌, ◌-◌, ◌*◌, ◌/◌, ◌%◌, ◌≤◌, List, [], ◌∷◌, ◌++◌, length, refl, sym, ap, ◌∙◌, append_assoc, add-one, replicate, take, get_or, subst, ◌<◌, eqb, true, false, arith, inl, inr}
-use Rattle.std.proofs.lemmas.List.{append-nil, length-append, replicate-append-replicate, take_more}
-use Rattle.std.specs.Prelude.{Bool, Option, None, Result, Ok, Err, OnOk, OnErr, codes, drop, slice_get}
+use Rattle.std.proofs.lemmas.List.{append-nil, length-append, length-take-le, replicate-append-replicate, replicate_more, take-replicate, take-take, take_more, take_more_set}
+use Rattle.std.proofs.Math.ListN.{set}
+use Rattle.std.proofs.Math.Seq.{take-append-add}
+use Rattle.std.specs.Prelude.{Bool, Option, None, Result, Ok, Err, IfOk, OnOk, OnErr, codes, drop, slice_get}
 use Rattle.std.specs.Cmp.Lexicographic.{pointwise, bytes_decides}
 use Rattle.std.specs.Fmt.{decimal}
 use Rattle.bac_value.specs.declared.prim.PrimitiveValue.{PrimitiveValue}
@@ -10,6 +12,7 @@ use Rattle.std.proofs.lemmas.Bool.{le-ltb, lt-ltb}
 use Rattle.bac_record.proofs.DigitLemmas.{one_digit, two_digits}
 use Rattle.bac_record.specs.Digits.{hexadecimal}
 use Rattle.bac_tag.specs.Octets.{Extends}
+use Rattle.bac_tag.specs.declared.heads.TagHead.{TagHead}
 use Rattle.bac_explain.specs.declared.piece.Piece.{Piece}
 use Rattle.bac_explain.specs.Lines.{AreLines, blanks, column, front_text, further_line, further_lines, gap, margin, parted, piece_lines, place_text}
 use Rattle.bac_field_parts.specs.declared.field.Field.{Field}
@@ -21,21 +24,27 @@ use Rattle.bac_explain.specs.declared.verdict.Verdict.TheVariants.{Accepted}
 use Rattle.bac_explain.specs.Explained.{Explains}
 use Rattle.bac_explain.specs.Explanations.{IsExplanation, IsNamedExplanation}
 use Rattle.bac_explain.specs.Tiles.{octets_of}
-use Rattle.bac_explain.specs.Words.{IsValue, IsSaid, IsSaidOfValue, contents_words}
+use Rattle.bac_explain.specs.Words.{IsValue, IsSaid, IsSaidOfTag, IsSaidOfValue, IsSaidUnjudged, contents_words}
 
 -- two texts, one after the other
 pub appended : (old mid new a b : List ℕ) → mid ≡ old ++ a → new ≡ mid ++ b → new ≡ old ++ (a ++ b)
 appended old mid new a b q r = r ∙ ap (λ l. l ++ b) q ∙ append_assoc old a b
 
 -- a value was appended
-pub said_value : {E : Type 0} (number len : ℕ) (contents old new : List ℕ) (r : Result Unit E) (prim : PrimitiveValue) (is : IsValue number len contents) → prim ≡ is.2.value → OnOk r (new ≡ old ++ primitive_text prim) → OnOk r ((said : List ℕ) × (new ≡ old ++ said) × IsSaidOfValue number len contents said)
-said_value number len contents old new (Ok done) prim is e q = (primitive_text prim, q, inl (is, ap primitive_text e))
+pub said_value : {E : Type 0} (number len : ℕ) (contents old new : List ℕ) (r : Result ℕ E) (prim : PrimitiveValue) (is : IsValue number len contents) → prim ≡ is.2.value → IfOk r (λ end. take end new ≡ old ++ primitive_text prim) → IfOk r (λ end. (said : List ℕ) × (take end new ≡ old ++ said) × IsSaidOfValue number len contents said)
+said_value number len contents old new (Ok end) prim is e q = (primitive_text prim, q, inl (is, ap primitive_text e))
 said_value number len contents old new (Err fault) prim is e q = tt
 
 -- the contents were appended as they are
-pub said_type : {E : Type 0} (number len : ℕ) (contents old new : List ℕ) (r : Result Unit E) → (IsValue number len contents → ⊥) → OnOk r (new ≡ old ++ ((codes "type " ++ decimal number) ++ contents_words len contents)) → OnOk r ((said : List ℕ) × (new ≡ old ++ said) × IsSaidOfValue number len contents said)
-said_type number len contents old new (Ok done) none q = ((codes "type " ++ decimal number) ++ contents_words len contents, q, inr (none, refl))
+pub said_type : {E : Type 0} (number len : ℕ) (contents old new : List ℕ) (r : Result ℕ E) → (IsValue number len contents → ⊥) → IfOk r (λ end. take end new ≡ old ++ ((codes "type " ++ decimal number) ++ contents_words len contents)) → IfOk r (λ end. (said : List ℕ) × (take end new ≡ old ++ said) × IsSaidOfValue number len contents said)
+said_type number len contents old new (Ok end) none q = ((codes "type " ++ decimal number) ++ contents_words len contents, q, inr (none, refl))
 said_type number len contents old new (Err fault) none q = tt
+
+-- what is said of a tag, and that it is not judged
+pub said_unjudged : {E : Type 0} (r : Result ℕ E) (head : TagHead) (contents old mid new said : List ℕ) → mid ≡ old ++ said → IsSaidOfTag head contents said → IfOk r (λ end. take end new ≡ mid ++ codes " (not judged)") → IfOk r (λ end. (x : List ℕ) × (take end new ≡ old ++ x) × IsSaidUnjudged head contents x)
+said_unjudged (Ok end) head contents old mid new said q is r =
+    (said ++ codes " (not judged)", appended old mid (take end new) said (codes " (not judged)") q r, (said, is, refl))
+said_unjudged (Err fault) head contents old mid new said q is r = tt
 
 -- one more line of the octets of a piece
 pub further_more : (p : Piece) (own old mid new : List ℕ) (k : ℕ) → mid ≡ old ++ further_lines p own k → new ≡ mid ++ further_line p own (k + 1) → new ≡ old ++ further_lines p own (k + 1)
@@ -45,14 +54,45 @@ further_more p own old mid new k q r =
     ∙ sym (ap (λ n. old ++ further_lines p own n) (add-one k))
 
 -- lines so far, and what came of a call that was refused memory
-pub refused_after : {E : Type 0} (r : Result Unit E) (old mid new text : List ℕ) → mid ≡ old ++ text → Extends mid new → OnErr r (Extends old new)
-refused_after (Ok done) old mid new text q x = tt
+pub refused_after : {A E : Type 0} (r : Result A E) (old mid new text : List ℕ) → mid ≡ old ++ text → Extends mid new → OnErr r (Extends old new)
+refused_after (Ok end) old mid new text q x = tt
 refused_after (Err fault) old mid new text q x = (text ++ x.0, x.1 ∙ ap (λ l. l ++ x.0) q ∙ append_assoc old text x.0)
 
 -- the last of two texts, where the result of its call is handed on
-pub written_last : {E : Type 0} (r : Result Unit E) (old mid new a b : List ℕ) → mid ≡ old ++ a → OnOk r (new ≡ mid ++ b) → OnOk r (new ≡ old ++ (a ++ b))
-written_last (Ok done) old mid new a b q r = appended old mid new a b q r
+pub written_last : {E : Type 0} (r : Result ℕ E) (old mid new a b : List ℕ) → mid ≡ old ++ a → IfOk r (λ end. take end new ≡ mid ++ b) → IfOk r (λ end. take end new ≡ old ++ (a ++ b))
+written_last (Ok end) old mid new a b q r = appended old mid (take end new) a b q r
 written_last (Err fault) old mid new a b q r = tt
+
+-- the first of many blanks
+pub first_blanks : (at count end : ℕ) (old new : List ℕ) → at ≤ length old → count ≤ 32 → end ≡ at + 32 → take end new ≡ take at old ++ replicate 32 32 → take (at + count) new ≡ take at old ++ replicate count 32
+first_blanks at count end old new inside few is q =
+    let len : length (take at old) ≡ at = length-take-le at old inside in
+    sym (take-take (at + count) end new (omega (arith, few, is)))
+    ∙ ap (take (at + count)) q
+    ∙ ap (λ n. take (n + count) (take at old ++ replicate 32 32)) (sym len)
+    ∙ take-append-add (take at old) (replicate 32 32) count
+    ∙ ap (λ l. take at old ++ l) (take-replicate count 32 32 few)
+
+-- one more blank
+pub blanks_step : (at n : ℕ) (old room : List ℕ) → at + n < length room → take (at + n) room ≡ old ++ replicate n 32 → take (at + (n + 1)) (set room (at + n) 32) ≡ old ++ replicate (n + 1) 32
+blanks_step at n old room inside p =
+    let behind : at + (n + 1) ≡ at + n + 1 = omega arith in
+    ap (λ k. take k (set room (at + n) 32)) behind
+    ∙ take_more_set room (at + n) 32 inside
+    ∙ ap (λ l. l ++ 32 ∷ []) p
+    ∙ append_assoc old (replicate n 32) (32 ∷ [])
+    ∙ ap (λ l. old ++ l) (replicate_more n 32)
+
+-- blanks of a column and of many groups
+pub far_blanks : {E : Type 0} (r : Result ℕ E) (old one two new : List ℕ) (n a d : ℕ) → n ≡ a + 2 → one ≡ old ++ replicate n 32 → two ≡ one ++ replicate d 32 → IfOk r (λ end. take end new ≡ two ++ replicate d 32)
+    → IfOk r (λ end. take end new ≡ old ++ (blanks a ++ (codes "  " ++ blanks (2 * d))))
+far_blanks (Ok end) old one two new n a d is p q r =
+    let same : n + d + d ≡ a + (2 + 2 * d) = omega (arith, is) in
+    let left : (replicate n 32 ++ replicate d 32) ++ replicate d 32 ≡ replicate (n + d + d) 32 = ap (λ l. l ++ replicate d 32) (replicate-append-replicate n d 32) ∙ replicate-append-replicate (n + d) d 32 in
+    let right : blanks a ++ (codes "  " ++ blanks (2 * d)) ≡ replicate (a + (2 + 2 * d)) 32 = ap (λ l. blanks a ++ l) (replicate-append-replicate 2 (2 * d) 32) ∙ replicate-append-replicate a (2 + 2 * d) 32 in
+    appended old two (take end new) (replicate n 32 ++ replicate d 32) (replicate d 32) (appended old one two (replicate n 32) (replicate d 32) p q) r
+    ∙ ap (λ l. old ++ l) (left ∙ ap (λ k. replicate k 32) same ∙ sym right)
+far_blanks (Err fault) old one two new n a d is p q r = tt
 
 -- the blanks before an offset of one digit, and of two
 margin_one : (n : ℕ) → n < 10 → margin n ≡ codes "   "
@@ -84,15 +124,15 @@ parted_length head contents at head_end start end e f g =
     omega (arith, e, f, g, digits_length head, digits_length contents, two, length-append (hexadecimal head) (gap head contents ++ hexadecimal contents))
 
 -- the words of a piece, and what is after them
-pub said_piece : {E : Type 0} (P : List ℕ → Type 0) (r : Result Unit E) (p : Piece) (own old one two new said : List ℕ) → one ≡ old ++ (place_text p.place ++ (column (front_text p own) ++ blanks (2 * p.depth))) → two ≡ one ++ said → P said
-    → OnOk r (new ≡ two ++ (codes "\n" ++ further_lines p own ((length own - 1) / 8))) → OnOk r ((x : List ℕ) × P x × (new ≡ old ++ piece_lines p own x))
+pub said_piece : {E : Type 0} (P : List ℕ → Type 0) (r : Result ℕ E) (p : Piece) (own old one two new said : List ℕ) → one ≡ old ++ (place_text p.place ++ (column (front_text p own) ++ blanks (2 * p.depth))) → two ≡ one ++ said → P said
+    → IfOk r (λ end. take end new ≡ two ++ (codes "\n" ++ further_lines p own ((length own - 1) / 8))) → IfOk r (λ end. (x : List ℕ) × P x × (take end new ≡ old ++ piece_lines p own x))
 said_piece P (Ok done) p own old one two new said q x is r =
     let place = place_text p.place in
     let octets = column (front_text p own) in
     let indent = blanks (2 * p.depth) in
     let end = codes "\n" in
     let rest = further_lines p own ((length own - 1) / 8) in
-    let whole = appended old two new ((place ++ (octets ++ indent)) ++ said) (end ++ rest) (appended old one two (place ++ (octets ++ indent)) said q x) r in
+    let whole = appended old two (take done new) ((place ++ (octets ++ indent)) ++ said) (end ++ rest) (appended old one two (place ++ (octets ++ indent)) said q x) r in
     let moved : ((place ++ (octets ++ indent)) ++ said) ++ (end ++ rest) ≡ (place ++ (octets ++ (indent ++ (said ++ end)))) ++ rest =
     sym (append_assoc ((place ++ (octets ++ indent)) ++ said) end rest)
     ∙ ap (λ l. l ++ rest) (append_assoc (place ++ (octets ++ indent)) said end ∙ append_assoc place (octets ++ indent) (said ++ end) ∙ ap (λ l. place ++ l) (append_assoc octets indent (said ++ end))) in
@@ -104,8 +144,8 @@ pub extended : (old mid new : List ℕ) → Extends old mid → Extends mid new 
 extended old mid new x y = (x.0 ++ y.0, y.1 ∙ ap (λ l. l ++ y.0) x.1 ∙ append_assoc old x.0 y.0)
 
 -- what is refused after a text
-pub refused_last : {E : Type 0} (r : Result Unit E) (old mid new : List ℕ) → Extends old mid → OnErr r (Extends mid new) → OnErr r (Extends old new)
-refused_last (Ok done) old mid new x y = tt
+pub refused_last : {A E : Type 0} (r : Result A E) (old mid new : List ℕ) → Extends old mid → OnErr r (Extends mid new) → OnErr r (Extends old new)
+refused_last (Ok end) old mid new x y = tt
 refused_last (Err fault) old mid new x y = extended old mid new x y
 
 -- the lines of one more piece
@@ -156,14 +196,14 @@ pub same_octets : (a b : List ℕ) → a ≡ b → pointwise eqb a b ≡ true
 same_octets a b is = (bytes_decides a b).1 is
 
 -- the canonical octets were appended, which are not its own
-pub noted : {E : Type 0} (r : Result Unit E) (own : List ℕ) (q : Piece) (canonical old mid new : List ℕ) → (own ≡ canonical → ⊥) → mid ≡ old ++ codes "  ~ " → OnOk r (new ≡ mid ++ front_text q canonical) → OnOk r ((x : List ℕ) × (new ≡ old ++ x) × IsNote own q canonical x)
-noted (Ok done) own q canonical old mid new other p r = (codes "  ~ " ++ front_text q canonical, appended old mid new (codes "  ~ ") (front_text q canonical) p r, inr (other, refl))
+pub noted : {E : Type 0} (r : Result ℕ E) (own : List ℕ) (q : Piece) (canonical old mid new : List ℕ) → (own ≡ canonical → ⊥) → mid ≡ old ++ codes "  ~ " → IfOk r (λ end. take end new ≡ mid ++ front_text q canonical) → IfOk r (λ end. (x : List ℕ) × (take end new ≡ old ++ x) × IsNote own q canonical x)
+noted (Ok end) own q canonical old mid new other p r = (codes "  ~ " ++ front_text q canonical, appended old mid (take end new) (codes "  ~ ") (front_text q canonical) p r, inr (other, refl))
 noted (Err fault) own q canonical old mid new other p r = tt
 
 -- the lines of a piece with its own octets
-pub beside_own : {E : Type 0} (r : Result Unit E) (octets canonical : List ℕ) (fields : List Field) (p q : Piece) (own beside old new : List ℕ) → own ≡ octets_of octets p → beside ≡ octets_of canonical q
-    → OnOk r ((said : List ℕ) × IsSaidBeside fields p own q beside said × (new ≡ old ++ piece_lines p own said)) → OnOk r ((x : List ℕ) × (new ≡ old ++ x) × AreLinesBeside octets canonical fields p q x)
-beside_own (Ok done) octets canonical fields p q own beside old new is is_beside told =
+pub beside_own : {E : Type 0} (r : Result ℕ E) (octets canonical : List ℕ) (fields : List Field) (p q : Piece) (own beside old new : List ℕ) → own ≡ octets_of octets p → beside ≡ octets_of canonical q
+    → IfOk r (λ end. (said : List ℕ) × IsSaidBeside fields p own q beside said × (take end new ≡ old ++ piece_lines p own said)) → IfOk r (λ end. (x : List ℕ) × (take end new ≡ old ++ x) × AreLinesBeside octets canonical fields p q x)
+beside_own (Ok end) octets canonical fields p q own beside old new is is_beside told =
     let said = told.0 in (
       piece_lines p own said,
       told.2,
@@ -176,23 +216,23 @@ beside_own (Ok done) octets canonical fields p q own beside old new is is_beside
 beside_own (Err fault) octets canonical fields p q own beside old new is is_beside told = tt
 
 -- what is said of a piece of canonical octets, which stands beside itself
-pub said_itself : {E : Type 0} (r : Result Unit E) (fields : List Field) (p : Piece) (own old one two new : List ℕ) (label : Option Label) → IsLabel (within p fields) p label → one ≡ old ++ (place_text p.place ++ (column (front_text p own) ++ blanks (2 * p.depth)))
-    → (said : List ℕ) × (two ≡ one ++ said) × IsNamed label p own said → OnOk r (new ≡ two ++ (codes "\n" ++ further_lines p own ((length own - 1) / 8))) → OnOk r ((x : List ℕ) × IsSaidBeside fields p own p own x × (new ≡ old ++ piece_lines p own x))
+pub said_itself : {E : Type 0} (r : Result ℕ E) (fields : List Field) (p : Piece) (own old one two new : List ℕ) (label : Option Label) → IsLabel (within p fields) p label → one ≡ old ++ (place_text p.place ++ (column (front_text p own) ++ blanks (2 * p.depth)))
+    → (said : List ℕ) × (two ≡ one ++ said) × IsNamed label p own said → IfOk r (λ end. take end new ≡ two ++ (codes "\n" ++ further_lines p own ((length own - 1) / 8))) → IfOk r (λ end. (x : List ℕ) × IsSaidBeside fields p own p own x × (take end new ≡ old ++ piece_lines p own x))
 said_itself r fields p own old one two new label is q says end =
     let said = says.0 in
     said_piece (IsSaidBeside fields p own p own) r p own old one two new said q says.1 (label, is, (said, says.2, ([], inl (refl, refl), sym (append-nil said)))) end
 
 -- those of a piece that is no data
-pub no_data : {E : Type 0} (r : Result Unit E) (octets canonical : List ℕ) (fields : List Field) (p q : Piece) (old new : List ℕ) → is_data p.kind ≡ false
-    → OnOk r ((x : List ℕ) × (new ≡ old ++ x) × AreLinesBeside octets canonical fields p q x) → OnOk r ((x : List ℕ) × (new ≡ old ++ x) × ArePieceLines octets canonical fields p q x)
-no_data (Ok done) octets canonical fields p q old new other told =
+pub no_data : {E : Type 0} (r : Result ℕ E) (octets canonical : List ℕ) (fields : List Field) (p q : Piece) (old new : List ℕ) → is_data p.kind ≡ false
+    → IfOk r (λ end. (x : List ℕ) × (take end new ≡ old ++ x) × AreLinesBeside octets canonical fields p q x) → IfOk r (λ end. (x : List ℕ) × (take end new ≡ old ++ x) × ArePieceLines octets canonical fields p q x)
+no_data (Ok end) octets canonical fields p q old new other told =
     (told.0, told.1, subst (λ b. Either b (AreDataLines octets canonical fields p.place (p.place + length (octets_of octets p)) fields told.0) (AreLinesBeside octets canonical fields p q told.0)) (sym other) told.2)
 no_data (Err fault) octets canonical fields p q old new other told = tt
 
 -- those of data
-pub data_told : {E : Type 0} (r : Result Unit E) (octets canonical : List ℕ) (fields : List Field) (p q : Piece) (own old new : List ℕ) → is_data p.kind ≡ true → own ≡ octets_of octets p
-    → OnOk r ((x : List ℕ) × (new ≡ old ++ x) × AreDataLines octets canonical fields p.place (p.place + length own) fields x) → OnOk r ((x : List ℕ) × (new ≡ old ++ x) × ArePieceLines octets canonical fields p q x)
-data_told (Ok done) octets canonical fields p q own old new sure is told = (
+pub data_told : {E : Type 0} (r : Result ℕ E) (octets canonical : List ℕ) (fields : List Field) (p q : Piece) (own old new : List ℕ) → is_data p.kind ≡ true → own ≡ octets_of octets p
+    → IfOk r (λ end. (x : List ℕ) × (take end new ≡ old ++ x) × AreDataLines octets canonical fields p.place (p.place + length own) fields x) → IfOk r (λ end. (x : List ℕ) × (take end new ≡ old ++ x) × ArePieceLines octets canonical fields p q x)
+data_told (Ok end) octets canonical fields p q own old new sure is told = (
   told.0,
   told.1,
   subst (λ b. Either b (AreDataLines octets canonical fields p.place (p.place + length (octets_of octets p)) fields told.0) (AreLinesBeside octets canonical fields p q told.0)) (sym sure)
@@ -201,27 +241,28 @@ data_told (Ok done) octets canonical fields p q own old new sure is told = (
 data_told (Err fault) octets canonical fields p q own old new sure is told = tt
 
 -- those of a piece beside the first one of the canonical octets
-pub beside_first : {E : Type 0} (r : Result Unit E) (octets canonical : List ℕ) (fields : List Field) (hint : List ℕ) (p : Piece) (others : List Piece) (d : Piece) (old new : List ℕ) → 0 < length others
-    → OnOk r ((x : List ℕ) × (new ≡ old ++ x) × ArePieceLines octets canonical fields p (get_or others 0 d) x) → OnOk r ((x : List ℕ) × (new ≡ old ++ x) × AreLinesOf octets canonical fields hint p (slice_get others 0) x)
-beside_first (Ok done) octets canonical fields hint p [] d old new some told = absurd (omega (arith, some))
-beside_first (Ok done) octets canonical fields hint p (q ∷ qs) d old new some told = told
+pub beside_first : {E : Type 0} (r : Result ℕ E) (octets canonical : List ℕ) (fields : List Field) (hint : List ℕ) (p : Piece) (others : List Piece) (d : Piece) (old new : List ℕ) → 0 < length others
+    → IfOk r (λ end. (x : List ℕ) × (take end new ≡ old ++ x) × ArePieceLines octets canonical fields p (get_or others 0 d) x) → IfOk r (λ end. (x : List ℕ) × (take end new ≡ old ++ x) × AreLinesOf octets canonical fields hint p (slice_get others 0) x)
+beside_first (Ok end) octets canonical fields hint p [] d old new some told = absurd (omega (arith, some))
+beside_first (Ok end) octets canonical fields hint p (q ∷ qs) d old new some told = told
 beside_first (Err fault) octets canonical fields hint p others d old new some told = tt
 
 -- those of a piece that is beside none
-pub beside_none : {E : Type 0} (r : Result Unit E) (octets canonical : List ℕ) (fields : List Field) (hint : List ℕ) (p : Piece) (others : List Piece) (own old new : List ℕ) → length others ≡ 0 → own ≡ octets_of octets p
-    → OnOk r ((said : List ℕ) × IsSaidWith hint p own said × (new ≡ old ++ piece_lines p own said)) → OnOk r ((x : List ℕ) × (new ≡ old ++ x) × AreLinesOf octets canonical fields hint p (slice_get others 0) x)
-beside_none (Ok done) octets canonical fields hint p [] own old new none is told = (
+pub beside_none : {E : Type 0} (r : Result ℕ E) (octets canonical : List ℕ) (fields : List Field) (hint : List ℕ) (p : Piece) (others : List Piece) (own old new : List ℕ) → length others ≡ 0 → own ≡ octets_of octets p
+    → IfOk r (λ end. (said : List ℕ) × IsSaidWith hint p own said × (take end new ≡ old ++ piece_lines p own said)) → IfOk r (λ end. (x : List ℕ) × (take end new ≡ old ++ x) × AreLinesOf octets canonical fields hint p (slice_get others 0) x)
+beside_none (Ok end) octets canonical fields hint p [] own old new none is told = (
   piece_lines p own told.0,
   told.2,
   (told.0, subst (λ o. IsSaidWith hint p o told.0) is told.1, ap (λ o. piece_lines p o told.0) is),
 )
-beside_none (Ok done) octets canonical fields hint p (q ∷ qs) own old new none is told = absurd (omega (arith, none))
+beside_none (Ok end) octets canonical fields hint p (q ∷ qs) own old new none is told = absurd (omega (arith, none))
 beside_none (Err fault) octets canonical fields hint p others own old new none is told = tt
 
 -- the words of a piece, and the hint
-pub hinted : (hint : List ℕ) (p : Piece) (own old mid new said shown : List ℕ) → mid ≡ old ++ said → IsSaid p own said → shown ≡ hint_for p.kind hint → new ≡ mid ++ shown → (x : List ℕ) × (new ≡ old ++ x) × IsSaidWith hint p own x
-hinted hint p own old mid new said shown q is shows r =
-    (said ++ shown, appended old mid new said shown q r, (said, is, ap (λ l. said ++ l) shows))
+pub hinted : {E : Type 0} (r : Result ℕ E) (hint : List ℕ) (p : Piece) (own old mid new said shown : List ℕ) → mid ≡ old ++ said → IsSaid p own said → shown ≡ hint_for p.kind hint → IfOk r (λ end. take end new ≡ mid ++ shown) → IfOk r (λ end. (x : List ℕ) × (take end new ≡ old ++ x) × IsSaidWith hint p own x)
+hinted (Ok end) hint p own old mid new said shown q is shows r =
+    (said ++ shown, appended old mid (take end new) said shown q r, (said, is, ap (λ l. said ++ l) shows))
+hinted (Err fault) hint p own old mid new said shown q is shows r = tt
 
 -- the lines of data, whatever those of what is left are
 pub DataContinues : List ℕ → List ℕ → List Field → ℕ → ℕ → ℕ → List Field → List Field → List ℕ → Type 0
@@ -250,11 +291,11 @@ data_passed octets canonical fields from to place left f more done other goes li
     goes lines (subst (λ b. Either b two (AreDataLines octets canonical left place to more lines)) (sym other) are)
 
 -- the last part
-pub data_last : {E : Type 0} (r : Result Unit E) (octets canonical : List ℕ) (fields : List Field) (from to place : ℕ) (left rest : List Field) (done old mid new : List ℕ) → length rest ≡ 0 → mid ≡ old ++ done → DataContinues octets canonical fields from to place left rest done
-    → OnOk r ((x : List ℕ) × (new ≡ mid ++ x) × AreLinesBeside octets canonical left (data_part place to) (data_part place to) x) → OnOk r ((x : List ℕ) × (new ≡ old ++ x) × AreDataLines octets canonical fields from to fields x)
+pub data_last : {E : Type 0} (r : Result ℕ E) (octets canonical : List ℕ) (fields : List Field) (from to place : ℕ) (left rest : List Field) (done old mid new : List ℕ) → length rest ≡ 0 → mid ≡ old ++ done → DataContinues octets canonical fields from to place left rest done
+    → IfOk r (λ end. (x : List ℕ) × (take end new ≡ mid ++ x) × AreLinesBeside octets canonical left (data_part place to) (data_part place to) x) → IfOk r (λ end. (x : List ℕ) × (take end new ≡ old ++ x) × AreDataLines octets canonical fields from to fields x)
 unfolding DataContinues
-data_last (Ok is) octets canonical fields from to place left [] done old mid new none q goes told = (done ++ told.0, appended old mid new done told.0 q told.1, goes told.0 told.2)
-data_last (Ok is) octets canonical fields from to place left (f ∷ rest) done old mid new none q goes told = absurd (omega (arith, none))
+data_last (Ok end) octets canonical fields from to place left [] done old mid new none q goes told = (done ++ told.0, appended old mid (take end new) done told.0 q told.1, goes told.0 told.2)
+data_last (Ok end) octets canonical fields from to place left (f ∷ rest) done old mid new none q goes told = absurd (omega (arith, none))
 data_last (Err fault) octets canonical fields from to place left rest done old mid new none q goes told = tt
 
 -- the lines of all pieces explain the octets

@@ -1,97 +1,139 @@
-//! Numbers, digits and blanks after what is in a vector. If memory is refused, the vector may hold some of them.
+//! Words, numbers, digits and blanks at a place of a vector, which is made longer if it is too short. What is after the
+//! text then has no meaning, and is cut off at last. If memory is refused, the vector may hold some of the text.
 
-ghost use Rattle.std.specs.Prelude.{◌≡◌, ◌<◌, ◌≤◌, ◌+◌, ◌++◌, OnErr, OnOk, replicate};
+ghost use Rattle.std.specs.Prelude.{◌≡◌, ◌<◌, ◌≤◌, ◌+◌, ◌++◌, IfOk, OnErr, OnOk, length, replicate, take};
 ghost use Rattle.std.specs.Fmt.{decimal};
 ghost use Rattle.bac_tag.specs.Octets.{Extends};
 ghost use Rattle.bac_record.specs.Digits.{hexadecimal};
 
-use crate::beginnings::first_octets;
-use bac_record::layers::{add_room, make_room, put_decimal, put_hexadecimal};
+use bac_record::layers::{make_room, put_decimal, put_hexadecimal, put_octets, put_word};
 use bac_tag::OutOfMemory;
 
-/// Returns the digit of a number below 10.
+/// Room for a few short words and numbers, which are written into it without asking for room again.
+pub(crate) const ROOM: usize = 128;
+
+/// Writes a word, and returns where it ends.
 #[inline(always)]
-pub(crate) fn digit(number: u64) -> u8
-    requires { number < 10 }
-    ensures { result ≡ 48 + number }
+pub(crate) fn write_word<const N: usize>(
+    out: &mut Vec<u8>,
+    at: usize,
+    word: &[u8; N],
+) -> Result<usize, OutOfMemory>
+    requires { at ≤ length out.old.items }
+    ensures text { IfOk result (λ end. take end out.new.items ≡ take at out.old.items ++ word.now) }
+    ensures end { IfOk result (λ end. end ≤ length out.new.items) }
+    ensures err { OnErr result (Extends (take at out.old.items) out.new.items) }
 {
-    b'0' + number as u8
+    make_room(out, at, N)?;
+    Ok(put_word(out.as_mut_slice(), at, word))
 }
 
-/// Appends a number of three decimal digits or more.
-fn append_long_number(number: u64, out: &mut Vec<u8>) -> Result<(), OutOfMemory>
-    ensures text { OnOk result (out.new.items ≡ out.old.items ++ decimal number) }
-    ensures err { OnErr result (Extends out.old.items out.new.items) }
+/// Writes the octets of a text, and returns where they end.
+#[inline(always)]
+pub(crate) fn write_octets(
+    out: &mut Vec<u8>,
+    at: usize,
+    octets: &[u8],
+) -> Result<usize, OutOfMemory>
+    requires { at ≤ length out.old.items }
+    ensures text { IfOk result (λ end. take end out.new.items ≡ take at out.old.items ++ octets.now) }
+    ensures end { IfOk result (λ end. end ≤ length out.new.items) }
+    ensures err { OnErr result (Extends (take at out.old.items) out.new.items) }
 {
-    let start = add_room::<32>(out)?;
-    let end = put_decimal(out.as_mut_slice(), start, number);
-    out.truncate(end);
-    Ok(())
+    make_room(out, at, octets.len())?;
+    Ok(put_octets(out.as_mut_slice(), at, octets))
+}
+
+/// Writes a number in decimal digits, and returns where they end.
+#[inline(always)]
+pub(crate) fn write_number(out: &mut Vec<u8>, at: usize, number: u64) -> Result<usize, OutOfMemory>
+    requires { at ≤ length out.old.items }
+    ensures text { IfOk result (λ end. take end out.new.items ≡ take at out.old.items ++ decimal number) }
+    ensures end { IfOk result (λ end. end ≤ length out.new.items) }
+    ensures err { OnErr result (Extends (take at out.old.items) out.new.items) }
+{
+    make_room(out, at, ROOM)?;
+    Ok(put_decimal(out.as_mut_slice(), at, number))
+}
+
+/// Writes two digits for each octet, and returns where they end.
+#[inline(always)]
+pub(crate) fn write_digits(
+    out: &mut Vec<u8>,
+    at: usize,
+    octets: &[u8],
+) -> Result<usize, OutOfMemory>
+    requires { at ≤ length out.old.items }
+    ensures text { IfOk result (λ end. take end out.new.items ≡ take at out.old.items ++ hexadecimal octets.now) }
+    ensures end { IfOk result (λ end. end ≤ length out.new.items) }
+    ensures err { OnErr result (Extends (take at out.old.items) out.new.items) }
+{
+    make_room(out, at, 2 * octets.len())?;
+    Ok(put_hexadecimal(out.as_mut_slice(), at, octets))
 }
 
 /// Appends a number in decimal digits.
-// Most have one or two. For these no room is made.
 pub(crate) fn append_number(number: u64, out: &mut Vec<u8>) -> Result<(), OutOfMemory>
     ensures text { OnOk result (out.new.items ≡ out.old.items ++ decimal number) }
     ensures err { OnErr result (Extends out.old.items out.new.items) }
 {
-    if number < 10 {
-        out.push(digit(number))?;
-        return Ok(());
-    }
-    if number < 100 {
-        out.extend_from_slice(&[digit(number / 10), digit(number % 10)])?;
-        return Ok(());
-    }
-    append_long_number(number, out)
-}
-
-/// Appends two digits for each octet.
-pub(crate) fn append_digits(octets: &[u8], out: &mut Vec<u8>) -> Result<(), OutOfMemory>
-    ensures text { OnOk result (out.new.items ≡ out.old.items ++ hexadecimal octets.now) }
-    ensures err { OnErr result (Extends out.old.items out.new.items) }
-{
     let start = out.len();
-    make_room(out, start, 2 * octets.len())?;
-    let end = put_hexadecimal(out.as_mut_slice(), start, octets);
+    let end = write_number(out, start, number)?;
     out.truncate(end);
     Ok(())
 }
 
 /// How many blanks most lines have at most before their words.
-const MOST: usize = 64;
+const MOST: usize = 32;
 
 /// As many blanks.
 const BLANKS: [u8; MOST] = [b' '; MOST];
 
-/// Returns so many blanks, if they are at most 64.
+/// Writes so many blanks, at most 32, at a place with capacity for 32. Returns where they end.
 #[inline(always)]
-fn few_blanks(count: usize) -> &'static [u8]
-    ensures { count ≤ 64 → result.now ≡ replicate count 32 }
+fn put_blanks(room: &mut [u8], at: usize, count: usize) -> usize
+    requires few { count ≤ 32 }
+    requires room { at + 32 ≤ length room.old }
+    ensures text { take result room.new ≡ take at room.old ++ replicate count 32 }
+    ensures end { result ≡ at + count }
 {
-    first_octets(&BLANKS, count)
+    put_word(room, at, &BLANKS);
+    at + count
 }
 
-/// Appends so many blanks, one after the other.
-fn append_each_blank(count: usize, out: &mut Vec<u8>) -> Result<(), OutOfMemory>
-    ensures text { OnOk result (out.new.items ≡ out.old.items ++ replicate count 32) }
-    ensures err { OnErr result (Extends out.old.items out.new.items) }
+/// Writes so many blanks, one after the other, at a place with capacity for them.
+fn put_each_blank(room: &mut [u8], at: usize, count: usize)
+    requires { at + count ≤ length room.old }
+    ensures { take (at + count) room.new ≡ take at room.old ++ replicate count 32 }
 {
-    for _ in 0..count {
-        out.push(b' ')?;
+    for index in 0..count {
+        room[at + index] = b' ';
     }
-    Ok(())
 }
 
-/// Appends so many blanks.
+/// Writes so many blanks, however many they are. Returns where they end.
+fn write_many_blanks(out: &mut Vec<u8>, at: usize, count: usize) -> Result<usize, OutOfMemory>
+    requires { at ≤ length out.old.items }
+    ensures text { IfOk result (λ end. take end out.new.items ≡ take at out.old.items ++ replicate count 32) }
+    ensures end { IfOk result (λ end. end ≤ length out.new.items) }
+    ensures err { OnErr result (Extends (take at out.old.items) out.new.items) }
+{
+    make_room(out, at, count)?;
+    put_each_blank(out.as_mut_slice(), at, count);
+    Ok(at + count)
+}
+
+/// Writes so many blanks. Returns where they end.
 #[inline(always)]
-pub(crate) fn append_blanks(count: usize, out: &mut Vec<u8>) -> Result<(), OutOfMemory>
-    ensures text { OnOk result (out.new.items ≡ out.old.items ++ replicate count 32) }
-    ensures err { OnErr result (Extends out.old.items out.new.items) }
+pub(crate) fn write_blanks(out: &mut Vec<u8>, at: usize, count: usize) -> Result<usize, OutOfMemory>
+    requires { at ≤ length out.old.items }
+    ensures text { IfOk result (λ end. take end out.new.items ≡ take at out.old.items ++ replicate count 32) }
+    ensures end { IfOk result (λ end. end ≤ length out.new.items) }
+    ensures err { OnErr result (Extends (take at out.old.items) out.new.items) }
 {
     if count > MOST {
-        return append_each_blank(count, out);
+        return write_many_blanks(out, at, count);
     }
-    out.extend_from_slice(few_blanks(count))?;
-    Ok(())
+    make_room(out, at, MOST)?;
+    Ok(put_blanks(out.as_mut_slice(), at, count))
 }

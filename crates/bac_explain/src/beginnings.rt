@@ -1,13 +1,12 @@
 //! The beginnings of lines: an offset, octets in their column, and blanks.
 
-ghost use Rattle.std.specs.Prelude.{◌≡◌, ◌≤◌, ◌+◌, ◌*◌, ◌-◌, ◌++◌, IfOk, OnErr, OnOk, codes, length, take};
-ghost use Rattle.std.specs.Fmt.{decimal};
+ghost use Rattle.std.specs.Prelude.{◌≡◌, ◌<◌, ◌≤◌, ◌+◌, ◌*◌, ◌-◌, ◌++◌, IfOk, OnErr, codes, length, take};
 ghost use Rattle.bac_tag.specs.Octets.{Extends};
-ghost use Rattle.bac_explain.specs.Lines.{blanks, column, front_text, gap, parted, place_text};
+ghost use Rattle.bac_explain.specs.Lines.{blanks, column, front_text, gap, margin, parted, place_text};
 
-use crate::appending::{append_blanks, append_number, digit};
+use crate::appending::{ROOM, write_blanks};
 use crate::piece::Piece;
-use bac_record::layers::{put_hexadecimal, put_word};
+use bac_record::layers::{make_room, put_decimal, put_hexadecimal, put_word};
 use bac_tag::OutOfMemory;
 
 /// How many octets a line has at most.
@@ -68,89 +67,121 @@ fn put_front(room: &mut [u8], at: usize, piece: &Piece, own: &[u8]) -> usize
     put_parted(room, at, head, contents)
 }
 
-/// Appends an offset of four digits or more, and two blanks.
-fn append_far_place(place: usize, out: &mut Vec<u8>) -> Result<(), OutOfMemory>
-    ensures text { OnOk result (out.new.items ≡ out.old.items ++ (decimal place ++ codes "  ")) }
-    ensures err { OnErr result (Extends out.old.items out.new.items) }
+/// Returns the digit of a number below 10.
+#[inline(always)]
+fn digit(number: u64) -> u8
+    requires { number < 10 }
+    ensures { result ≡ 48 + number }
 {
-    append_number(place as u64, out)?;
-    out.extend_from_slice(b"  ")?;
-    Ok(())
+    b'0' + number as u8
 }
 
-/// Appends an offset at the right of at least four columns, and two blanks.
+/// Writes the blanks before an offset of three digits or more at a place with capacity for one. Returns where they end.
 #[inline(always)]
-pub(crate) fn append_place(place: usize, out: &mut Vec<u8>) -> Result<(), OutOfMemory>
-    ensures text { OnOk result (out.new.items ≡ out.old.items ++ place_text place) }
-    ensures err { OnErr result (Extends out.old.items out.new.items) }
+fn put_margin(room: &mut [u8], at: usize, number: u64) -> usize
+    requires long { 100 ≤ number }
+    requires room { at + 1 ≤ length room.old }
+    ensures text { take result room.new ≡ take at room.old ++ margin number }
+    ensures most { result ≤ at + 1 }
+{
+    if number < 1_000 {
+        return put_word(room, at, b" ");
+    }
+    at
+}
+
+/// Writes an offset at the right of at least four columns, and two blanks, at a place with capacity for 23 octets. Returns
+/// where they end.
+#[inline(always)]
+fn put_place(room: &mut [u8], at: usize, place: usize) -> usize
+    requires { at + 23 ≤ length room.old }
+    ensures text { take result room.new ≡ take at room.old ++ place_text place }
+    ensures most { result ≤ at + 23 }
 {
     let number = place as u64;
     if number < 10 {
-        out.extend_from_slice(&[b' ', b' ', b' ', digit(number), b' ', b' '])?;
-        return Ok(());
+        return put_word(room, at, &[b' ', b' ', b' ', digit(number), b' ', b' ']);
     }
     if number < 100 {
         let tens = digit(number / 10);
-        out.extend_from_slice(&[b' ', b' ', tens, digit(number % 10), b' ', b' '])?;
-        return Ok(());
+        return put_word(
+            room,
+            at,
+            &[b' ', b' ', tens, digit(number % 10), b' ', b' '],
+        );
     }
-    if number < 1_000 {
-        out.push(b' ')?;
-    }
-    append_far_place(place, out)
+    let start = put_margin(room, at, number);
+    let end = put_decimal(room, start, number);
+    put_word(room, end, b"  ")
 }
 
-/// How many octets the first ones of a piece have at most as digits.
-const FRONT: usize = 17;
-
-/// Appends the first octets of a piece as digits. Returns how many these are.
-#[inline(always)]
-fn append_front_digits(piece: &Piece, own: &[u8], out: &mut Vec<u8>) -> Result<usize, OutOfMemory>
-    ensures text { IfOk result (λ count. (out.new.items ≡ out.old.items ++ front_text piece.now own.now) × (count ≡ length (front_text piece.now own.now)) × (count ≤ 17)) }
-    ensures err { OnErr result (Extends out.old.items out.new.items) }
+/// Writes an offset at the right of at least four columns, and two blanks. Returns where they end.
+pub(crate) fn write_place(out: &mut Vec<u8>, at: usize, place: usize) -> Result<usize, OutOfMemory>
+    requires { at ≤ length out.old.items }
+    ensures text { IfOk result (λ end. take end out.new.items ≡ take at out.old.items ++ place_text place) }
+    ensures end { IfOk result (λ end. end ≤ length out.new.items) }
+    ensures err { OnErr result (Extends (take at out.old.items) out.new.items) }
 {
-    let mut digits = [0; FRONT];
-    let count = put_front(&mut digits, 0, piece, own);
-    out.extend_from_slice(&digits[..count])?;
-    Ok(count)
+    make_room(out, at, ROOM)?;
+    Ok(put_place(out.as_mut_slice(), at, place))
 }
 
-/// Appends the first octets of a piece as digits.
-pub(crate) fn append_front(piece: &Piece, own: &[u8], out: &mut Vec<u8>) -> Result<(), OutOfMemory>
-    ensures text { OnOk result (out.new.items ≡ out.old.items ++ front_text piece.now own.now) }
-    ensures err { OnErr result (Extends out.old.items out.new.items) }
+/// Writes the first octets of a piece as digits. Returns where they end.
+pub(crate) fn write_front(
+    out: &mut Vec<u8>,
+    at: usize,
+    piece: &Piece,
+    own: &[u8],
+) -> Result<usize, OutOfMemory>
+    requires { at ≤ length out.old.items }
+    ensures text { IfOk result (λ end. take end out.new.items ≡ take at out.old.items ++ front_text piece.now own.now) }
+    ensures end { IfOk result (λ end. end ≤ length out.new.items) }
+    ensures err { OnErr result (Extends (take at out.old.items) out.new.items) }
 {
-    append_front_digits(piece, own, out)?;
-    Ok(())
+    make_room(out, at, ROOM)?;
+    Ok(put_front(out.as_mut_slice(), at, piece, own))
 }
 
-/// Appends the blanks between the octets of a piece, which take so many columns, and its words: at least two, and two more
-/// for each group around it.
+/// Writes the blanks between the octets of a piece, which take so many columns, and its words: at least two, and two more
+/// for each group around it. Returns where they end.
 #[inline(always)]
-fn append_margin(used: usize, depth: usize, out: &mut Vec<u8>) -> Result<(), OutOfMemory>
-    ensures text { OnOk result (out.new.items ≡ out.old.items ++ (blanks (11 - used) ++ (codes "  " ++ blanks (2 * depth)))) }
-    ensures err { OnErr result (Extends out.old.items out.new.items) }
+fn write_margin(
+    out: &mut Vec<u8>,
+    at: usize,
+    used: usize,
+    depth: usize,
+) -> Result<usize, OutOfMemory>
+    requires { at ≤ length out.old.items }
+    ensures text { IfOk result (λ end. take end out.new.items ≡ take at out.old.items ++ (blanks (11 - used) ++ (codes "  " ++ blanks (2 * depth)))) }
+    ensures end { IfOk result (λ end. end ≤ length out.new.items) }
+    ensures err { OnErr result (Extends (take at out.old.items) out.new.items) }
 {
     let column = COLUMN.saturating_sub(used) + 2;
     if depth < FEW {
-        return append_blanks(column + 2 * depth, out);
+        return write_blanks(out, at, column + 2 * depth);
     }
-    append_blanks(column, out)?;
-    append_blanks(depth, out)?;
-    append_blanks(depth, out)
+    let first = write_blanks(out, at, column)?;
+    let second = write_blanks(out, first, depth)?;
+    write_blanks(out, second, depth)
 }
 
-/// Appends the first line of a piece, but for its words: its offset, its first octets in their column, and blanks for the
-/// groups around it.
-pub(crate) fn append_beginning(
+/// Writes the first line of a piece, but for its words: its offset, its first octets in their column, and blanks for the
+/// groups around it. Returns where it ends.
+#[inline(always)]
+pub(crate) fn write_beginning(
+    out: &mut Vec<u8>,
+    at: usize,
     piece: &Piece,
     own: &[u8],
-    out: &mut Vec<u8>,
-) -> Result<(), OutOfMemory>
-    ensures text { OnOk result (out.new.items ≡ out.old.items ++ (place_text piece.now.place ++ (column (front_text piece.now own.now) ++ blanks (2 * piece.now.depth)))) }
-    ensures err { OnErr result (Extends out.old.items out.new.items) }
+) -> Result<usize, OutOfMemory>
+    requires { at ≤ length out.old.items }
+    ensures text { IfOk result (λ end. take end out.new.items ≡ take at out.old.items ++ (place_text piece.now.place ++ (column (front_text piece.now own.now) ++ blanks (2 * piece.now.depth)))) }
+    ensures end { IfOk result (λ end. end ≤ length out.new.items) }
+    ensures err { OnErr result (Extends (take at out.old.items) out.new.items) }
 {
-    append_place(piece.place, out)?;
-    let used = append_front_digits(piece, own, out)?;
-    append_margin(used, piece.depth, out)
+    make_room(out, at, ROOM)?;
+    let room = out.as_mut_slice();
+    let start = put_place(room, at, piece.place);
+    let end = put_front(room, start, piece, own);
+    write_margin(out, end, end - start, piece.depth)
 }

@@ -3,13 +3,24 @@
 ghost use Rattle.std.specs.Prelude.{◌≡◌, ◌++◌, List, ℕ, Option, OnErr, OnOk, slice_get};
 ghost use Rattle.bac_tag.specs.Octets.{Extends};
 ghost use Rattle.bac_explain.specs.Hints.{IsHint, hint_words, label_words, tag_hint, type_words};
+ghost use Rattle.bac_explain.specs.Words.{bracketed};
 
 use crate::appending::append_number;
 use crate::label::{Label, label_of};
 use crate::piece::{Kind, Piece};
-use crate::tag_words::append_bracketed;
 use bac_field_parts::Field;
 use bac_tag::{OutOfMemory, TagHead};
+
+/// Appends a number in brackets.
+fn append_bracketed(number: u8, out: &mut Vec<u8>) -> Result<(), OutOfMemory>
+    ensures text { OnOk result (out.new.items ≡ out.old.items ++ bracketed number) }
+    ensures err { OnErr result (Extends out.old.items out.new.items) }
+{
+    out.push(b'[')?;
+    append_number(u64::from(number), out)?;
+    out.push(b']')?;
+    Ok(())
+}
 
 /// Appends the word of a field after a blank, if there is one.
 fn append_label(label: Option<Label>, out: &mut Vec<u8>) -> Result<(), OutOfMemory>

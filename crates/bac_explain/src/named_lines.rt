@@ -1,82 +1,95 @@
 //! The lines of the pieces of a frame, with the names of its fields.
 
-ghost use Rattle.std.specs.Prelude.{◌≡◌, ◌<◌, ◌≤◌, ◌+◌, ◌^◌, ◌++◌, List, ℕ, [], IsTrue, OnErr, OnOk, drop, length, slice_get};
+ghost use Rattle.std.specs.Prelude.{◌≡◌, ◌<◌, ◌≤◌, ◌+◌, ◌^◌, ◌++◌, List, ℕ, [], IfOk, IsTrue, OnErr, drop, length, slice_get, take};
 ghost use Rattle.bac_tag.specs.Octets.{Extends};
 ghost use Rattle.bac_explain.specs.Lines.{piece_lines};
 ghost use Rattle.bac_explain.specs.NamedLines.{AreDataLines, AreLinesBeside, AreLinesOf, AreNamedLines, ArePieceLines, IsNote, IsSaidBeside, IsSaidWith, begins_between, data_part, hint_for, is_data, left_for};
 
-use crate::beginnings::{append_beginning, append_front};
+use crate::appending::{write_octets, write_word};
+use crate::beginnings::{write_beginning, write_front};
 use crate::label::{fields_ahead, label_of};
-use crate::lines::{append_end, own_octets};
-use crate::named_words::append_named;
+use crate::lines::{own_octets, write_end};
+use crate::named_words::write_named;
 use crate::piece::{Kind, Piece};
-use crate::words::append_said;
+use crate::words::write_said;
 use bac_field_parts::Field;
 use bac_tag::OutOfMemory;
 
-/// Appends the first canonical octets of a piece, if they are not its own.
-fn append_note(
+/// Writes the first canonical octets of a piece, if they are not its own.
+fn write_note(
+    out: &mut Vec<u8>,
+    at: usize,
     own: &[u8],
     other: &Piece,
     canonical: &[u8],
-    out: &mut Vec<u8>,
-) -> Result<(), OutOfMemory>
-    ensures text { OnOk result ((note : List ℕ) × (out.new.items ≡ out.old.items ++ note) × IsNote own.now other.now canonical.now note) }
-    ensures err { OnErr result (Extends out.old.items out.new.items) }
+) -> Result<usize, OutOfMemory>
+    requires { at ≤ length out.old.items }
+    ensures text { IfOk result (λ end. (note : List ℕ) × (take end out.new.items ≡ take at out.old.items ++ note) × IsNote own.now other.now canonical.now note) }
+    ensures end { IfOk result (λ end. end ≤ length out.new.items) }
+    ensures err { OnErr result (Extends (take at out.old.items) out.new.items) }
 {
     if own == canonical {
-        return Ok(());
+        return Ok(at);
     }
-    out.extend_from_slice(b"  ~ ")?;
-    append_front(other, canonical, out)
+    let end = write_word(out, at, b"  ~ ")?;
+    write_front(out, end, other, canonical)
 }
 
-/// Appends the words of a piece beside the one of the canonical octets.
-fn append_beside(
+/// Writes the words of a piece beside the one of the canonical octets.
+fn write_beside(
+    out: &mut Vec<u8>,
+    at: usize,
     piece: &Piece,
     own: &[u8],
     other: &Piece,
     canonical: &[u8],
     fields: &[Field],
-    out: &mut Vec<u8>,
-) -> Result<(), OutOfMemory>
-    ensures text { OnOk result ((said : List ℕ) × (out.new.items ≡ out.old.items ++ said) × IsSaidBeside fields.now piece.now own.now other.now canonical.now said) }
-    ensures err { OnErr result (Extends out.old.items out.new.items) }
+) -> Result<usize, OutOfMemory>
+    requires { at ≤ length out.old.items }
+    ensures text { IfOk result (λ end. (said : List ℕ) × (take end out.new.items ≡ take at out.old.items ++ said) × IsSaidBeside fields.now piece.now own.now other.now canonical.now said) }
+    ensures end { IfOk result (λ end. end ≤ length out.new.items) }
+    ensures err { OnErr result (Extends (take at out.old.items) out.new.items) }
 {
-    append_named(label_of(other, fields), piece, own, out)?;
-    append_note(own, other, canonical, out)
+    let end = write_named(out, at, label_of(other, fields), piece, own)?;
+    write_note(out, end, own, other, canonical)
 }
 
-/// Appends the lines of a piece beside the one of the canonical octets.
-fn append_piece_beside(
+/// Writes the lines of a piece beside the one of the canonical octets.
+fn write_piece_beside(
+    out: &mut Vec<u8>,
+    at: usize,
     piece: &Piece,
     own: &[u8],
     other: &Piece,
     canonical: &[u8],
     fields: &[Field],
-    out: &mut Vec<u8>,
-) -> Result<(), OutOfMemory>
-    requires { piece.now.place + length own.now < 2 ^ 64 }
-    ensures text { OnOk result ((said : List ℕ) × IsSaidBeside fields.now piece.now own.now other.now canonical.now said × (out.new.items ≡ out.old.items ++ piece_lines piece.now own.now said)) }
-    ensures err { OnErr result (Extends out.old.items out.new.items) }
+) -> Result<usize, OutOfMemory>
+    requires place { at ≤ length out.old.items }
+    requires fits { piece.now.place + length own.now < 2 ^ 64 }
+    ensures text { IfOk result (λ end. (said : List ℕ) × IsSaidBeside fields.now piece.now own.now other.now canonical.now said × (take end out.new.items ≡ take at out.old.items ++ piece_lines piece.now own.now said)) }
+    ensures end { IfOk result (λ end. end ≤ length out.new.items) }
+    ensures err { OnErr result (Extends (take at out.old.items) out.new.items) }
 {
-    append_beginning(piece, own, out)?;
-    append_beside(piece, own, other, canonical, fields, out)?;
-    append_end(piece, own, out)
+    let beginning = write_beginning(out, at, piece, own)?;
+    let words = write_beside(out, beginning, piece, own, other, canonical, fields)?;
+    write_end(out, words, piece, own)
 }
 
-/// Appends the lines of the data from one place up to another, which are a part that its label names.
-fn append_data_part(
+/// Writes the lines of the data from one place up to another, which are a part that its label names.
+fn write_data_part(
+    out: &mut Vec<u8>,
+    at: usize,
     octets: &[u8],
     canonical: &[u8],
     left: &[Field],
     from: usize,
     to: usize,
-    out: &mut Vec<u8>,
-) -> Result<(), OutOfMemory>
-    requires { from ≤ to }
-    ensures text { OnOk result ((lines : List ℕ) × (out.new.items ≡ out.old.items ++ lines) × AreLinesBeside octets.now canonical.now left.now (data_part from to) (data_part from to) lines) }
-    ensures err { OnErr result (Extends out.old.items out.new.items) }
+) -> Result<usize, OutOfMemory>
+    requires place { at ≤ length out.old.items }
+    requires order { from ≤ to }
+    ensures text { IfOk result (λ end. (lines : List ℕ) × (take end out.new.items ≡ take at out.old.items ++ lines) × AreLinesBeside octets.now canonical.now left.now (data_part from to) (data_part from to) lines) }
+    ensures end { IfOk result (λ end. end ≤ length out.new.items) }
+    ensures err { OnErr result (Extends (take at out.old.items) out.new.items) }
 {
     let part = Piece {
         place: from,
@@ -87,7 +100,7 @@ fn append_data_part(
     };
     let own = own_octets(octets, &part);
     let beside = own_octets(canonical, &part);
-    append_piece_beside(&part, own, &part, beside, left, out)
+    write_piece_beside(out, at, &part, own, &part, beside, left)
 }
 
 /// Returns true if a field begins between two places.
@@ -98,31 +111,35 @@ fn begins_between(from: usize, to: usize, field: &Field) -> bool
     from < field.place && field.place < to
 }
 
-/// Appends the lines of the data from one place up to another, cut where the fields begin.
-fn append_data(
+/// Writes the lines of the data from one place up to another, cut where the fields begin.
+fn write_data(
+    out: &mut Vec<u8>,
+    at: usize,
     octets: &[u8],
     canonical: &[u8],
     fields: &[Field],
     from: usize,
     to: usize,
-    out: &mut Vec<u8>,
-) -> Result<(), OutOfMemory>
-    requires { from ≤ to }
-    ensures text { OnOk result ((lines : List ℕ) × (out.new.items ≡ out.old.items ++ lines) × AreDataLines octets.now canonical.now fields.now from to fields.now lines) }
-    ensures err { OnErr result (Extends out.old.items out.new.items) }
+) -> Result<usize, OutOfMemory>
+    requires place { at ≤ length out.old.items }
+    requires order { from ≤ to }
+    ensures text { IfOk result (λ end. (lines : List ℕ) × (take end out.new.items ≡ take at out.old.items ++ lines) × AreDataLines octets.now canonical.now fields.now from to fields.now lines) }
+    ensures end { IfOk result (λ end. end ≤ length out.new.items) }
+    ensures err { OnErr result (Extends (take at out.old.items) out.new.items) }
 {
+    let mut end = at;
     let mut place = from;
     let mut left = fields;
     let mut rest = fields;
     while let Some((field, more)) = rest.split_first() {
         if begins_between(place, to, field) {
-            append_data_part(octets, canonical, left, place, field.place, out)?;
+            end = write_data_part(out, end, octets, canonical, left, place, field.place)?;
             place = field.place;
             left = rest;
         }
         rest = more;
     }
-    append_data_part(octets, canonical, left, place, to, out)
+    write_data_part(out, end, octets, canonical, left, place, to)
 }
 
 /// Returns true if a kind is the data of a network message.
@@ -132,25 +149,28 @@ fn is_data(kind: Kind) -> bool
     matches!(kind, Kind::Data)
 }
 
-/// Appends the lines of a piece that is beside one of the canonical octets.
-fn append_lines_beside(
+/// Writes the lines of a piece that is beside one of the canonical octets.
+fn write_lines_beside(
+    out: &mut Vec<u8>,
+    at: usize,
     octets: &[u8],
     piece: &Piece,
     canonical: &[u8],
     other: &Piece,
     fields: &[Field],
-    out: &mut Vec<u8>,
-) -> Result<(), OutOfMemory>
-    ensures text { OnOk result ((lines : List ℕ) × (out.new.items ≡ out.old.items ++ lines) × ArePieceLines octets.now canonical.now fields.now piece.now other.now lines) }
-    ensures err { OnErr result (Extends out.old.items out.new.items) }
+) -> Result<usize, OutOfMemory>
+    requires { at ≤ length out.old.items }
+    ensures text { IfOk result (λ end. (lines : List ℕ) × (take end out.new.items ≡ take at out.old.items ++ lines) × ArePieceLines octets.now canonical.now fields.now piece.now other.now lines) }
+    ensures end { IfOk result (λ end. end ≤ length out.new.items) }
+    ensures err { OnErr result (Extends (take at out.old.items) out.new.items) }
 {
     let own = own_octets(octets, piece);
     if is_data(piece.kind) {
-        let end = piece.place + own.len();
-        return append_data(octets, canonical, fields, piece.place, end, out);
+        let to = piece.place + own.len();
+        return write_data(out, at, octets, canonical, fields, piece.place, to);
     }
     let beside = own_octets(canonical, other);
-    append_piece_beside(piece, own, other, beside, fields, out)
+    write_piece_beside(out, at, piece, own, other, beside, fields)
 }
 
 /// Returns the hint if it is that of a refusal, and otherwise nothing.
@@ -163,53 +183,61 @@ fn hint_for(kind: Kind, hint: &[u8]) -> &[u8]
     }
 }
 
-/// Appends the words of a piece, and the hint if it is a refusal.
-fn append_hinted(
+/// Writes the words of a piece, and the hint if it is a refusal.
+fn write_hinted(
+    out: &mut Vec<u8>,
+    at: usize,
     piece: &Piece,
     own: &[u8],
     hint: &[u8],
-    out: &mut Vec<u8>,
-) -> Result<(), OutOfMemory>
-    ensures text { OnOk result ((said : List ℕ) × (out.new.items ≡ out.old.items ++ said) × IsSaidWith hint.now piece.now own.now said) }
-    ensures err { OnErr result (Extends out.old.items out.new.items) }
+) -> Result<usize, OutOfMemory>
+    requires { at ≤ length out.old.items }
+    ensures text { IfOk result (λ end. (said : List ℕ) × (take end out.new.items ≡ take at out.old.items ++ said) × IsSaidWith hint.now piece.now own.now said) }
+    ensures end { IfOk result (λ end. end ≤ length out.new.items) }
+    ensures err { OnErr result (Extends (take at out.old.items) out.new.items) }
 {
-    append_said(piece, own, out)?;
-    out.extend_from_slice(hint_for(piece.kind, hint))?;
-    Ok(())
+    let end = write_said(out, at, piece, own)?;
+    write_octets(out, end, hint_for(piece.kind, hint))
 }
 
-/// Appends the lines of a piece that is beside none.
-fn append_alone(
+/// Writes the lines of a piece that is beside none.
+fn write_alone(
+    out: &mut Vec<u8>,
+    at: usize,
     piece: &Piece,
     own: &[u8],
     hint: &[u8],
-    out: &mut Vec<u8>,
-) -> Result<(), OutOfMemory>
-    requires { piece.now.place + length own.now < 2 ^ 64 }
-    ensures text { OnOk result ((said : List ℕ) × IsSaidWith hint.now piece.now own.now said × (out.new.items ≡ out.old.items ++ piece_lines piece.now own.now said)) }
-    ensures err { OnErr result (Extends out.old.items out.new.items) }
+) -> Result<usize, OutOfMemory>
+    requires place { at ≤ length out.old.items }
+    requires fits { piece.now.place + length own.now < 2 ^ 64 }
+    ensures text { IfOk result (λ end. (said : List ℕ) × IsSaidWith hint.now piece.now own.now said × (take end out.new.items ≡ take at out.old.items ++ piece_lines piece.now own.now said)) }
+    ensures end { IfOk result (λ end. end ≤ length out.new.items) }
+    ensures err { OnErr result (Extends (take at out.old.items) out.new.items) }
 {
-    append_beginning(piece, own, out)?;
-    append_hinted(piece, own, hint, out)?;
-    append_end(piece, own, out)
+    let beginning = write_beginning(out, at, piece, own)?;
+    let words = write_hinted(out, beginning, piece, own, hint)?;
+    write_end(out, words, piece, own)
 }
 
-/// Appends the lines of a piece, beside the first one of the canonical octets if there is one.
-fn append_lines_of(
+/// Writes the lines of a piece, beside the first one of the canonical octets if there is one.
+fn write_lines_of(
+    out: &mut Vec<u8>,
+    at: usize,
     octets: &[u8],
     piece: &Piece,
     canonical: &[u8],
     others: &[Piece],
     fields: &[Field],
     hint: &[u8],
-    out: &mut Vec<u8>,
-) -> Result<(), OutOfMemory>
-    ensures text { OnOk result ((lines : List ℕ) × (out.new.items ≡ out.old.items ++ lines) × AreLinesOf octets.now canonical.now fields.now hint.now piece.now (slice_get others.now 0) lines) }
-    ensures err { OnErr result (Extends out.old.items out.new.items) }
+) -> Result<usize, OutOfMemory>
+    requires { at ≤ length out.old.items }
+    ensures text { IfOk result (λ end. (lines : List ℕ) × (take end out.new.items ≡ take at out.old.items ++ lines) × AreLinesOf octets.now canonical.now fields.now hint.now piece.now (slice_get others.now 0) lines) }
+    ensures end { IfOk result (λ end. end ≤ length out.new.items) }
+    ensures err { OnErr result (Extends (take at out.old.items) out.new.items) }
 {
     match others {
-        [other, ..] => append_lines_beside(octets, piece, canonical, other, fields, out),
-        [] => append_alone(piece, own_octets(octets, piece), hint, out),
+        [other, ..] => write_lines_beside(out, at, octets, piece, canonical, other, fields),
+        [] => write_alone(out, at, piece, own_octets(octets, piece), hint),
     }
 }
 
@@ -230,83 +258,97 @@ fn after_first(pieces: &[Piece]) -> &[Piece]
     pieces.get(1..).unwrap_or(&[])
 }
 
-/// Appends the lines of pieces of octets, each beside the one with its index of the canonical octets, with a hint at a
+/// Writes the lines of pieces of octets, each beside the one with its index of the canonical octets, with a hint at a
 /// refusal. The fields are gone through once, along with these. If memory is refused, `out` may hold some of them.
-pub(crate) fn append_named_lines(
+pub(crate) fn write_named_lines(
+    out: &mut Vec<u8>,
+    at: usize,
     octets: &[u8],
     pieces: &[Piece],
     canonical: &[u8],
     others: &[Piece],
     fields: &[Field],
     hint: &[u8],
-    out: &mut Vec<u8>,
-) -> Result<(), OutOfMemory>
-    ensures text { OnOk result ((lines : List ℕ) × (out.new.items ≡ out.old.items ++ lines) × AreNamedLines octets.now canonical.now fields.now hint.now pieces.now others.now lines) }
-    ensures err { OnErr result (Extends out.old.items out.new.items) }
+) -> Result<usize, OutOfMemory>
+    requires { at ≤ length out.old.items }
+    ensures text { IfOk result (λ end. (lines : List ℕ) × (take end out.new.items ≡ take at out.old.items ++ lines) × AreNamedLines octets.now canonical.now fields.now hint.now pieces.now others.now lines) }
+    ensures end { IfOk result (λ end. end ≤ length out.new.items) }
+    ensures err { OnErr result (Extends (take at out.old.items) out.new.items) }
 {
+    let mut end = at;
     let mut left = pieces;
     let mut right = others;
     let mut ahead = fields;
     while let Some((piece, more)) = left.split_first() {
         ahead = fields_for(right, ahead);
-        append_lines_of(octets, piece, canonical, right, ahead, hint, out)?;
+        end = write_lines_of(out, end, octets, piece, canonical, right, ahead, hint)?;
         left = more;
         right = after_first(right);
     }
-    Ok(())
+    Ok(end)
 }
 
-/// Appends the lines of a piece of canonical octets, with the label that it has from these fields.
-fn append_piece_named(
+/// Writes the lines of a piece of canonical octets, with the label that it has from these fields.
+fn write_piece_named(
+    out: &mut Vec<u8>,
+    at: usize,
     piece: &Piece,
     own: &[u8],
     fields: &[Field],
-    out: &mut Vec<u8>,
-) -> Result<(), OutOfMemory>
-    requires { piece.now.place + length own.now < 2 ^ 64 }
-    ensures text { OnOk result ((said : List ℕ) × IsSaidBeside fields.now piece.now own.now piece.now own.now said × (out.new.items ≡ out.old.items ++ piece_lines piece.now own.now said)) }
-    ensures err { OnErr result (Extends out.old.items out.new.items) }
+) -> Result<usize, OutOfMemory>
+    requires place { at ≤ length out.old.items }
+    requires fits { piece.now.place + length own.now < 2 ^ 64 }
+    ensures text { IfOk result (λ end. (said : List ℕ) × IsSaidBeside fields.now piece.now own.now piece.now own.now said × (take end out.new.items ≡ take at out.old.items ++ piece_lines piece.now own.now said)) }
+    ensures end { IfOk result (λ end. end ≤ length out.new.items) }
+    ensures err { OnErr result (Extends (take at out.old.items) out.new.items) }
 {
-    append_beginning(piece, own, out)?;
-    append_named(label_of(piece, fields), piece, own, out)?;
-    append_end(piece, own, out)
+    let beginning = write_beginning(out, at, piece, own)?;
+    let words = write_named(out, beginning, label_of(piece, fields), piece, own)?;
+    write_end(out, words, piece, own)
 }
 
-/// Appends the lines of a piece of canonical octets.
-fn append_canonical_piece(
+/// Writes the lines of a piece of canonical octets.
+fn write_canonical_piece(
+    out: &mut Vec<u8>,
+    at: usize,
     octets: &[u8],
     piece: &Piece,
     fields: &[Field],
-    out: &mut Vec<u8>,
-) -> Result<(), OutOfMemory>
-    ensures text { OnOk result ((lines : List ℕ) × (out.new.items ≡ out.old.items ++ lines) × ArePieceLines octets.now octets.now fields.now piece.now piece.now lines) }
-    ensures err { OnErr result (Extends out.old.items out.new.items) }
+) -> Result<usize, OutOfMemory>
+    requires { at ≤ length out.old.items }
+    ensures text { IfOk result (λ end. (lines : List ℕ) × (take end out.new.items ≡ take at out.old.items ++ lines) × ArePieceLines octets.now octets.now fields.now piece.now piece.now lines) }
+    ensures end { IfOk result (λ end. end ≤ length out.new.items) }
+    ensures err { OnErr result (Extends (take at out.old.items) out.new.items) }
 {
     let own = own_octets(octets, piece);
     if is_data(piece.kind) {
-        let end = piece.place + own.len();
-        return append_data(octets, octets, fields, piece.place, end, out);
+        let to = piece.place + own.len();
+        return write_data(out, at, octets, octets, fields, piece.place, to);
     }
-    append_piece_named(piece, own, fields, out)
+    write_piece_named(out, at, piece, own, fields)
 }
 
-/// Appends the lines of pieces of canonical octets, as [`append_named_lines`] does of pieces that are beside themselves. If
+/// Writes the lines of pieces of canonical octets, as [`write_named_lines`] does of pieces that are beside themselves. If
 /// memory is refused, `out` may hold some of them.
-pub(crate) fn append_canonical_lines(
+pub(crate) fn write_canonical_lines(
+    out: &mut Vec<u8>,
+    at: usize,
     octets: &[u8],
     pieces: &[Piece],
     fields: &[Field],
-    out: &mut Vec<u8>,
-) -> Result<(), OutOfMemory>
-    ensures text { OnOk result ((lines : List ℕ) × (out.new.items ≡ out.old.items ++ lines) × AreNamedLines octets.now octets.now fields.now [] pieces.now pieces.now lines) }
-    ensures err { OnErr result (Extends out.old.items out.new.items) }
+) -> Result<usize, OutOfMemory>
+    requires { at ≤ length out.old.items }
+    ensures text { IfOk result (λ end. (lines : List ℕ) × (take end out.new.items ≡ take at out.old.items ++ lines) × AreNamedLines octets.now octets.now fields.now [] pieces.now pieces.now lines) }
+    ensures end { IfOk result (λ end. end ≤ length out.new.items) }
+    ensures err { OnErr result (Extends (take at out.old.items) out.new.items) }
 {
+    let mut end = at;
     let mut left = pieces;
     let mut ahead = fields;
     while let Some((piece, more)) = left.split_first() {
         ahead = fields_ahead(ahead, piece);
-        append_canonical_piece(octets, piece, ahead, out)?;
+        end = write_canonical_piece(out, end, octets, piece, ahead)?;
         left = more;
     }
-    Ok(())
+    Ok(end)
 }

@@ -5,13 +5,12 @@ ghost use Rattle.bac_explain.specs.Explanations.{IsNamedExplanation};
 ghost use Rattle.bac_explain.specs.NamedLines.{AreNamedLines};
 
 use crate::explanation::{FEW, pieces_of};
-use crate::named_lines::{append_canonical_lines, append_named_lines};
+use crate::named_lines::{write_canonical_lines, write_named_lines};
 use crate::piece::Piece;
 use crate::pieces::write_pieces;
 use crate::verdict::Verdict;
 use bac_field_parts::Field;
 use bac_tag::OutOfMemory;
-use bac_tag::layers::or_cut_back;
 use std::alloc::Global;
 
 /// Appends the lines of pieces, each beside the one with its index of the canonical octets, with a hint at a refusal.
@@ -28,8 +27,16 @@ pub(crate) fn append_beside_each(
     ensures err { OnErr result (out.new.items ≡ out.old.items) }
 {
     let start = out.len();
-    let appended = append_named_lines(octets, pieces, canonical, others, fields, hint, out);
-    or_cut_back(appended, start, out)
+    match write_named_lines(out, start, octets, pieces, canonical, others, fields, hint) {
+        Ok(end) => {
+            out.truncate(end);
+            Ok(())
+        }
+        Err(fault) => {
+            out.truncate(start);
+            Err(fault)
+        }
+    }
 }
 
 /// Appends the lines of the pieces of accepted octets, however many they are.
@@ -88,8 +95,16 @@ fn append_each_canonical(
     ensures err { OnErr result (out.new.items ≡ out.old.items) }
 {
     let start = out.len();
-    let appended = append_canonical_lines(octets, pieces, fields, out);
-    or_cut_back(appended, start, out)
+    match write_canonical_lines(out, start, octets, pieces, fields) {
+        Ok(end) => {
+            out.truncate(end);
+            Ok(())
+        }
+        Err(fault) => {
+            out.truncate(start);
+            Err(fault)
+        }
+    }
 }
 
 /// Appends the lines of the pieces of canonical octets, however many they are.

@@ -1,144 +1,205 @@
 //! The words of a piece with a name.
 
-ghost use Rattle.std.specs.Prelude.{◌≡◌, ◌++◌, List, ℕ, OnErr, OnOk, codes};
+ghost use Rattle.std.specs.Prelude.{◌≡◌, ◌≤◌, ◌+◌, ◌++◌, List, ℕ, IfOk, OnErr, codes, length, take};
 ghost use Rattle.bac_tag.specs.Octets.{Extends};
 ghost use Rattle.bac_field_parts.specs.Names.{word_of as word_of_name};
 ghost use Rattle.bac_explain.specs.declared.piece.Kind.TheVariants.{Choice};
 ghost use Rattle.bac_explain.specs.Labels.{IsNamed, IsNamedOf, IsSaidOfNamed, data_words, object_words, part_words};
 ghost use Rattle.bac_explain.specs.Words.{bracketed, numbered_words};
 
-use crate::appending::append_number;
+use crate::appending::{ROOM, write_number, write_octets, write_word};
 use crate::label::Label;
 use crate::piece::{Kind, Piece};
-use crate::tag_words::{append_bracketed, append_tag};
-use crate::words::{append_said, append_word, contents_of};
+use crate::tag_words::{put_bracketed, write_tag};
+use crate::words::{contents_of, write_kind, write_said};
+use bac_record::layers::{make_room, put_decimal, put_word};
 use bac_tag::{OutOfMemory, TagHead};
 
-/// Appends an object identifier with these bits, as type and instance.
-fn append_object(bits: u64, out: &mut Vec<u8>) -> Result<(), OutOfMemory>
-    ensures text { OnOk result (out.new.items ≡ out.old.items ++ object_words bits) }
-    ensures err { OnErr result (Extends out.old.items out.new.items) }
+/// Writes an object identifier with these bits, as type and instance. Returns where it ends.
+fn write_object(out: &mut Vec<u8>, at: usize, bits: u64) -> Result<usize, OutOfMemory>
+    requires { at ≤ length out.old.items }
+    ensures text { IfOk result (λ end. take end out.new.items ≡ take at out.old.items ++ object_words bits) }
+    ensures end { IfOk result (λ end. end ≤ length out.new.items) }
+    ensures err { OnErr result (Extends (take at out.old.items) out.new.items) }
 {
-    append_number(bits / 0x40_0000, out)?;
-    out.push(b':')?;
-    append_number(bits % 0x40_0000, out)
+    make_room(out, at, ROOM)?;
+    let room = out.as_mut_slice();
+    let kind = put_decimal(room, at, bits / 0x40_0000);
+    let colon = put_word(room, kind, b":");
+    Ok(put_decimal(room, colon, bits % 0x40_0000))
 }
 
-/// Appends a blank and the word of a name.
-fn append_name(label: Label, out: &mut Vec<u8>) -> Result<(), OutOfMemory>
-    ensures text { OnOk result (out.new.items ≡ out.old.items ++ (codes " " ++ word_of_name label.name)) }
-    ensures err { OnErr result (Extends out.old.items out.new.items) }
+/// Writes the word of a name. Returns where it ends.
+#[inline(always)]
+fn write_name(out: &mut Vec<u8>, at: usize, label: Label) -> Result<usize, OutOfMemory>
+    requires { at ≤ length out.old.items }
+    ensures text { IfOk result (λ end. take end out.new.items ≡ take at out.old.items ++ word_of_name label.name) }
+    ensures end { IfOk result (λ end. end ≤ length out.new.items) }
+    ensures err { OnErr result (Extends (take at out.old.items) out.new.items) }
 {
-    out.push(b' ')?;
-    out.extend_from_slice(label.name.word().as_bytes())?;
-    Ok(())
+    write_octets(out, at, label.name.word().as_bytes())
 }
 
-/// Appends the word of a part, and its number.
-fn append_part(label: Label, out: &mut Vec<u8>) -> Result<(), OutOfMemory>
-    ensures text { OnOk result (out.new.items ≡ out.old.items ++ part_words label) }
-    ensures err { OnErr result (Extends out.old.items out.new.items) }
+/// Writes the word of a part, and its number. Returns where they end.
+#[inline(always)]
+fn write_part(out: &mut Vec<u8>, at: usize, label: Label) -> Result<usize, OutOfMemory>
+    requires { at ≤ length out.old.items }
+    ensures text { IfOk result (λ end. take end out.new.items ≡ take at out.old.items ++ part_words label) }
+    ensures end { IfOk result (λ end. end ≤ length out.new.items) }
+    ensures err { OnErr result (Extends (take at out.old.items) out.new.items) }
 {
-    out.extend_from_slice(label.name.word().as_bytes())?;
-    out.push(b' ')?;
+    let name = write_name(out, at, label)?;
+    let end = write_word(out, name, b" ")?;
     if label.is_object() {
-        append_object(label.number, out)
+        write_object(out, end, label.number)
     } else {
-        append_number(label.number, out)
+        write_number(out, end, label.number)
     }
 }
 
-/// Appends the number of a context tag, and the word of a part with its number.
-fn append_numbered_part(label: Label, number: u8, out: &mut Vec<u8>) -> Result<(), OutOfMemory>
-    ensures text { OnOk result (out.new.items ≡ out.old.items ++ (bracketed number ++ (codes " " ++ part_words label))) }
-    ensures err { OnErr result (Extends out.old.items out.new.items) }
+/// Writes a number in brackets, and a blank. Returns where they end.
+#[inline(always)]
+fn write_context_number(out: &mut Vec<u8>, at: usize, number: u8) -> Result<usize, OutOfMemory>
+    requires { at ≤ length out.old.items }
+    ensures text { IfOk result (λ end. take end out.new.items ≡ take at out.old.items ++ (bracketed number ++ codes " ")) }
+    ensures end { IfOk result (λ end. end ≤ length out.new.items) }
+    ensures err { OnErr result (Extends (take at out.old.items) out.new.items) }
 {
-    append_bracketed(number, out)?;
-    out.push(b' ')?;
-    append_part(label, out)
+    make_room(out, at, ROOM)?;
+    let room = out.as_mut_slice();
+    let end = put_bracketed(room, at, number);
+    Ok(put_word(room, end, b" "))
 }
 
-/// Appends the beginning of a group with a word.
-fn append_named_opening(label: Label, number: u8, out: &mut Vec<u8>) -> Result<(), OutOfMemory>
-    ensures text { OnOk result (out.new.items ≡ out.old.items ++ (bracketed number ++ (codes " " ++ (word_of_name label.name ++ codes " {")))) }
-    ensures err { OnErr result (Extends out.old.items out.new.items) }
+/// Writes the number of a context tag, and the word of a part with its number. Returns where they end.
+fn write_numbered_part(
+    out: &mut Vec<u8>,
+    at: usize,
+    label: Label,
+    number: u8,
+) -> Result<usize, OutOfMemory>
+    requires { at ≤ length out.old.items }
+    ensures text { IfOk result (λ end. take end out.new.items ≡ take at out.old.items ++ (bracketed number ++ (codes " " ++ part_words label))) }
+    ensures end { IfOk result (λ end. end ≤ length out.new.items) }
+    ensures err { OnErr result (Extends (take at out.old.items) out.new.items) }
 {
-    append_bracketed(number, out)?;
-    append_name(label, out)?;
-    out.extend_from_slice(b" {")?;
-    Ok(())
+    let end = write_context_number(out, at, number)?;
+    write_part(out, end, label)
 }
 
-/// Appends what a tag head and its contents say with a label. If memory is refused, `out` may hold some of it.
-fn append_named_tag(
+/// Writes the beginning of a group with a word. Returns where it ends.
+fn write_named_opening(
+    out: &mut Vec<u8>,
+    at: usize,
+    label: Label,
+    number: u8,
+) -> Result<usize, OutOfMemory>
+    requires { at ≤ length out.old.items }
+    ensures text { IfOk result (λ end. take end out.new.items ≡ take at out.old.items ++ (bracketed number ++ (codes " " ++ (word_of_name label.name ++ codes " {")))) }
+    ensures end { IfOk result (λ end. end ≤ length out.new.items) }
+    ensures err { OnErr result (Extends (take at out.old.items) out.new.items) }
+{
+    let start = write_context_number(out, at, number)?;
+    let end = write_name(out, start, label)?;
+    write_word(out, end, b" {")
+}
+
+/// Writes what a tag head and its contents say with a label. Returns where that ends. If memory is refused, `out` may hold
+/// some of it.
+#[inline(always)]
+fn write_named_tag(
+    out: &mut Vec<u8>,
+    at: usize,
     label: Label,
     head: TagHead,
     contents: &[u8],
-    out: &mut Vec<u8>,
-) -> Result<(), OutOfMemory>
-    ensures text { OnOk result ((said : List ℕ) × (out.new.items ≡ out.old.items ++ said) × IsSaidOfNamed label head contents.now said) }
-    ensures err { OnErr result (Extends out.old.items out.new.items) }
+) -> Result<usize, OutOfMemory>
+    requires { at ≤ length out.old.items }
+    ensures text { IfOk result (λ end. (said : List ℕ) × (take end out.new.items ≡ take at out.old.items ++ said) × IsSaidOfNamed label head contents.now said) }
+    ensures end { IfOk result (λ end. end ≤ length out.new.items) }
+    ensures err { OnErr result (Extends (take at out.old.items) out.new.items) }
 {
     match head {
-        TagHead::App { .. } if label.is_part() => append_part(label, out),
-        TagHead::Ctx { number, .. } if label.is_part() => append_numbered_part(label, number, out),
-        TagHead::Open(number) if label.is_group() => append_named_opening(label, number, out),
-        _ => append_tag(head, contents, out),
+        TagHead::App { .. } if label.is_part() => write_part(out, at, label),
+        TagHead::Ctx { number, .. } if label.is_part() => {
+            write_numbered_part(out, at, label, number)
+        }
+        TagHead::Open(number) if label.is_group() => write_named_opening(out, at, label, number),
+        _ => write_tag(out, at, head, contents),
     }
 }
 
-/// Appends a service choice, and the word of the service if the label has one.
-fn append_choice(label: Label, own: &[u8], out: &mut Vec<u8>) -> Result<(), OutOfMemory>
-    ensures text { OnOk result (out.new.items ≡ out.old.items ++ (numbered_words Choice own.now ++ (codes " " ++ word_of_name label.name))) }
-    ensures err { OnErr result (Extends out.old.items out.new.items) }
+/// Writes a service choice, and the word of the service if the label has one. Returns where they end.
+fn write_choice(
+    out: &mut Vec<u8>,
+    at: usize,
+    label: Label,
+    own: &[u8],
+) -> Result<usize, OutOfMemory>
+    requires { at ≤ length out.old.items }
+    ensures text { IfOk result (λ end. take end out.new.items ≡ take at out.old.items ++ (numbered_words Choice own.now ++ (codes " " ++ word_of_name label.name))) }
+    ensures end { IfOk result (λ end. end ≤ length out.new.items) }
+    ensures err { OnErr result (Extends (take at out.old.items) out.new.items) }
 {
-    append_word(Kind::Choice, own, out)?;
-    append_name(label, out)
+    let number = write_kind(out, at, Kind::Choice, own)?;
+    let end = write_word(out, number, b" ")?;
+    write_name(out, end, label)
 }
 
-/// Appends the word of a part of a network message, and its number if it is one.
-fn append_datum(label: Label, out: &mut Vec<u8>) -> Result<(), OutOfMemory>
-    ensures text { OnOk result (out.new.items ≡ out.old.items ++ data_words label) }
-    ensures err { OnErr result (Extends out.old.items out.new.items) }
+/// Writes the word of a part of a network message, and its number if it is one. Returns where they end.
+fn write_datum(out: &mut Vec<u8>, at: usize, label: Label) -> Result<usize, OutOfMemory>
+    requires { at ≤ length out.old.items }
+    ensures text { IfOk result (λ end. take end out.new.items ≡ take at out.old.items ++ data_words label) }
+    ensures end { IfOk result (λ end. end ≤ length out.new.items) }
+    ensures err { OnErr result (Extends (take at out.old.items) out.new.items) }
 {
-    out.extend_from_slice(label.name.word().as_bytes())?;
-    if label.is_datum() {
-        out.push(b' ')?;
-        append_number(label.number, out)?;
+    let name = write_name(out, at, label)?;
+    if !label.is_datum() {
+        return Ok(name);
     }
-    Ok(())
+    let end = write_word(out, name, b" ")?;
+    write_number(out, end, label.number)
 }
 
-/// Appends the words of a piece with a label. If memory is refused, `out` may hold some of them.
-fn append_labelled(
+/// Writes the words of a piece with a label. Returns where they end. If memory is refused, `out` may hold some of them.
+#[inline(always)]
+fn write_labelled(
+    out: &mut Vec<u8>,
+    at: usize,
     label: Label,
     piece: &Piece,
     own: &[u8],
-    out: &mut Vec<u8>,
-) -> Result<(), OutOfMemory>
-    ensures text { OnOk result ((said : List ℕ) × (out.new.items ≡ out.old.items ++ said) × IsNamedOf label piece.now.kind piece.now.head own.now said) }
-    ensures err { OnErr result (Extends out.old.items out.new.items) }
+) -> Result<usize, OutOfMemory>
+    requires { at ≤ length out.old.items }
+    ensures text { IfOk result (λ end. (said : List ℕ) × (take end out.new.items ≡ take at out.old.items ++ said) × IsNamedOf label piece.now.kind piece.now.head own.now said) }
+    ensures end { IfOk result (λ end. end ≤ length out.new.items) }
+    ensures err { OnErr result (Extends (take at out.old.items) out.new.items) }
 {
     match piece.kind {
-        Kind::Element(tag) => append_named_tag(label, tag, contents_of(own, piece.head), out),
-        Kind::Data => append_datum(label, out),
-        Kind::Choice if label.is_service() => append_choice(label, own, out),
-        _ => append_said(piece, own, out),
+        Kind::Element(tag) => { write_named_tag(out, at, label, tag, contents_of(own, piece.head)) }
+        Kind::Data => write_datum(out, at, label),
+        Kind::Choice if label.is_service() => write_choice(out, at, label, own),
+        _ => write_said(out, at, piece, own),
     }
 }
 
-/// Appends the words of a piece with its label, if it has one. If memory is refused, `out` may hold some of them.
-pub(crate) fn append_named(
+/// Writes the words of a piece with its label, if it has one. Returns where they end. If memory is refused, `out` may hold
+/// some of them.
+#[inline(always)]
+pub(crate) fn write_named(
+    out: &mut Vec<u8>,
+    at: usize,
     label: Option<Label>,
     piece: &Piece,
     own: &[u8],
-    out: &mut Vec<u8>,
-) -> Result<(), OutOfMemory>
-    ensures text { OnOk result ((said : List ℕ) × (out.new.items ≡ out.old.items ++ said) × IsNamed label piece.now own.now said) }
-    ensures err { OnErr result (Extends out.old.items out.new.items) }
+) -> Result<usize, OutOfMemory>
+    requires { at ≤ length out.old.items }
+    ensures text { IfOk result (λ end. (said : List ℕ) × (take end out.new.items ≡ take at out.old.items ++ said) × IsNamed label piece.now own.now said) }
+    ensures end { IfOk result (λ end. end ≤ length out.new.items) }
+    ensures err { OnErr result (Extends (take at out.old.items) out.new.items) }
 {
     match label {
-        Some(label) => append_labelled(label, piece, own, out),
-        None => append_said(piece, own, out),
+        Some(label) => write_labelled(out, at, label, piece, own),
+        None => write_said(out, at, piece, own),
     }
 }

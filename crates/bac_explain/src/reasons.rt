@@ -1,9 +1,10 @@
 //! The words of a refusal.
 
-ghost use Rattle.std.specs.Prelude.{◌≡◌, ◌++◌, OnErr, OnOk};
+ghost use Rattle.std.specs.Prelude.{◌≡◌, ◌≤◌, ◌++◌, IfOk, OnErr, length, take};
 ghost use Rattle.bac_tag.specs.Octets.{Extends};
 ghost use Rattle.bac_explain.specs.Words.{refused_words, sentence_of};
 
+use crate::appending::{write_octets, write_word};
 use bac_tag::{OutOfMemory, Why};
 
 /// Returns what a reason means, after a colon.
@@ -26,13 +27,14 @@ fn sentence_of(why: Why) -> &'static str
     }
 }
 
-/// Appends why octets are refused: an arrow, the reason, and what it means.
-pub(crate) fn append_reason(why: Why, out: &mut Vec<u8>) -> Result<(), OutOfMemory>
-    ensures text { OnOk result (out.new.items ≡ out.old.items ++ refused_words why) }
-    ensures err { OnErr result (Extends out.old.items out.new.items) }
+/// Writes why octets are refused: an arrow, the reason, and what it means. Returns where that ends.
+pub(crate) fn write_reason(out: &mut Vec<u8>, at: usize, why: Why) -> Result<usize, OutOfMemory>
+    requires { at ≤ length out.old.items }
+    ensures text { IfOk result (λ end. take end out.new.items ≡ take at out.old.items ++ refused_words why) }
+    ensures end { IfOk result (λ end. end ≤ length out.new.items) }
+    ensures err { OnErr result (Extends (take at out.old.items) out.new.items) }
 {
-    out.extend_from_slice(b"<- ")?;
-    out.extend_from_slice(why.name().as_bytes())?;
-    out.extend_from_slice(sentence_of(why).as_bytes())?;
-    Ok(())
+    let arrow = write_word(out, at, b"<- ")?;
+    let name = write_octets(out, arrow, why.name().as_bytes())?;
+    write_octets(out, name, sentence_of(why).as_bytes())
 }

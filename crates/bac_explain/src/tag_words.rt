@@ -1,13 +1,12 @@
 //! The words of a tag head and its contents.
 
-ghost use Rattle.std.specs.Prelude.{◌≡◌, ◌++◌, ◌↔◌, List, ℕ, IsTrue, OnErr, OnOk, codes, if◌then◌else◌};
+ghost use Rattle.std.specs.Prelude.{◌≡◌, ◌≤◌, ◌+◌, ◌++◌, ◌↔◌, List, ℕ, IfOk, IsTrue, OnErr, codes, if◌then◌else◌, length, take};
 ghost use Rattle.std.specs.Fmt.{decimal};
 ghost use Rattle.bac_tag.specs.Octets.{Extends};
-ghost use Rattle.bac_value.specs.PrimRefValue.{IsPackedRef, prim_of};
-ghost use Rattle.bac_text.specs.PrimitiveText.{primitive_text};
 ghost use Rattle.bac_explain.specs.Words.{IsSaidOfTag, IsSaidOfValue, IsSaidUnjudged, IsValue, bracketed, contents_words, digit_words};
 
-use crate::appending::{append_digits, append_number};
+use crate::appending::{ROOM, write_digits, write_number, write_word};
+use bac_record::layers::{make_room, put_decimal, put_word};
 use bac_tag::{OutOfMemory, TagHead};
 use bac_text::layers::write_primitive;
 use bac_value::PrimRef;
@@ -21,152 +20,176 @@ fn is_value(number: u8, len: u32, contents: &[u8]) -> bool
     contents.len() == len as usize && number <= 12 && are_written(number, contents)
 }
 
-/// Appends a primitive value as it is shown.
-fn append_value(value: &PrimRef<'_>, out: &mut Vec<u8>) -> Result<(), OutOfMemory>
-    requires { IsPackedRef value.now }
-    ensures text { OnOk result (out.new.items ≡ out.old.items ++ primitive_text (prim_of value.now)) }
-    ensures err { OnErr result (Extends out.old.items out.new.items) }
-{
-    let start = out.len();
-    let end = write_primitive(out, start, value)?;
-    out.truncate(end);
-    Ok(())
-}
-
-/// Appends contents as digits, after a blank, or nothing if there are none.
-fn append_contents_digits(contents: &[u8], out: &mut Vec<u8>) -> Result<(), OutOfMemory>
-    ensures text { OnOk result (out.new.items ≡ out.old.items ++ digit_words contents.now) }
-    ensures err { OnErr result (Extends out.old.items out.new.items) }
+/// Writes contents as digits, after a blank, or nothing if there are none. Returns where they end.
+fn write_contents_digits(
+    out: &mut Vec<u8>,
+    at: usize,
+    contents: &[u8],
+) -> Result<usize, OutOfMemory>
+    requires { at ≤ length out.old.items }
+    ensures text { IfOk result (λ end. take end out.new.items ≡ take at out.old.items ++ digit_words contents.now) }
+    ensures end { IfOk result (λ end. end ≤ length out.new.items) }
+    ensures err { OnErr result (Extends (take at out.old.items) out.new.items) }
 {
     if contents.is_empty() {
-        return Ok(());
+        return Ok(at);
     }
-    out.push(b' ')?;
-    append_digits(contents, out)
+    let end = write_word(out, at, b" ")?;
+    write_digits(out, end, contents)
 }
 
-/// Appends the contents of a tag as digits. If some of them are missing, appends how many the head says instead.
-fn append_contents(len: u32, contents: &[u8], out: &mut Vec<u8>) -> Result<(), OutOfMemory>
-    ensures text { OnOk result (out.new.items ≡ out.old.items ++ contents_words len contents.now) }
-    ensures err { OnErr result (Extends out.old.items out.new.items) }
+/// Writes the contents of a tag as digits. If some of them are missing, writes how many the head says instead. Returns
+/// where that ends.
+fn write_contents(
+    out: &mut Vec<u8>,
+    at: usize,
+    len: u32,
+    contents: &[u8],
+) -> Result<usize, OutOfMemory>
+    requires { at ≤ length out.old.items }
+    ensures text { IfOk result (λ end. take end out.new.items ≡ take at out.old.items ++ contents_words len contents.now) }
+    ensures end { IfOk result (λ end. end ≤ length out.new.items) }
+    ensures err { OnErr result (Extends (take at out.old.items) out.new.items) }
 {
     if contents.len() == len as usize {
-        return append_contents_digits(contents, out);
+        return write_contents_digits(out, at, contents);
     }
-    out.extend_from_slice(b" of length ")?;
-    append_number(u64::from(len), out)
+    let end = write_word(out, at, b" of length ")?;
+    write_number(out, end, u64::from(len))
 }
 
-/// Appends a number in brackets.
-pub(crate) fn append_bracketed(number: u8, out: &mut Vec<u8>) -> Result<(), OutOfMemory>
-    ensures text { OnOk result (out.new.items ≡ out.old.items ++ bracketed number) }
-    ensures err { OnErr result (Extends out.old.items out.new.items) }
+/// Writes a number in brackets at a place with capacity for 22 octets. Returns where it ends.
+#[inline(always)]
+pub(crate) fn put_bracketed(room: &mut [u8], at: usize, number: u8) -> usize
+    requires { at + 22 ≤ length room.old }
+    ensures text { take result room.new ≡ take at room.old ++ bracketed number }
+    ensures most { result ≤ at + 22 }
 {
-    out.push(b'[')?;
-    append_number(u64::from(number), out)?;
-    out.push(b']')?;
-    Ok(())
+    let start = put_word(room, at, b"[");
+    let end = put_decimal(room, start, u64::from(number));
+    put_word(room, end, b"]")
 }
 
-/// Appends the number of an application tag, and its contents as digits.
-fn append_type(number: u8, len: u32, contents: &[u8], out: &mut Vec<u8>) -> Result<(), OutOfMemory>
-    ensures text { OnOk result (out.new.items ≡ out.old.items ++ ((codes "type " ++ decimal number) ++ contents_words len contents.now)) }
-    ensures err { OnErr result (Extends out.old.items out.new.items) }
-{
-    out.extend_from_slice(b"type ")?;
-    append_number(u64::from(number), out)?;
-    append_contents(len, contents, out)
-}
-
-/// Appends what an application tag and its contents say: the value as it is shown, if they are those of one.
-fn append_application(
+/// Writes the number of an application tag, and its contents as digits. Returns where they end.
+fn write_type(
+    out: &mut Vec<u8>,
+    at: usize,
     number: u8,
     len: u32,
     contents: &[u8],
+) -> Result<usize, OutOfMemory>
+    requires { at ≤ length out.old.items }
+    ensures text { IfOk result (λ end. take end out.new.items ≡ take at out.old.items ++ ((codes "type " ++ decimal number) ++ contents_words len contents.now)) }
+    ensures end { IfOk result (λ end. end ≤ length out.new.items) }
+    ensures err { OnErr result (Extends (take at out.old.items) out.new.items) }
+{
+    make_room(out, at, ROOM)?;
+    let room = out.as_mut_slice();
+    let start = put_word(room, at, b"type ");
+    let end = put_decimal(room, start, u64::from(number));
+    write_contents(out, end, len, contents)
+}
+
+/// Writes what an application tag and its contents say: the value as it is shown, if they are those of one. Returns where
+/// that ends.
+fn write_application(
     out: &mut Vec<u8>,
-) -> Result<(), OutOfMemory>
-    ensures text { OnOk result ((said : List ℕ) × (out.new.items ≡ out.old.items ++ said) × IsSaidOfValue number len contents.now said) }
-    ensures err { OnErr result (Extends out.old.items out.new.items) }
+    at: usize,
+    number: u8,
+    len: u32,
+    contents: &[u8],
+) -> Result<usize, OutOfMemory>
+    requires { at ≤ length out.old.items }
+    ensures text { IfOk result (λ end. (said : List ℕ) × (take end out.new.items ≡ take at out.old.items ++ said) × IsSaidOfValue number len contents.now said) }
+    ensures end { IfOk result (λ end. end ≤ length out.new.items) }
+    ensures err { OnErr result (Extends (take at out.old.items) out.new.items) }
 {
     if is_value(number, len, contents) {
-        append_value(&PrimRef::of_contents(number, contents), out)
+        write_primitive(out, at, &PrimRef::of_contents(number, contents))
     } else {
-        append_type(number, len, contents, out)
+        write_type(out, at, number, len, contents)
     }
 }
 
-/// Appends what a Boolean says, whose tag head has the value.
-fn append_truth(value: bool, out: &mut Vec<u8>) -> Result<(), OutOfMemory>
-    ensures text { OnOk result (out.new.items ≡ out.old.items ++ (if value then codes "true" else codes "false")) }
-    ensures err { OnErr result (Extends out.old.items out.new.items) }
+/// Writes what a Boolean says, whose tag head has the value. Returns where that ends.
+fn write_truth(out: &mut Vec<u8>, at: usize, value: bool) -> Result<usize, OutOfMemory>
+    requires { at ≤ length out.old.items }
+    ensures text { IfOk result (λ end. take end out.new.items ≡ take at out.old.items ++ (if value then codes "true" else codes "false")) }
+    ensures end { IfOk result (λ end. end ≤ length out.new.items) }
+    ensures err { OnErr result (Extends (take at out.old.items) out.new.items) }
 {
-    let word: &[u8] = if value { b"true" } else { b"false" };
-    out.extend_from_slice(word)?;
-    Ok(())
+    if value {
+        write_word(out, at, b"true")
+    } else {
+        write_word(out, at, b"false")
+    }
 }
 
-/// Appends what a context tag and its contents say.
-fn append_context(
+/// Writes what a context tag and its contents say. Returns where that ends.
+fn write_context(
+    out: &mut Vec<u8>,
+    at: usize,
     number: u8,
     len: u32,
     contents: &[u8],
+) -> Result<usize, OutOfMemory>
+    requires { at ≤ length out.old.items }
+    ensures text { IfOk result (λ end. take end out.new.items ≡ take at out.old.items ++ (bracketed number ++ contents_words len contents.now)) }
+    ensures end { IfOk result (λ end. end ≤ length out.new.items) }
+    ensures err { OnErr result (Extends (take at out.old.items) out.new.items) }
+{
+    make_room(out, at, ROOM)?;
+    let end = put_bracketed(out.as_mut_slice(), at, number);
+    write_contents(out, end, len, contents)
+}
+
+/// Writes the beginning of a group. Returns where it ends.
+fn write_opening(out: &mut Vec<u8>, at: usize, number: u8) -> Result<usize, OutOfMemory>
+    requires { at ≤ length out.old.items }
+    ensures text { IfOk result (λ end. take end out.new.items ≡ take at out.old.items ++ (bracketed number ++ codes " {")) }
+    ensures end { IfOk result (λ end. end ≤ length out.new.items) }
+    ensures err { OnErr result (Extends (take at out.old.items) out.new.items) }
+{
+    make_room(out, at, ROOM)?;
+    let room = out.as_mut_slice();
+    let end = put_bracketed(room, at, number);
+    Ok(put_word(room, end, b" {"))
+}
+
+/// Writes what a tag head and its contents say. Returns where that ends. If memory is refused, `out` may hold some of it.
+pub(crate) fn write_tag(
     out: &mut Vec<u8>,
-) -> Result<(), OutOfMemory>
-    ensures text { OnOk result (out.new.items ≡ out.old.items ++ (bracketed number ++ contents_words len contents.now)) }
-    ensures err { OnErr result (Extends out.old.items out.new.items) }
-{
-    append_bracketed(number, out)?;
-    append_contents(len, contents, out)
-}
-
-/// Appends the beginning of a group.
-fn append_opening(number: u8, out: &mut Vec<u8>) -> Result<(), OutOfMemory>
-    ensures text { OnOk result (out.new.items ≡ out.old.items ++ (bracketed number ++ codes " {")) }
-    ensures err { OnErr result (Extends out.old.items out.new.items) }
-{
-    append_bracketed(number, out)?;
-    out.extend_from_slice(b" {")?;
-    Ok(())
-}
-
-/// Appends the end of a group.
-fn append_closing(out: &mut Vec<u8>) -> Result<(), OutOfMemory>
-    ensures text { OnOk result (out.new.items ≡ out.old.items ++ codes "}") }
-    ensures err { OnErr result (Extends out.old.items out.new.items) }
-{
-    out.extend_from_slice(b"}")?;
-    Ok(())
-}
-
-/// Appends what a tag head and its contents say. If memory is refused, `out` may hold some of it.
-pub(crate) fn append_tag(
+    at: usize,
     head: TagHead,
     contents: &[u8],
-    out: &mut Vec<u8>,
-) -> Result<(), OutOfMemory>
-    ensures text { OnOk result ((said : List ℕ) × (out.new.items ≡ out.old.items ++ said) × IsSaidOfTag head contents.now said) }
-    ensures err { OnErr result (Extends out.old.items out.new.items) }
+) -> Result<usize, OutOfMemory>
+    requires { at ≤ length out.old.items }
+    ensures text { IfOk result (λ end. (said : List ℕ) × (take end out.new.items ≡ take at out.old.items ++ said) × IsSaidOfTag head contents.now said) }
+    ensures end { IfOk result (λ end. end ≤ length out.new.items) }
+    ensures err { OnErr result (Extends (take at out.old.items) out.new.items) }
 {
     match head {
-        TagHead::App { number, len } => append_application(number, len, contents, out),
-        TagHead::AppBool(value) => append_truth(value, out),
-        TagHead::Ctx { number, len } => append_context(number, len, contents, out),
-        TagHead::Open(number) => append_opening(number, out),
-        TagHead::Close(_) => append_closing(out),
+        TagHead::App { number, len } => write_application(out, at, number, len, contents),
+        TagHead::AppBool(value) => write_truth(out, at, value),
+        TagHead::Ctx { number, len } => write_context(out, at, number, len, contents),
+        TagHead::Open(number) => write_opening(out, at, number),
+        TagHead::Close(_) => write_word(out, at, b"}"),
     }
 }
 
-/// Appends what a tag head and its contents say, in a service without a production. If memory is refused, `out` may hold
-/// some of it.
-pub(crate) fn append_unjudged(
+/// Writes what a tag head and its contents say, in a service without a production. Returns where that ends. If memory is
+/// refused, `out` may hold some of it.
+pub(crate) fn write_unjudged(
+    out: &mut Vec<u8>,
+    at: usize,
     head: TagHead,
     contents: &[u8],
-    out: &mut Vec<u8>,
-) -> Result<(), OutOfMemory>
-    ensures text { OnOk result ((said : List ℕ) × (out.new.items ≡ out.old.items ++ said) × IsSaidUnjudged head contents.now said) }
-    ensures err { OnErr result (Extends out.old.items out.new.items) }
+) -> Result<usize, OutOfMemory>
+    requires { at ≤ length out.old.items }
+    ensures text { IfOk result (λ end. (said : List ℕ) × (take end out.new.items ≡ take at out.old.items ++ said) × IsSaidUnjudged head contents.now said) }
+    ensures end { IfOk result (λ end. end ≤ length out.new.items) }
+    ensures err { OnErr result (Extends (take at out.old.items) out.new.items) }
 {
-    append_tag(head, contents, out)?;
-    out.extend_from_slice(b" (not judged)")?;
-    Ok(())
+    let end = write_tag(out, at, head, contents)?;
+    write_word(out, end, b" (not judged)")
 }

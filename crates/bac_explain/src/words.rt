@@ -1,16 +1,16 @@
 //! The words of a piece.
 
-ghost use Rattle.std.specs.Prelude.{◌≡◌, ◌++◌, List, ℕ, OnErr, OnOk, drop};
+ghost use Rattle.std.specs.Prelude.{◌≡◌, ◌≤◌, ◌+◌, ◌++◌, List, ℕ, IfOk, OnErr, OnOk, drop, length, take};
 ghost use Rattle.std.specs.Fmt.{decimal};
 ghost use Rattle.bac_tag.specs.Octets.{Extends};
 ghost use Rattle.bac_explain.specs.Words.{IsSaid, accepted_words, control_words, first_in, has_number, number_in, numbered_words, word_of};
 
-use crate::appending::append_number;
+use crate::appending::{ROOM, write_octets};
 use crate::piece::{Kind, Piece};
-use crate::reasons::append_reason;
-use crate::tag_words::{append_tag, append_unjudged};
+use crate::reasons::write_reason;
+use crate::tag_words::{write_tag, write_unjudged};
+use bac_record::layers::{make_room, put_decimal, put_word};
 use bac_tag::OutOfMemory;
-use bac_tag::layers::or_cut_back;
 
 impl Kind {
     /// Returns what it is, in a few words.
@@ -101,45 +101,97 @@ fn first_of(octets: &[u8]) -> u8
     }
 }
 
-/// Appends the word of a kind, and the number of its octets if they are one.
-pub(crate) fn append_word(kind: Kind, own: &[u8], out: &mut Vec<u8>) -> Result<(), OutOfMemory>
-    ensures text { OnOk result (out.new.items ≡ out.old.items ++ numbered_words kind own.now) }
-    ensures err { OnErr result (Extends out.old.items out.new.items) }
+/// Writes the word of a kind, and the number of its octets if they are one. Returns where they end.
+pub(crate) fn write_kind(
+    out: &mut Vec<u8>,
+    at: usize,
+    kind: Kind,
+    own: &[u8],
+) -> Result<usize, OutOfMemory>
+    requires { at ≤ length out.old.items }
+    ensures text { IfOk result (λ end. take end out.new.items ≡ take at out.old.items ++ numbered_words kind own.now) }
+    ensures end { IfOk result (λ end. end ≤ length out.new.items) }
+    ensures err { OnErr result (Extends (take at out.old.items) out.new.items) }
 {
-    out.extend_from_slice(kind.word().as_bytes())?;
-    if kind.has_number() {
-        out.push(b' ')?;
-        append_number(number_of(own), out)?;
+    let end = write_octets(out, at, kind.word().as_bytes())?;
+    if !kind.has_number() {
+        return Ok(end);
     }
-    Ok(())
+    make_room(out, end, ROOM)?;
+    let room = out.as_mut_slice();
+    let start = put_word(room, end, b" ");
+    Ok(put_decimal(room, start, number_of(own)))
 }
 
-/// Appends a word, and a number after it.
-fn append_counted(word: &[u8], number: u8, out: &mut Vec<u8>) -> Result<(), OutOfMemory>
-    ensures text { OnOk result (out.new.items ≡ out.old.items ++ (word.now ++ decimal number)) }
-    ensures err { OnErr result (Extends out.old.items out.new.items) }
+/// Writes a word, and a number after it, at a place with capacity for twenty octets more than the word has. Returns where
+/// they end.
+#[inline(always)]
+fn put_counted<const N: usize>(room: &mut [u8], at: usize, word: &[u8; N], number: u8) -> usize
+    requires { at + N + 20 ≤ length room.old }
+    ensures text { take result room.new ≡ take at room.old ++ (word.now ++ decimal number) }
+    ensures most { result ≤ at + N + 20 }
 {
-    out.extend_from_slice(word)?;
-    append_number(u64::from(number), out)
+    let start = put_word(room, at, word);
+    put_decimal(room, start, u64::from(number))
 }
 
-/// Appends what a control octet says (clause 6.2.2).
-fn append_control(octet: u8, out: &mut Vec<u8>) -> Result<(), OutOfMemory>
-    ensures text { OnOk result (out.new.items ≡ out.old.items ++ control_words octet) }
-    ensures err { OnErr result (Extends out.old.items out.new.items) }
+/// Writes a word of at most 32 octets and a number, and another such word and a number. Returns where they end.
+#[inline(always)]
+fn write_two<const N: usize, const M: usize>(
+    out: &mut Vec<u8>,
+    at: usize,
+    first: &[u8; N],
+    one: u8,
+    second: &[u8; M],
+    two: u8,
+) -> Result<usize, OutOfMemory>
+    requires place { at ≤ length out.old.items }
+    requires first { N ≤ 32 }
+    requires second { M ≤ 32 }
+    ensures text { IfOk result (λ end. take end out.new.items ≡ take at out.old.items ++ ((first.now ++ decimal one) ++ (second.now ++ decimal two))) }
+    ensures end { IfOk result (λ end. end ≤ length out.new.items) }
+    ensures err { OnErr result (Extends (take at out.old.items) out.new.items) }
 {
-    append_counted(b"control: reply ", octet / 4 % 2, out)?;
-    append_counted(b", priority ", octet % 4, out)
+    make_room(out, at, ROOM)?;
+    let room = out.as_mut_slice();
+    let end = put_counted(room, at, first, one);
+    Ok(put_counted(room, end, second, two))
 }
 
-/// Appends which answers are accepted: how many segments, and how long an APDU, as the numbers that encode it (clauses
-/// 20.1.2.4 and 20.1.2.5).
-fn append_accepted(octet: u8, out: &mut Vec<u8>) -> Result<(), OutOfMemory>
-    ensures text { OnOk result (out.new.items ≡ out.old.items ++ accepted_words octet) }
-    ensures err { OnErr result (Extends out.old.items out.new.items) }
+/// Writes what a control octet says (clause 6.2.2). Returns where that ends.
+fn write_control(out: &mut Vec<u8>, at: usize, octet: u8) -> Result<usize, OutOfMemory>
+    requires { at ≤ length out.old.items }
+    ensures text { IfOk result (λ end. take end out.new.items ≡ take at out.old.items ++ control_words octet) }
+    ensures end { IfOk result (λ end. end ≤ length out.new.items) }
+    ensures err { OnErr result (Extends (take at out.old.items) out.new.items) }
 {
-    append_counted(b"accepted answers: segs=", octet / 16 % 8, out)?;
-    append_counted(b" resp=", octet % 16, out)
+    write_two(
+        out,
+        at,
+        b"control: reply ",
+        octet / 4 % 2,
+        b", priority ",
+        octet % 4,
+    )
+}
+
+/// Writes which answers are accepted: how many segments, and how long an APDU, as the numbers that encode it (clauses
+/// 20.1.2.4 and 20.1.2.5). Returns where that ends.
+fn write_accepted(out: &mut Vec<u8>, at: usize, octet: u8) -> Result<usize, OutOfMemory>
+    requires { at ≤ length out.old.items }
+    ensures text { IfOk result (λ end. take end out.new.items ≡ take at out.old.items ++ accepted_words octet) }
+    ensures end { IfOk result (λ end. end ≤ length out.new.items) }
+    ensures err { OnErr result (Extends (take at out.old.items) out.new.items) }
+{
+    let segments = octet / 16 % 8;
+    write_two(
+        out,
+        at,
+        b"accepted answers: segs=",
+        segments,
+        b" resp=",
+        octet % 16,
+    )
 }
 
 /// Returns the octets after a tag head of so many octets.
@@ -149,18 +201,25 @@ pub(crate) fn contents_of(own: &[u8], head: usize) -> &[u8]
     own.get(head..).unwrap_or(&[])
 }
 
-/// Appends the words of a piece. If memory is refused, `out` may hold some of them.
-pub(crate) fn append_said(piece: &Piece, own: &[u8], out: &mut Vec<u8>) -> Result<(), OutOfMemory>
-    ensures text { OnOk result ((said : List ℕ) × (out.new.items ≡ out.old.items ++ said) × IsSaid piece.now own.now said) }
-    ensures err { OnErr result (Extends out.old.items out.new.items) }
+/// Writes the words of a piece. Returns where they end. If memory is refused, `out` may hold some of them.
+pub(crate) fn write_said(
+    out: &mut Vec<u8>,
+    at: usize,
+    piece: &Piece,
+    own: &[u8],
+) -> Result<usize, OutOfMemory>
+    requires { at ≤ length out.old.items }
+    ensures text { IfOk result (λ end. (said : List ℕ) × (take end out.new.items ≡ take at out.old.items ++ said) × IsSaid piece.now own.now said) }
+    ensures end { IfOk result (λ end. end ≤ length out.new.items) }
+    ensures err { OnErr result (Extends (take at out.old.items) out.new.items) }
 {
     match piece.kind {
-        Kind::Control => append_control(first_of(own), out),
-        Kind::Accepted => append_accepted(first_of(own), out),
-        Kind::Element(tag) => append_tag(tag, contents_of(own, piece.head), out),
-        Kind::Unjudged(tag) => append_unjudged(tag, contents_of(own, piece.head), out),
-        Kind::Refused(why) => append_reason(why, out),
-        other => append_word(other, own, out),
+        Kind::Control => write_control(out, at, first_of(own)),
+        Kind::Accepted => write_accepted(out, at, first_of(own)),
+        Kind::Element(tag) => write_tag(out, at, tag, contents_of(own, piece.head)),
+        Kind::Unjudged(tag) => write_unjudged(out, at, tag, contents_of(own, piece.head)),
+        Kind::Refused(why) => write_reason(out, at, why),
+        other => write_kind(out, at, other, own),
     }
 }
 
@@ -173,6 +232,14 @@ pub fn append_words(piece: &Piece, own: &[u8], out: &mut Vec<u8>) -> Result<(), 
     ensures err { OnErr result (out.new.items ≡ out.old.items) }
 {
     let start = out.len();
-    let appended = append_said(piece, own, out);
-    or_cut_back(appended, start, out)
+    match write_said(out, start, piece, own) {
+        Ok(end) => {
+            out.truncate(end);
+            Ok(())
+        }
+        Err(fault) => {
+            out.truncate(start);
+            Err(fault)
+        }
+    }
 }

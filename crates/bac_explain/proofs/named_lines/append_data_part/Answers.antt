@@ -1,9 +1,0 @@
-use Rattle.bac_explain.specs.NamedLines.{data_part}
-use Rattle.bac_explain.proofs.LineLemmas.{beside_own}
-use Rattle.bac_explain.proofs.named_lines.append_data_part.Goals as goal
-
-pub returns-clause-text : goal.returns-clause-text
-returns-clause-text c =
-    let part = data_part c.args.from c.args.to in
-    beside_own c.append_piece_beside.result c.args.octets.now c.args.canonical.now c.args.left.now part part c.own_octets-own.result.now c.own_octets-beside.result.now c.args.out.now.items c.append_piece_beside.new.out.items c.own_octets-own.ensures.own c.own_octets-beside.ensures.own
-    c.append_piece_beside.ensures.text
