@@ -48,7 +48,7 @@ impl Drop for Held {
     }
 }
 
-/// Returns the short nodes that stand for these, at most [`FEW`]. After them the array is filled up.
+/// Returns these nodes as short ones, at most [`FEW`]. After them the array is filled up.
 fn short_nodes(nodes: &[Node]) -> [ShortNode; FEW]
     requires few { length nodes.now ≤ 6 }
     requires short { All IsShort nodes.now }

@@ -1,2 +1,0 @@
-use Rattle.bac_npdu.proofs.MeaningLemmas.{normal_itself}
-use Rattle.bac_npdu.proofs.meaning.rewritten.Goals as goal
