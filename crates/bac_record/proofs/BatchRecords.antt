@@ -1,10 +1,12 @@
 -- One record more in a batch.
-use Rattle.std.proofs.Common.{◌≡◌, inl, inr, ℕ, ◌+◌, ◌-◌, ◌≤◌, ◌<◌, List, [], ◌∷◌, ◌++◌, length, take, drop, refl, sym, ap, subst, ◌∙◌, arith, length-append, length-drop}
+use Rattle.std.proofs.Common.{◌≡◌, inl, inr, ℕ, ◌+◌, ◌*◌, ◌-◌, ◌≤◌, ◌<◌, List, [], ◌∷◌, ◌++◌, length, take, drop, refl, sym, ap, subst, ◌∙◌, arith, length-append, length-drop}
 use lib.Seq.{take-add, take-append_seam}
 use Rattle.std.proofs.lemmas.List.{take_rest}
-use Rattle.bac_record.specs.Records.{joined, record_of, IsRecord, MOST}
+use Rattle.std.proofs.Math.Nat.{mul-le-mul_right}
+use Rattle.std.specs.Prelude.{vec_capacity}
+use Rattle.bac_record.specs.Records.{joined, record_of, HELD, IsRecord, MOST}
 use Rattle.bac_record.specs.Outputs.{OutputsWithEnds, Tally}
-use Rattle.bac_record.specs.Batches.{Counts, IsAdded, Holds, Deals, IsFront}
+use Rattle.bac_record.specs.Batches.{Counts, IsAdded, Holds, HasRoom, Deals, IsFront, MOST_HELD}
 use Rattle.bac_record.specs.declared.batches.Batch.{Batch}
 use Rattle.bac_record.proofs.Appended.{joined-more, AllByRecursion-append, Tally-append, with_ends-more}
 
@@ -68,3 +70,19 @@ deals_more line is_canonical is_refused before octets count more old new first d
 -- A count of records is no more than their number.
 pub counts_few : (P : Type 0) (old new most more : ℕ) → Counts P old new → old ≤ most → more ≡ most + 1 → new ≤ more
 counts_few P old new most more counts few is = elim counts [ inl c ↦ omega (arith, c.1) | inr c ↦ omega (arith, c.1) ]
+
+-- There is room for the output of one record more.
+pub fits_one : (room : ℕ) (batch : Batch) → HasRoom room batch → length batch.ends.items < MOST_HELD → length batch.output.items + room ≤ vec_capacity batch.output
+fits_one room batch has few =
+    let more : (length batch.ends.items + 1) * room ≤ MOST_HELD * room = mul-le-mul_right room (omega arith) in
+    omega (arith, more, has.within, has.output)
+
+-- one end more
+pub ends_more : (line : ℕ → List ℕ → List ℕ → Type 0) (is_canonical is_refused : List ℕ → Type 0) (number : ℕ) (octets : List ℕ) (old new : Batch)
+    → IsAdded line is_canonical is_refused number octets old new → length new.ends.items ≡ length old.ends.items + 1
+ends_more line is_canonical is_refused number octets old new added = ap length added.ends ∙ length-append old.ends.items (length new.output.items ∷ [])
+
+-- Two octets for each record dealt with, and the octets after them, are held.
+pub still_held : (ends count : ℕ) (octets : List ℕ) → 2 * ends ≤ count → count ≤ length octets → length octets ≤ HELD
+    → 2 * ends + length (take (length octets - count) (drop count octets)) ≤ HELD
+still_held ends count octets few within held = omega (arith, ap length (take_rest octets count), length-drop count octets)

@@ -7,7 +7,7 @@ use Rattle.bac_tag.specs.declared.refusals.Refusal.{Refusal}
 use Rattle.bac_record.specs.Records.{joined, record_of, IsRecord, MOST, HELD}
 use Rattle.bac_record.specs.Outputs.{Outputs, Tally}
 use Rattle.bac_record.specs.Transfers.{TakesFront}
-use Rattle.bac_record.specs.Runs.{Sums, RanThrough, Stopped, IsCause, IsWritten, number_of}
+use Rattle.bac_record.specs.Runs.{Sums, RanThrough, Stopped, IsCause, IsWritten, IsOtherThanMemory, OnlyBeforeReading, number_of}
 use Rattle.bac_record.specs.Batches.{Deals, IsFirstPast, IsFound}
 use Rattle.bac_record.specs.declared.batches.Batch.{Batch}
 use Rattle.bac_record.specs.declared.summaries.Summary.{Summary}
@@ -190,3 +190,13 @@ stops_writing line is_canonical is_refused stops_run left left' taken written ta
         cut.is_unsent,
       );
     }
+
+-- No fault but want of memory says when memory was wanted.
+pub wants_none : {R W : Type 0} (reader reader' : R) (writer writer' : W) (fault : RunFault) → IsOtherThanMemory fault → OnlyBeforeReading reader reader' writer writer' fault
+wants_none reader reader' writer writer' (Stream at Truncated) other = tt
+wants_none reader reader' writer writer' (Stream at RecordTooLong) other = tt
+wants_none reader reader' writer writer' (Stream at ReadFault) other = tt
+wants_none reader reader' writer writer' (Stream at (WriteFault count)) other = tt
+wants_none reader reader' writer writer' (Stream at TooManyFrames) other = tt
+wants_none reader reader' writer writer' (Stream at OutOfMemory) other = absurd other
+wants_none reader reader' writer writer' (Frame at refusal) other = tt

@@ -1,5 +1,5 @@
 -- Less than a record behind some records.
-use Rattle.std.proofs.Common.{◌≡◌, ◌==◌, ◌∙◌, inl, inr, ℕ, ◌<◌, List, [], ◌∷◌, length, sym, arith, Bool, true, false, nat_eq, if◌then◌else◌}
+use Rattle.std.proofs.Common.{◌≡◌, ◌==◌, ◌∙◌, inl, inr, ℕ, ◌<◌, List, [], ◌∷◌, length, refl, sym, ap, arith, Bool, true, false, nat_eq, if◌then◌else◌}
 use Rattle.bac_record.specs.Records.{MOST, Clean, TooMany, Truncated}
 use Rattle.bac_record.specs.Runs.{HasEnd, Waits}
 
@@ -19,3 +19,7 @@ truncated count (octet ∷ octets) waits some = elim waits [
 pub held_some : (octets : List ℕ) (is_empty : Bool) → is_empty ≡ (length octets == 0) → is_empty ≡ false → 0 < length octets
 held_some [] is_empty tells some = absurd (let bad : true ≡ false = sym tells ∙ some in cc)
 held_some (octet ∷ octets) is_empty tells some = omega arith
+
+-- Before the first read nothing is held.
+pub waits_for_first : Waits 0 []
+waits_for_first = inl (omega arith, (λ few begins. omega (arith, ap length begins.3)), refl)

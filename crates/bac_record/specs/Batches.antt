@@ -1,6 +1,6 @@
 -- What is whole in the octets that a run holds, and what it made of it. Public contracts use only IsPartial and IsFront. The
 -- others say what a run holds between a read and a write.
-use Rattle.std.specs.Prelude.{◌≡◌, ◌⊎◌, ℕ, ◌+◌, ◌<◌, ◌≤◌, List, [], ◌∷◌, ◌++◌, length, take, get_or, ⊤, Option, Some, None}
+use Rattle.std.specs.Prelude.{◌≡◌, ◌⊎◌, ℕ, ◌+◌, ◌*◌, ◌<◌, ◌≤◌, List, [], ◌∷◌, ◌++◌, length, take, get_or, vec_capacity, ⊤, Option, Some, None}
 use Rattle.std.specs.List.{AllByRecursion}
 use Rattle.bac_tag.specs.declared.refusals.Refusal.{Refusal}
 use Rattle.bac_record.specs.Records.{record_of, joined, IsRecord, BeginsRecord, MOST, LONGEST, TooMany}
@@ -33,6 +33,18 @@ pub record IsAdded (line : ℕ → List ℕ → List ℕ → Type 0) (is_canonic
   pub records : new.summary.records ≡ old.summary.records + 1
   pub canonical : Counts (is_canonical octets) old.summary.canonical new.summary.canonical
   pub refused : Counts (is_refused octets) old.summary.refused new.summary.refused
+
+-- The most records that are whole in what a run holds: each has at least its two length octets.
+abbrev pub MOST_HELD : ℕ
+MOST_HELD = 32768
+
+-- The batch of a job that needs only room, so many octets for each record: it has capacity for as many records as a run may hold,
+-- and its outputs are no longer than that.
+pub record HasRoom (room : ℕ) (batch : Batch) : Type 0 where
+  pub some : 0 < room
+  pub ends : MOST_HELD ≤ vec_capacity batch.ends
+  pub output : MOST_HELD * room ≤ vec_capacity batch.output
+  pub within : length batch.output.items ≤ length batch.ends.items * room
 
 -- The batch holds the same as before, since nothing was made of the next record.
 pub record IsSame (old new : Batch) : Type 0 where

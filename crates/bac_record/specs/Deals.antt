@@ -18,3 +18,8 @@ pub record IsDealt (line : ℕ → List ℕ → List ℕ → Type 0) (is_canonic
 abbrev pub DealFails : (Refusal → Type 0) → DealFault → Type 0
 DealFails stops (Stop refusal) = stops refusal
 DealFails stops Memory = ⊤
+
+-- A record was not dealt with since it ends the run, and not for want of memory.
+abbrev pub IsStop : DealFault → Type 0
+IsStop (Stop refusal) = ⊤
+IsStop Memory = ⊥

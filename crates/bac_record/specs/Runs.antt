@@ -34,6 +34,17 @@ pub record RanThrough (line : ℕ → List ℕ → List ℕ → Type 0) (is_cano
   pub wrote : Appends taken taken' output
   pub sums : Sums is_canonical is_refused list summary
 
+-- The fault is another than want of memory.
+abbrev pub IsOtherThanMemory : RunFault → Type 0
+IsOtherThanMemory (Stream at OutOfMemory) = ⊥
+IsOtherThanMemory fault = ⊤
+
+-- If memory was wanted, then before anything was read or written: the fault names the first record, and the reader and the writer
+-- are as they were.
+abbrev pub OnlyBeforeReading : {R W : Type 0} → R → R → W → W → RunFault → Type 0
+OnlyBeforeReading reader reader' writer writer' (Stream at OutOfMemory) = (at ≡ 1) × (reader' ≡ reader) × (writer' ≡ writer)
+OnlyBeforeReading reader reader' writer writer' fault = ⊤
+
 -- The number of the record at fault.
 abbrev pub number_of : RunFault → ℕ
 number_of (Stream at fault) = at

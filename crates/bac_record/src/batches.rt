@@ -1,19 +1,22 @@
 //! The records that are whole in what a run holds.
 
-ghost use Rattle.std.specs.Prelude.{◌+◌, ◌<◌, ◌^◌, ◌≡◌, ◌≤◌, IfErr, IfOk, List, MatchOption, MatchResult, OnErr, OnOk, [], drop, length, ℕ};
+ghost use Rattle.std.specs.Prelude.{◌+◌, ◌*◌, ◌<◌, ◌^◌, ◌≡◌, ◌≤◌, IfErr, IfOk, IfSome, List, MatchOption, MatchResult, OnErr, OnOk, [], drop, length, ℕ};
 ghost use Rattle.std.specs.Io.KnownBytes.{Appends};
-ghost use Rattle.bac_record.specs.Batches.{Deals, IsFront, Halts, IsAdded, IsAddFault, IsFirstPast, IsFound, IsSame};
+ghost use Rattle.bac_record.specs.Batches.{Deals, IsFront, Halts, HasRoom, IsAdded, IsAddFault, IsFirstPast, IsFound, IsSame};
 ghost use Rattle.bac_record.specs.Devices.{HasRisen};
-ghost use Rattle.bac_record.specs.Records.{IsRecord, LONGEST};
-ghost use Rattle.bac_record.specs.Runs.{Waits};
+ghost use Rattle.bac_record.specs.Records.{HELD, IsRecord, LONGEST};
+ghost use Rattle.bac_record.specs.Runs.{IsOtherThanMemory, Waits};
 ghost use Rattle.bac_record.specs.Transfers.{TakesFront};
 
 use crate::dealing::{DealFault, Job};
 use crate::fronts::front_record;
-use crate::runs::MOST;
+use crate::runs::{MOST, PIECE};
 use crate::transfers::write_whole;
 use crate::{Output, RunFault, StreamFault, Summary};
-use std::alloc::Global;
+use std::alloc::{AllocError, Global};
+
+/// How many records are whole in what a run holds, at most: each has at least its two length octets.
+const MOST_HELD: usize = PIECE / 2;
 
 /// What was made of some records and is not yet written.
 #[derive(Drop)]
@@ -37,17 +40,23 @@ fn first_past(ends: &[usize], place: usize) -> usize
 }
 
 impl Batch {
-    /// Creates a batch of no records.
-    pub(crate) fn new(alloc: Global) -> Batch
-        ensures output { result.output.items ≡ [] }
-        ensures ends { result.ends.items ≡ [] }
-        ensures summary { result.summary ≡ record { records = 0; canonical = 0; refused = 0 } }
+    /// Creates a batch of no records. For a job that needs only room, it has room for all records that a run may hold.
+    ///
+    /// # Errors
+    /// `AllocError` if memory is refused.
+    pub(crate) fn for_job<J: Job>(alloc: Global) -> Result<Batch, AllocError>
+        ensures output { IfOk result (λ batch. batch.output.items ≡ []) }
+        ensures ends { IfOk result (λ batch. batch.ends.items ≡ []) }
+        ensures summary { IfOk result (λ batch. batch.summary ≡ record { records = 0; canonical = 0; refused = 0 }) }
+        ensures room { 0 < J.ROOM → IfOk result (HasRoom J.ROOM) }
     {
-        Batch {
-            output: Vec::new(alloc),
-            ends: Vec::new(alloc),
+        let room = usize::from(J::ROOM);
+        let records = if room > 0 { MOST_HELD } else { 0 };
+        Ok(Batch {
+            output: Vec::with_capacity(alloc, MOST_HELD * room)?,
+            ends: Vec::with_capacity(alloc, records)?,
             summary: Summary::default(),
-        }
+        })
     }
 
     /// Empties the batch.
@@ -55,6 +64,7 @@ impl Batch {
         ensures output { self.new.output.items ≡ [] }
         ensures ends { self.new.ends.items ≡ [] }
         ensures summary { self.new.summary ≡ record { records = 0; canonical = 0; refused = 0 } }
+        ensures room { (room : ℕ) → HasRoom room self.old → HasRoom room self.new }
     {
         self.output.clear();
         self.ends.clear();
@@ -79,6 +89,8 @@ impl Batch {
             × IsAdded (J.line job.now) (J.is_canonical job.now) (J.is_refused job.now) (count + 1) first self.old self.new)) }
         ensures fault { IfErr result (IsFound (J.stops job.now) count octets.now) }
         ensures err { OnErr result (IsSame self.old self.new) }
+        ensures room { HasRoom J.ROOM self.old → 2 * length self.old.ends.items + length octets.now ≤ HELD → HasRoom J.ROOM self.new }
+        ensures memory { HasRoom J.ROOM self.old → 2 * length self.old.ends.items + length octets.now ≤ HELD → IfErr result IsOtherThanMemory }
     {
         let at = count + 1;
         if count == MOST {
@@ -104,6 +116,8 @@ impl Batch {
         ensures added { OnOk result (IsAdded (J.line job.now) (J.is_canonical job.now) (J.is_refused job.now) number octets.now self.old self.new) }
         ensures fault { IfErr result (IsAddFault (J.stops job.now octets.now) number) }
         ensures err { OnErr result (IsSame self.old self.new) }
+        ensures room { HasRoom J.ROOM self.old → length self.old.ends.items < MOST_HELD → HasRoom J.ROOM self.new }
+        ensures memory { HasRoom J.ROOM self.old → length self.old.ends.items < MOST_HELD → IfErr result IsOtherThanMemory }
     {
         let out_of_memory = RunFault::Stream {
             at: number,
@@ -141,6 +155,8 @@ impl Batch {
         requires summary { self.old.summary ≡ record { records = 0; canonical = 0; refused = 0 } }
         ensures dealt { Deals (J.line job.now) (J.is_canonical job.now) (J.is_refused job.now) before octets.now result.0 self.new }
         ensures halted { Halts (J.stops job.now) (before + self.new.summary.records) (drop result.0 octets.now) result.1 }
+        ensures room { HasRoom J.ROOM self.old → length octets.now ≤ HELD → HasRoom J.ROOM self.new }
+        ensures memory { HasRoom J.ROOM self.old → length octets.now ≤ HELD → IfSome result.1 IsOtherThanMemory }
     {
         let mut taken = 0;
         loop {

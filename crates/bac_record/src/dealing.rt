@@ -1,8 +1,8 @@
 //! What a run does with each record.
 
-ghost use Rattle.std.specs.Prelude.{◌≡◌, ◌↔◌, IfErr, IfOk, IsTrue, List, None, OnErr, true, false, ℕ};
+ghost use Rattle.std.specs.Prelude.{◌≡◌, ◌↔◌, ◌+◌, ◌<◌, ◌≤◌, IfErr, IfOk, IsTrue, List, None, OnErr, true, false, length, vec_capacity, ℕ};
 ghost use Rattle.bac_tag.specs.declared.refusals.Refusal.{Refusal as RefusalValue};
-ghost use Rattle.bac_record.specs.Deals.{DealFails, IsDealt};
+ghost use Rattle.bac_record.specs.Deals.{DealFails, IsDealt, IsStop};
 ghost use Rattle.bac_record.specs.Records.{IsRecord};
 
 use bac_tag::{OutOfMemory, Refusal};
@@ -78,6 +78,11 @@ pub trait Job {
     /// The record counts as refused.
     ghost is_refused: { Self → List ℕ → Type 0 };
 
+    /// If the job needs no memory but capacity in `out`: for how many octets, for each record. 0 for every other job.
+    const ROOM: u16;
+
+    ghost ROOM: { ℕ };
+
     /// Appends the output of the record of this number, counted from 1, to `out`. Returns how the record counts.
     ///
     /// # Errors
@@ -86,5 +91,10 @@ pub trait Job {
         requires { IsRecord octets.now }
         ensures dealt { IfOk result (IsDealt (line self.now) (is_canonical self.now) (is_refused self.now) number octets.now out.old.items out.new.items) }
         ensures fault { IfErr result (DealFails (stops self.now octets.now)) }
-        ensures err { OnErr result (out.new.items ≡ out.old.items) };
+        ensures err { OnErr result (out.new.items ≡ out.old.items) }
+
+        // A job that needs only room wants no memory if there is capacity for it, takes no more of it, and keeps the capacity.
+        ensures memory { 0 < ROOM → length out.old.items + ROOM ≤ vec_capacity out.old → IfErr result IsStop }
+        ensures room { 0 < ROOM → length out.new.items ≤ length out.old.items + ROOM }
+        ensures capacity { 0 < ROOM → vec_capacity out.old ≤ vec_capacity out.new };
 }

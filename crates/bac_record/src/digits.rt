@@ -1,6 +1,6 @@
 //! Numbers and octets as digits.
 
-ghost use Rattle.std.specs.Prelude.{◌≡◌, ◌<◌, ◌≤◌, ◌+◌, ◌*◌, ◌/◌, ◌%◌, ◌^◌, ◌∷◌, ◌++◌, ◌-◌, [], IfOk, OnOk, OnErr, length, take, drop};
+ghost use Rattle.std.specs.Prelude.{◌≡◌, ◌<◌, ◌≤◌, ◌+◌, ◌*◌, ◌/◌, ◌%◌, ◌^◌, ◌∷◌, ◌++◌, ◌-◌, [], IfOk, IsOk, OnOk, OnErr, length, take, drop, vec_capacity};
 ghost use Rattle.std.specs.Fmt.{decimal, signed_decimal};
 ghost use Rattle.bac_tag.specs.Octets.{Extends};
 ghost use Rattle.bac_record.specs.Digits.{digit as hexadecimal_digit, hexadecimal, two, four};
@@ -251,6 +251,8 @@ pub fn add_room<const ROOM: usize>(out: &mut Vec<u8>) -> Result<usize, OutOfMemo
     requires { ROOM ≤ 4096 }
     ensures ok { IfOk result (λ start. (start ≡ length out.old.items) × (take start out.new.items ≡ out.old.items) × (length out.new.items ≡ start + ROOM)) }
     ensures err { OnErr result (out.new.items ≡ out.old.items) }
+    ensures memory { length out.old.items + ROOM ≤ vec_capacity out.old → IsOk result }
+    ensures capacity { vec_capacity out.old ≤ vec_capacity out.new }
 {
     let start = out.len();
     out.extend_from_slice(&[0; ROOM])?;

@@ -1,9 +1,9 @@
 //! Runs over files of records.
 
-ghost use Rattle.std.specs.Prelude.{◌≡◌, IfErr, IfOk, List, MatchResult, Some, ℕ};
+ghost use Rattle.std.specs.Prelude.{◌≡◌, ◌<◌, IfErr, IfOk, List, MatchResult, Some, ℕ};
 ghost use Rattle.bac_record.specs.Files.{RunsOver};
 ghost use Rattle.bac_record.specs.Records.{Records};
-ghost use Rattle.bac_record.specs.Runs.{RanThrough, ReadsAtMost, RunCounts, Stopped};
+ghost use Rattle.bac_record.specs.Runs.{OnlyBeforeReading, RanThrough, ReadsAtMost, RunCounts, Stopped};
 
 use crate::batches::Batch;
 use crate::dealing::Job;
@@ -13,7 +13,7 @@ use crate::{Input, Output, RunFault, StreamFault, Summary};
 use std::alloc::Global;
 
 /// How many octets a run holds at most: the longest record with its length octets.
-const PIECE: usize = LONGEST + 2;
+pub(crate) const PIECE: usize = LONGEST + 2;
 
 /// How many records a file has at most.
 pub const MOST: u32 = 1_000_000;
@@ -36,12 +36,18 @@ fn run_pieces<J: Job, R: Input, W: Output>(
     ensures counted { MatchResult result
         (λ _. (R.failures reader.new ≡ R.failures reader.old) × (W.failures writer.new ≡ W.failures writer.old))
         (RunCounts (R.failures reader.old) (R.failures reader.new) (W.failures writer.old) (W.failures writer.new)) }
+    ensures memory { 0 < J.ROOM → IfErr result (OnlyBeforeReading reader.old reader.new writer.old writer.new) }
 {
-    let Ok(mut window) = Window::<PIECE>::new(alloc) else {
-        let fault = StreamFault::OutOfMemory;
-        return Err(RunFault::Stream { at: 1, fault });
+    let out_of_memory = RunFault::Stream {
+        at: 1,
+        fault: StreamFault::OutOfMemory,
     };
-    let mut batch = Batch::new(alloc);
+    let Ok(mut window) = Window::<PIECE>::new(alloc) else {
+        return Err(out_of_memory);
+    };
+    let Ok(mut batch) = Batch::for_job::<J>(alloc) else {
+        return Err(out_of_memory);
+    };
     let mut summary = Summary::default();
     let mut sent: u128 = 0;
     'pieces: loop {
@@ -74,8 +80,8 @@ fn run_pieces<J: Job, R: Input, W: Output>(
 
 /// Deals with each record of a file, in order, to its end or to a fault, and writes what the job makes of it.
 ///
-/// It takes memory for 65,537 octets of input and for the outputs of the records that are in them. From a reader that
-/// never ends it reads no more than 1,000,000 records and 65,537 octets.
+/// It takes memory for 65,537 octets of input and for the outputs of the records that are in them: before it reads, if
+/// the job needs only room. From a reader that never ends it reads no more than 1,000,000 records and 65,537 octets.
 ///
 /// # Errors
 /// As [`RunFault`] says.
@@ -98,6 +104,9 @@ pub fn run<J: Job, R: Input, W: Output>(
     ensures counted { MatchResult result
         (λ _. (R.failures reader.new ≡ R.failures reader.old) × (W.failures writer.new ≡ W.failures writer.old))
         (RunCounts (R.failures reader.old) (R.failures reader.new) (W.failures writer.old) (W.failures writer.new)) }
+
+    // A job that needs only room wants no memory once the run has begun to read.
+    ensures memory { 0 < J.ROOM → IfErr result (OnlyBeforeReading reader.old reader.new writer.old writer.new) }
 {
     run_pieces(alloc, job, reader, writer)
 }

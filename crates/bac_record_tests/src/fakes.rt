@@ -106,6 +106,11 @@ impl Job for CopyOctets {
 
     ghost is_refused = { λ _ octets. length octets ≡ 1 };
 
+    // It takes memory for each record.
+    const ROOM: u16 = 0;
+
+    ghost ROOM = { 0 };
+
     fn deal(&self, _number: u32, octets: &[u8], out: &mut Vec<u8>) -> Result<Dealt, DealFault> {
         if let [255, ..] = octets {
             let (place, why) = (0, Why::Tag);

@@ -1,6 +1,7 @@
 pub mod JudgingLemmas
 pub mod RecordLemmas
 pub mod KeptLemmas
+pub mod LineLemmas
 mod ReportingLemmas
 mod NormalisingLemmas
 pub mod IntakeLemmas

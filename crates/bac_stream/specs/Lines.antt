@@ -1,5 +1,5 @@
 -- The lines of show and check, and the records of normalise.
-use Rattle.std.specs.Prelude.{◌≡◌, ℕ, ◌++◌, List, length, Option, Some, None, codes}
+use Rattle.std.specs.Prelude.{◌≡◌, ℕ, ◌++◌, List, length, Option, Some, None, codes, ⊤}
 use Rattle.std.specs.Fmt.{decimal}
 use Rattle.bac_tag.specs.Octets.{IsMark}
 use Rattle.bac_tag.specs.Spelling.{HasMark}
@@ -30,6 +30,11 @@ said_by line.Canonical = ok
 said_by (line.Tolerated place) = tolerated place
 said_by (line.Refused refusal) = refused refusal
 said_by (line.Shown head body) = shown (frame_with head.now (body_value body.now))
+
+-- The line shows no frame: it is one that check writes.
+abbrev pub IsVerdict : Line → Type 0
+IsVerdict (line.Shown head body) = ⊥
+IsVerdict _ = ⊤
 
 -- The text of what is said: ok, tolerated at P, refused WHY at P, or the text of the frame.
 abbrev pub said_text : Said → List ℕ

@@ -4,11 +4,11 @@ ghost use Rattle.std.specs.Prelude.{◌≡◌, IfErr, IfOk, MatchResult, List, �
 ghost use Rattle.bac_stream.specs.Judging.{IsCanonical, IsRefused};
 ghost use Rattle.bac_stream.specs.Lines.{ChecksAs};
 ghost use Rattle.bac_record.specs.Records.{Records};
-ghost use Rattle.bac_record.specs.Runs.{RanThrough, ReadsAtMost, RunCounts, Stopped};
+ghost use Rattle.bac_record.specs.Runs.{OnlyBeforeReading, RanThrough, ReadsAtMost, RunCounts, Stopped};
 ghost use Rattle.bac_record.specs.Files.{RunsOver};
 
 use crate::judging::accepted_mark;
-use crate::lines::Line;
+use crate::lines::{Line, VERDICT_ROOM};
 use crate::{Input, Mode, Output, RunFault, Summary};
 use bac_record::{DealFault, Dealt, Job, run};
 use std::alloc::Global;
@@ -21,6 +21,8 @@ struct Check {
 }
 
 impl Job for Check {
+    ghost use Rattle.bac_stream.specs.declared.lines.TheConstants.{VERDICT_ROOM};
+
     ghost line = { λ check. ChecksAs check.mode };
 
     ghost stops = { λ _ _ _. ⊥ };
@@ -28,6 +30,10 @@ impl Job for Check {
     ghost is_canonical = { λ _. IsCanonical };
 
     ghost is_refused = { λ check. IsRefused check.mode };
+
+    const ROOM: u16 = VERDICT_ROOM as u16;
+
+    ghost ROOM = { VERDICT_ROOM };
 
     fn deal(&self, number: u32, octets: &[u8], out: &mut Vec<u8>) -> Result<Dealt, DealFault> {
         match accepted_mark(self.alloc, self.mode, octets) {
@@ -44,10 +50,11 @@ impl Job for Check {
 }
 
 /// Writes a line for each record: its number, and whether the record is canonical, tolerated or refused. Returns what
-/// it counted.
+/// it counted. It takes memory only before it reads.
 ///
 /// # Errors
-/// As [`RunFault`] says, but never `Frame`: refused records do not stop the run.
+/// As [`RunFault`] says, but never `Frame`: refused records do not stop the run. `OutOfMemory` comes only before anything
+/// is read or written.
 ///
 /// # Examples
 /// ```rust
@@ -81,6 +88,7 @@ pub fn run_check<R: Input, W: Output>(
     ensures counted { MatchResult result
         (λ _. (R.failures reader.new ≡ R.failures reader.old) × (W.failures writer.new ≡ W.failures writer.old))
         (RunCounts (R.failures reader.old) (R.failures reader.new) (W.failures writer.old) (W.failures writer.new)) }
+    ensures memory { IfErr result (OnlyBeforeReading reader.old reader.new writer.old writer.new) }
 {
     run(alloc, &Check { alloc, mode }, reader, writer)
 }

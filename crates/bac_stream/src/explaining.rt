@@ -97,6 +97,11 @@ impl Job for Explain {
 
     ghost is_refused = { λ explain. IsRefused explain.mode };
 
+    // It takes memory for each record.
+    const ROOM: u16 = 0;
+
+    ghost ROOM = { 0 };
+
     fn deal(&self, number: u32, octets: &[u8], out: &mut Vec<u8>) -> Result<Dealt, DealFault> {
         match self.accepted(octets) {
             Ok((frame, mark)) => {

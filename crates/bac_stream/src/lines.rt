@@ -1,17 +1,20 @@
 //! The lines of `show` and `check`.
 
-ghost use Rattle.std.specs.Prelude.{◌≡◌, ◌≤◌, ◌+◌, ◌++◌, codes, IfOk, OnOk, OnErr, length, take};
+ghost use Rattle.std.specs.Prelude.{◌≡◌, ◌≤◌, ◌+◌, ◌++◌, codes, IfOk, IsOk, OnOk, OnErr, length, take, vec_capacity};
 ghost use Rattle.std.specs.Fmt.{decimal};
 ghost use Rattle.bac_tag.specs.Octets.{Extends};
 ghost use Rattle.bac_npdu_parts.specs.FrameHeads.{frame_with};
 ghost use Rattle.bac_npdu_parts.specs.Frames.{body_value};
 ghost use Rattle.bac_text.specs.FrameText.{text};
-ghost use Rattle.bac_stream.specs.Lines.{ok, tolerated, refused, said_by, said_of, said_text, numbered};
+ghost use Rattle.bac_stream.specs.Lines.{ok, tolerated, refused, IsVerdict, said_by, said_of, said_text, numbered};
 
 use bac_npdu::{Body, FrameHead};
 use bac_record::layers::{add_room, make_room, put_decimal, put_octets, put_word};
 use bac_tag::{OutOfMemory, Refusal};
 use bac_text::layers::write_text_of;
+
+/// How many octets of room a line of `check` needs. It is no longer than that.
+pub(crate) const VERDICT_ROOM: usize = 64;
 
 /// What a line says of a record, after its number.
 #[derive(Clone, Copy, Debug)]
@@ -42,6 +45,9 @@ fn put_number(room: &mut [u8], at: usize, number: u32) -> usize
 fn write_ok(number: u32, out: &mut Vec<u8>) -> Result<usize, OutOfMemory>
     ensures text { IfOk result (λ end. take end out.new.items ≡ out.old.items ++ numbered number (said_text ok)) }
     ensures err { OnErr result (Extends out.old.items out.new.items) }
+    ensures memory { length out.old.items + VERDICT_ROOM ≤ vec_capacity out.old → IsOk result }
+    ensures room { length out.new.items ≤ length out.old.items + VERDICT_ROOM }
+    ensures capacity { vec_capacity out.old ≤ vec_capacity out.new }
 {
     let start = add_room::<32>(out)?;
     let room = out.as_mut_slice();
@@ -55,8 +61,11 @@ fn write_ok(number: u32, out: &mut Vec<u8>) -> Result<usize, OutOfMemory>
 fn write_tolerated(number: u32, place: usize, out: &mut Vec<u8>) -> Result<usize, OutOfMemory>
     ensures text { IfOk result (λ end. take end out.new.items ≡ out.old.items ++ numbered number (said_text (tolerated place))) }
     ensures err { OnErr result (Extends out.old.items out.new.items) }
+    ensures memory { length out.old.items + VERDICT_ROOM ≤ vec_capacity out.old → IsOk result }
+    ensures room { length out.new.items ≤ length out.old.items + VERDICT_ROOM }
+    ensures capacity { vec_capacity out.old ≤ vec_capacity out.new }
 {
-    let start = add_room::<64>(out)?;
+    let start = add_room::<VERDICT_ROOM>(out)?;
     let room = out.as_mut_slice();
     let end = put_number(room, start, number);
     let end = put_word(room, end, b"tolerated at ");
@@ -66,13 +75,16 @@ fn write_tolerated(number: u32, place: usize, out: &mut Vec<u8>) -> Result<usize
 
 /// Writes the line of a refused record after what is in `out`: its number and `refused WHY at P`. Returns where the
 /// line ends.
+#[tactic(auto, using(crate::proofs::LineLemmas::name_short))]
 fn write_refused(number: u32, refusal: Refusal, out: &mut Vec<u8>) -> Result<usize, OutOfMemory>
     ensures text { IfOk result (λ end. take end out.new.items ≡ out.old.items ++ numbered number (said_text (refused refusal))) }
     ensures err { OnErr result (Extends out.old.items out.new.items) }
+    ensures memory { length out.old.items + VERDICT_ROOM ≤ vec_capacity out.old → IsOk result }
+    ensures room { length out.new.items ≤ length out.old.items + VERDICT_ROOM }
+    ensures capacity { vec_capacity out.old ≤ vec_capacity out.new }
 {
     let why = refusal.why.name().as_bytes();
-    let start = out.len();
-    make_room(out, start, why.len() + 64)?;
+    let start = add_room::<VERDICT_ROOM>(out)?;
     let room = out.as_mut_slice();
     let end = put_number(room, start, number);
     let end = put_word(room, end, b"refused ");
@@ -106,7 +118,8 @@ impl Line<'_> {
     /// Returns what `check` says of a record that is accepted, by its mark.
     #[inline(always)]
     pub(crate) fn of_mark(mark: Option<usize>) -> Line<'static>
-        ensures { said_by result ≡ said_of mark }
+        ensures said { said_by result ≡ said_of mark }
+        ensures verdict { IsVerdict result }
     {
         match mark {
             None => Line::Canonical,
@@ -120,6 +133,9 @@ impl Line<'_> {
     fn write(&self, number: u32, out: &mut Vec<u8>) -> Result<usize, OutOfMemory>
         ensures text { IfOk result (λ end. take end out.new.items ≡ out.old.items ++ numbered number (said_text (said_by self.now))) }
         ensures err { OnErr result (Extends out.old.items out.new.items) }
+        ensures memory { IsVerdict self.now → length out.old.items + VERDICT_ROOM ≤ vec_capacity out.old → IsOk result }
+        ensures room { IsVerdict self.now → length out.new.items ≤ length out.old.items + VERDICT_ROOM }
+        ensures capacity { IsVerdict self.now → vec_capacity out.old ≤ vec_capacity out.new }
     {
         match self {
             Line::Canonical => write_ok(number, out),
@@ -135,6 +151,11 @@ impl Line<'_> {
     pub(crate) fn push(&self, number: u32, out: &mut Vec<u8>) -> Result<(), OutOfMemory>
         ensures ok { OnOk result (out.new.items ≡ out.old.items ++ numbered number (said_text (said_by self.now))) }
         ensures err { OnErr result (out.new.items ≡ out.old.items) }
+
+        // A line of `check` wants no memory if there is room for it.
+        ensures memory { IsVerdict self.now → length out.old.items + VERDICT_ROOM ≤ vec_capacity out.old → IsOk result }
+        ensures room { IsVerdict self.now → length out.new.items ≤ length out.old.items + VERDICT_ROOM }
+        ensures capacity { IsVerdict self.now → vec_capacity out.old ≤ vec_capacity out.new }
     {
         let start = out.len();
         match self.write(number, out) {

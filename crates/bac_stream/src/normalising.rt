@@ -98,6 +98,11 @@ impl Job for Normalise {
 
     ghost is_refused = { λ normalise. IsRefused normalise.mode };
 
+    // It takes memory for each record.
+    const ROOM: u16 = 0;
+
+    ghost ROOM = { 0 };
+
     fn deal(&self, _number: u32, octets: &[u8], out: &mut Vec<u8>) -> Result<Dealt, DealFault> {
         let mark = match accepted_mark(self.alloc, self.mode, octets) {
             Ok(mark) => mark,

@@ -77,6 +77,11 @@ impl<R: Reporting> Job for Report<R> {
 
     ghost is_refused = { λ report. IsRefused report.mode };
 
+    // It takes memory for each record.
+    const ROOM: u16 = 0;
+
+    ghost ROOM = { 0 };
+
     fn deal(&self, number: u32, octets: &[u8], out: &mut Vec<u8>) -> Result<Dealt, DealFault> {
         let appending = Numbered {
             number,

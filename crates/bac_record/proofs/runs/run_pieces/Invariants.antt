@@ -1,5 +1,6 @@
--- Each record that was dealt with is written, and less than a record is held.
+-- Each record that was dealt with is written, less than a record is held, and the batch of a job that needs only room has it.
 use Rattle.std.proofs.Common.{◌≡◌, ◌≤◌, ◌<◌, ◌+◌, ◌-◌, ◌*◌, ◌^◌, length}
+use Rattle.bac_record.specs.Batches.{HasRoom}
 use Rattle.bac_record.specs.Records.{HELD, LONGEST, MOST}
 use Rattle.bac_record.specs.Runs.{Waits}
 use Rattle.bac_record.specs.declared.runs.TheConstants.{PIECE}
@@ -16,6 +17,7 @@ invariant-pieces g l = record {
   reads : g.R.Input.failures l.reader ≡ g.R.Input.failures l.initial.reader;
   writes : g.W.Output.failures l.writer ≡ g.W.Output.failures l.initial.writer;
   room : l.sent ≤ l.summary.records * 2 ^ 64;
+  spacious : 0 < g.J.Job.ROOM → HasRoom g.J.Job.ROOM l.batch;
 }
 
 abbrev pub decreases-pieces : goal.decreases-pieces

@@ -16,7 +16,7 @@ returns-in_ok-push-in-Ok-clause-dealt c =
       appended = record {
         said = said_of mark;
         is_said = λ mode octets a m. accepted_checked mode _ octets mark a m;
-        appended = rw c.of_mark.ensures at c.in_ok-push-in-Ok.ensures.ok;
+        appended = rw c.of_mark.ensures.said at c.in_ok-push-in-Ok.ensures.ok;
       };
     })
     found.canonical told.canonical told.accepted
