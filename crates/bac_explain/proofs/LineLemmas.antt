@@ -83,6 +83,13 @@ blanks_step at n old room inside p =
     ∙ append_assoc old (replicate n 32) (32 ∷ [])
     ∙ ap (λ l. old ++ l) (replicate_more n 32)
 
+-- blanks of a column and of few groups
+pub near_blanks : (old new : List ℕ) (n a d : ℕ) → n ≡ a + 2 + 2 * d → new ≡ old ++ replicate n 32 → new ≡ old ++ (blanks a ++ (codes "  " ++ blanks (2 * d)))
+near_blanks old new n a d is p =
+    let same : n ≡ a + (2 + 2 * d) = omega (arith, is) in
+    let right : blanks a ++ (codes "  " ++ blanks (2 * d)) ≡ replicate (a + (2 + 2 * d)) 32 = ap (λ l. blanks a ++ l) (replicate-append-replicate 2 (2 * d) 32) ∙ replicate-append-replicate a (2 + 2 * d) 32 in
+    p ∙ ap (λ l. old ++ l) (ap (λ k. replicate k 32) same ∙ sym right)
+
 -- blanks of a column and of many groups
 pub far_blanks : {E : Type 0} (r : Result ℕ E) (old one two new : List ℕ) (n a d : ℕ) → n ≡ a + 2 → one ≡ old ++ replicate n 32 → two ≡ one ++ replicate d 32 → IfOk r (λ end. take end new ≡ two ++ replicate d 32)
     → IfOk r (λ end. take end new ≡ old ++ (blanks a ++ (codes "  " ++ blanks (2 * d))))

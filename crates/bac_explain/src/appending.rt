@@ -91,7 +91,7 @@ const BLANKS: [u8; MOST] = [b' '; MOST];
 
 /// Writes so many blanks, at most 32, at a place with capacity for 32. Returns where they end.
 #[inline(always)]
-fn put_blanks(room: &mut [u8], at: usize, count: usize) -> usize
+pub(crate) fn put_blanks(room: &mut [u8], at: usize, count: usize) -> usize
     requires few { count ≤ 32 }
     requires room { at + 32 ≤ length room.old }
     ensures text { take result room.new ≡ take at room.old ++ replicate count 32 }
@@ -112,7 +112,7 @@ fn put_each_blank(room: &mut [u8], at: usize, count: usize)
 }
 
 /// Writes so many blanks, however many they are. Returns where they end.
-fn write_many_blanks(out: &mut Vec<u8>, at: usize, count: usize) -> Result<usize, OutOfMemory>
+pub(crate) fn write_blanks(out: &mut Vec<u8>, at: usize, count: usize) -> Result<usize, OutOfMemory>
     requires { at ≤ length out.old.items }
     ensures text { IfOk result (λ end. take end out.new.items ≡ take at out.old.items ++ replicate count 32) }
     ensures end { IfOk result (λ end. end ≤ length out.new.items) }
@@ -121,19 +121,4 @@ fn write_many_blanks(out: &mut Vec<u8>, at: usize, count: usize) -> Result<usize
     make_room(out, at, count)?;
     put_each_blank(out.as_mut_slice(), at, count);
     Ok(at + count)
-}
-
-/// Writes so many blanks. Returns where they end.
-#[inline(always)]
-pub(crate) fn write_blanks(out: &mut Vec<u8>, at: usize, count: usize) -> Result<usize, OutOfMemory>
-    requires { at ≤ length out.old.items }
-    ensures text { IfOk result (λ end. take end out.new.items ≡ take at out.old.items ++ replicate count 32) }
-    ensures end { IfOk result (λ end. end ≤ length out.new.items) }
-    ensures err { OnErr result (Extends (take at out.old.items) out.new.items) }
-{
-    if count > MOST {
-        return write_many_blanks(out, at, count);
-    }
-    make_room(out, at, MOST)?;
-    Ok(put_blanks(out.as_mut_slice(), at, count))
 }

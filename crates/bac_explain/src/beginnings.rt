@@ -4,7 +4,7 @@ ghost use Rattle.std.specs.Prelude.{◌≡◌, ◌<◌, ◌≤◌, ◌+◌, ◌*
 ghost use Rattle.bac_tag.specs.Octets.{Extends};
 ghost use Rattle.bac_explain.specs.Lines.{blanks, column, front_text, gap, margin, parted, place_text};
 
-use crate::appending::{ROOM, write_blanks};
+use crate::appending::{ROOM, put_blanks, write_blanks};
 use crate::piece::Piece;
 use bac_record::layers::{make_room, put_decimal, put_hexadecimal, put_word};
 use bac_tag::OutOfMemory;
@@ -15,8 +15,8 @@ pub(crate) const WIDTH: usize = 8;
 /// How many columns the octets of a first line have at least.
 const COLUMN: usize = 11;
 
-/// Fewer groups than these are around most pieces.
-const FEW: usize = 1_000;
+/// How many groups are around most pieces at most.
+const FEW: usize = 9;
 
 /// Returns at most so many of the first octets.
 #[inline(always)]
@@ -143,9 +143,19 @@ pub(crate) fn write_front(
 }
 
 /// Writes the blanks between the octets of a piece, which take so many columns, and its words: at least two, and two more
-/// for each group around it. Returns where they end.
+/// for each of few groups around it, at a place with capacity for 32. Returns where they end.
 #[inline(always)]
-fn write_margin(
+fn put_spacing(room: &mut [u8], at: usize, used: usize, depth: usize) -> usize
+    requires few { depth ≤ 9 }
+    requires room { at + 32 ≤ length room.old }
+    ensures text { take result room.new ≡ take at room.old ++ (blanks (11 - used) ++ (codes "  " ++ blanks (2 * depth))) }
+    ensures most { result ≤ at + 32 }
+{
+    put_blanks(room, at, COLUMN.saturating_sub(used) + 2 + 2 * depth)
+}
+
+/// Writes these blanks, of many groups. Returns where they end.
+fn write_wide_spacing(
     out: &mut Vec<u8>,
     at: usize,
     used: usize,
@@ -156,11 +166,7 @@ fn write_margin(
     ensures end { IfOk result (λ end. end ≤ length out.new.items) }
     ensures err { OnErr result (Extends (take at out.old.items) out.new.items) }
 {
-    let column = COLUMN.saturating_sub(used) + 2;
-    if depth < FEW {
-        return write_blanks(out, at, column + 2 * depth);
-    }
-    let first = write_blanks(out, at, column)?;
+    let first = write_blanks(out, at, COLUMN.saturating_sub(used) + 2)?;
     let second = write_blanks(out, first, depth)?;
     write_blanks(out, second, depth)
 }
@@ -183,5 +189,8 @@ pub(crate) fn write_beginning(
     let room = out.as_mut_slice();
     let start = put_place(room, at, piece.place);
     let end = put_front(room, start, piece, own);
-    write_margin(out, end, end - start, piece.depth)
+    if piece.depth > FEW {
+        return write_wide_spacing(out, end, end - start, piece.depth);
+    }
+    Ok(put_spacing(room, end, end - start, piece.depth))
 }

@@ -31,6 +31,7 @@ fn is_not_after(field: &Field, piece: &Piece) -> bool
 }
 
 /// Returns the fields from the first one on that does not begin before a piece.
+#[inline(always)]
 pub(crate) fn fields_ahead<'a>(fields: &'a [Field], piece: &Piece) -> &'a [Field]
     ensures { result.now ≡ ahead piece.now fields.now }
 {
@@ -47,6 +48,7 @@ pub(crate) fn fields_ahead<'a>(fields: &'a [Field], piece: &Piece) -> &'a [Field
 /// Returns the label of the first field with a name that begins in a piece, or None if none does. It looks at the fields
 /// before the first one that begins after the piece. The places of the fields must be those in the octets of the piece,
 /// which then are canonical.
+#[inline(always)]
 pub fn label_of(piece: &Piece, fields: &[Field]) -> Option<Label>
     ensures { IsLabel (within piece.now fields.now) piece.now result }
 {
@@ -70,6 +72,7 @@ pub fn label_of(piece: &Piece, fields: &[Field]) -> Option<Label>
 
 impl Label {
     /// Returns true if it is that of a part of a service that is a number.
+    #[inline(always)]
     pub(crate) fn is_part(self) -> bool
         ensures { result ≡ is_part self.name }
     {
@@ -111,6 +114,7 @@ impl Label {
     }
 
     /// Returns true if it is that of an object identifier.
+    #[inline(always)]
     pub(crate) fn is_object(self) -> bool
         ensures { result ≡ is_object self.name }
     {
@@ -118,6 +122,7 @@ impl Label {
     }
 
     /// Returns true if it is that of a group with a word.
+    #[inline(always)]
     pub(crate) fn is_group(self) -> bool
         ensures { result ≡ is_group self.name }
     {

@@ -3,7 +3,6 @@
 ghost use Rattle.std.specs.Prelude.{◌≡◌, ◌≤◌, ◌<◌, ◌+◌, ◌*◌, ◌^◌, ◌++◌, ◌-◌, ◌/◌, List, ℕ, IfOk, OnErr, OnOk, codes, length, take};
 ghost use Rattle.bac_tag.specs.Octets.{Extends};
 ghost use Rattle.bac_explain.specs.Lines.{AreLines, further_line, further_lines, piece_lines};
-ghost use Rattle.bac_explain.specs.Tiles.{octets_of};
 ghost use Rattle.bac_explain.specs.Words.{IsSaid};
 
 use crate::appending::{write_digits, write_word};
@@ -94,15 +93,6 @@ fn write_piece(
     write_end(out, words, piece, own)
 }
 
-/// Returns the octets of a piece.
-pub(crate) fn own_octets<'a>(octets: &'a [u8], piece: &Piece) -> &'a [u8]
-    ensures own { result.now ≡ octets_of octets.now piece.now }
-    ensures place { piece.now.place + length result.now < 2 ^ 64 }
-{
-    let rest = octets.get(piece.place..).unwrap_or(&[]);
-    first_octets(rest, piece.length)
-}
-
 /// Writes the lines of pieces. Returns where they end. If memory is refused, `out` may hold some of them.
 fn write_all(
     out: &mut Vec<u8>,
@@ -117,7 +107,7 @@ fn write_all(
 {
     let mut end = at;
     for piece in pieces {
-        end = write_piece(out, end, piece, own_octets(octets, piece))?;
+        end = write_piece(out, end, piece, piece.own(octets))?;
     }
     Ok(end)
 }

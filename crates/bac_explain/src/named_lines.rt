@@ -8,7 +8,7 @@ ghost use Rattle.bac_explain.specs.NamedLines.{AreDataLines, AreLinesBeside, Are
 use crate::appending::{write_octets, write_word};
 use crate::beginnings::{write_beginning, write_front};
 use crate::label::{fields_ahead, label_of};
-use crate::lines::{own_octets, write_end};
+use crate::lines::write_end;
 use crate::named_words::write_named;
 use crate::piece::{Kind, Piece};
 use crate::words::write_said;
@@ -98,8 +98,8 @@ fn write_data_part(
         depth: 0,
         kind: Kind::Data,
     };
-    let own = own_octets(octets, &part);
-    let beside = own_octets(canonical, &part);
+    let own = part.own(octets);
+    let beside = part.own(canonical);
     write_piece_beside(out, at, &part, own, &part, beside, left)
 }
 
@@ -164,12 +164,12 @@ fn write_lines_beside(
     ensures end { IfOk result (λ end. end ≤ length out.new.items) }
     ensures err { OnErr result (Extends (take at out.old.items) out.new.items) }
 {
-    let own = own_octets(octets, piece);
+    let own = piece.own(octets);
     if is_data(piece.kind) {
         let to = piece.place + own.len();
         return write_data(out, at, octets, canonical, fields, piece.place, to);
     }
-    let beside = own_octets(canonical, other);
+    let beside = other.own(canonical);
     write_piece_beside(out, at, piece, own, other, beside, fields)
 }
 
@@ -237,7 +237,7 @@ fn write_lines_of(
 {
     match others {
         [other, ..] => write_lines_beside(out, at, octets, piece, canonical, other, fields),
-        [] => write_alone(out, at, piece, own_octets(octets, piece), hint),
+        [] => write_alone(out, at, piece, piece.own(octets), hint),
     }
 }
 
@@ -320,7 +320,7 @@ fn write_canonical_piece(
     ensures end { IfOk result (λ end. end ≤ length out.new.items) }
     ensures err { OnErr result (Extends (take at out.old.items) out.new.items) }
 {
-    let own = own_octets(octets, piece);
+    let own = piece.own(octets);
     if is_data(piece.kind) {
         let to = piece.place + own.len();
         return write_data(out, at, octets, octets, fields, piece.place, to);

@@ -12,63 +12,59 @@ use crate::label::Label;
 use crate::piece::{Kind, Piece};
 use crate::tag_words::{put_bracketed, write_tag};
 use crate::words::{contents_of, write_kind, write_said};
-use bac_record::layers::{make_room, put_decimal, put_word};
+use bac_record::layers::{make_room, put_decimal, put_octets, put_word};
 use bac_tag::{OutOfMemory, TagHead};
 
-/// Writes an object identifier with these bits, as type and instance. Returns where it ends.
-fn write_object(out: &mut Vec<u8>, at: usize, bits: u64) -> Result<usize, OutOfMemory>
-    requires { at ≤ length out.old.items }
-    ensures text { IfOk result (λ end. take end out.new.items ≡ take at out.old.items ++ object_words bits) }
-    ensures end { IfOk result (λ end. end ≤ length out.new.items) }
-    ensures err { OnErr result (Extends (take at out.old.items) out.new.items) }
+/// Writes an object identifier with these bits, as type and instance, at a place with capacity for 41 octets. Returns where
+/// it ends.
+#[inline(always)]
+fn put_object(room: &mut [u8], at: usize, bits: u64) -> usize
+    requires { at + 41 ≤ length room.old }
+    ensures text { take result room.new ≡ take at room.old ++ object_words bits }
+    ensures most { result ≤ at + 41 }
 {
-    make_room(out, at, ROOM)?;
-    let room = out.as_mut_slice();
     let kind = put_decimal(room, at, bits / 0x40_0000);
     let colon = put_word(room, kind, b":");
-    Ok(put_decimal(room, colon, bits % 0x40_0000))
+    put_decimal(room, colon, bits % 0x40_0000)
 }
 
-/// Writes the word of a name. Returns where it ends.
+/// Writes the word of a part, and its number, at a place with capacity for 42 octets more than the word has. Returns where
+/// they end.
 #[inline(always)]
-fn write_name(out: &mut Vec<u8>, at: usize, label: Label) -> Result<usize, OutOfMemory>
-    requires { at ≤ length out.old.items }
-    ensures text { IfOk result (λ end. take end out.new.items ≡ take at out.old.items ++ word_of_name label.name) }
-    ensures end { IfOk result (λ end. end ≤ length out.new.items) }
-    ensures err { OnErr result (Extends (take at out.old.items) out.new.items) }
+fn put_part(room: &mut [u8], at: usize, label: Label) -> usize
+    requires { at + length (word_of_name label.name) + 42 ≤ length room.old }
+    ensures text { take result room.new ≡ take at room.old ++ part_words label }
+    ensures end { result ≤ at + length (word_of_name label.name) + 42 }
 {
-    write_octets(out, at, label.name.word().as_bytes())
+    let name = put_octets(room, at, label.name.word().as_bytes());
+    let start = put_word(room, name, b" ");
+    if label.is_object() {
+        put_object(room, start, label.number)
+    } else {
+        put_decimal(room, start, label.number)
+    }
+}
+
+/// Writes a number in brackets, and a blank, at a place with capacity for 23 octets. Returns where they end.
+#[inline(always)]
+fn put_context_number(room: &mut [u8], at: usize, number: u8) -> usize
+    requires { at + 23 ≤ length room.old }
+    ensures text { take result room.new ≡ take at room.old ++ (bracketed number ++ codes " ") }
+    ensures most { result ≤ at + 23 }
+{
+    let end = put_bracketed(room, at, number);
+    put_word(room, end, b" ")
 }
 
 /// Writes the word of a part, and its number. Returns where they end.
-#[inline(always)]
 fn write_part(out: &mut Vec<u8>, at: usize, label: Label) -> Result<usize, OutOfMemory>
     requires { at ≤ length out.old.items }
     ensures text { IfOk result (λ end. take end out.new.items ≡ take at out.old.items ++ part_words label) }
     ensures end { IfOk result (λ end. end ≤ length out.new.items) }
     ensures err { OnErr result (Extends (take at out.old.items) out.new.items) }
 {
-    let name = write_name(out, at, label)?;
-    let end = write_word(out, name, b" ")?;
-    if label.is_object() {
-        write_object(out, end, label.number)
-    } else {
-        write_number(out, end, label.number)
-    }
-}
-
-/// Writes a number in brackets, and a blank. Returns where they end.
-#[inline(always)]
-fn write_context_number(out: &mut Vec<u8>, at: usize, number: u8) -> Result<usize, OutOfMemory>
-    requires { at ≤ length out.old.items }
-    ensures text { IfOk result (λ end. take end out.new.items ≡ take at out.old.items ++ (bracketed number ++ codes " ")) }
-    ensures end { IfOk result (λ end. end ≤ length out.new.items) }
-    ensures err { OnErr result (Extends (take at out.old.items) out.new.items) }
-{
-    make_room(out, at, ROOM)?;
-    let room = out.as_mut_slice();
-    let end = put_bracketed(room, at, number);
-    Ok(put_word(room, end, b" "))
+    make_room(out, at, label.name.word().len() + ROOM)?;
+    Ok(put_part(out.as_mut_slice(), at, label))
 }
 
 /// Writes the number of a context tag, and the word of a part with its number. Returns where they end.
@@ -83,8 +79,10 @@ fn write_numbered_part(
     ensures end { IfOk result (λ end. end ≤ length out.new.items) }
     ensures err { OnErr result (Extends (take at out.old.items) out.new.items) }
 {
-    let end = write_context_number(out, at, number)?;
-    write_part(out, end, label)
+    make_room(out, at, label.name.word().len() + ROOM)?;
+    let room = out.as_mut_slice();
+    let start = put_context_number(room, at, number);
+    Ok(put_part(room, start, label))
 }
 
 /// Writes the beginning of a group with a word. Returns where it ends.
@@ -99,9 +97,23 @@ fn write_named_opening(
     ensures end { IfOk result (λ end. end ≤ length out.new.items) }
     ensures err { OnErr result (Extends (take at out.old.items) out.new.items) }
 {
-    let start = write_context_number(out, at, number)?;
-    let end = write_name(out, start, label)?;
-    write_word(out, end, b" {")
+    let word = label.name.word().as_bytes();
+    make_room(out, at, word.len() + ROOM)?;
+    let room = out.as_mut_slice();
+    let start = put_context_number(room, at, number);
+    let end = put_octets(room, start, word);
+    Ok(put_word(room, end, b" {"))
+}
+
+/// Writes the word of a name. Returns where it ends.
+#[inline(always)]
+fn write_name(out: &mut Vec<u8>, at: usize, label: Label) -> Result<usize, OutOfMemory>
+    requires { at ≤ length out.old.items }
+    ensures text { IfOk result (λ end. take end out.new.items ≡ take at out.old.items ++ word_of_name label.name) }
+    ensures end { IfOk result (λ end. end ≤ length out.new.items) }
+    ensures err { OnErr result (Extends (take at out.old.items) out.new.items) }
+{
+    write_octets(out, at, label.name.word().as_bytes())
 }
 
 /// Writes what a tag head and its contents say with a label. Returns where that ends. If memory is refused, `out` may hold

@@ -5,7 +5,6 @@ ghost use Rattle.bac_tag.specs.Heads.{Heads, number_of};
 ghost use Rattle.bac_tag.specs.declared.heads.TagHead.{TagHead as TagHeadValue};
 ghost use Rattle.bac_tag.specs.declared.refusals.Why.{Why as Reason};
 ghost use Rattle.bac_explain.specs.Numbers.{BeginsWith, IsPieceOf, IsPlain, class_number, kind_number, numbers_of, reason_number, tag_numbers as numbers_of_tag};
-ghost use Rattle.bac_explain.specs.Tiles.{octets_of};
 ghost use Rattle.bac_explain.specs.declared.piece.Kind.{Kind as KindValue};
 ghost use Rattle.bac_explain.specs.declared.piece.Piece.{Piece as PieceValue};
 
@@ -215,14 +214,6 @@ fn other_kind(kind: u32, own: &[u8], head: usize, number: u32) -> Option<Kind>
 }
 
 impl Piece {
-    /// Returns its octets, of these. A piece of other octets may have none.
-    pub fn own<'a>(&self, octets: &'a [u8]) -> &'a [u8]
-        ensures { result.now ≡ octets_of octets.now self.now }
-    {
-        let rest = octets.get(self.place..).unwrap_or(&[]);
-        rest.get(..self.length).unwrap_or(rest)
-    }
-
     /// Returns true if its octets are among so many.
     fn is_within(&self, count: usize) -> bool
         ensures { IsTrue result ↔ (self.now.place + self.now.length ≤ count) }

@@ -1,5 +1,9 @@
 //! A piece of the octets of a frame.
 
+ghost use Rattle.std.specs.Prelude.{◌≡◌, ◌+◌, ◌<◌, ◌^◌, length};
+ghost use Rattle.bac_explain.specs.Tiles.{octets_of};
+
+use crate::beginnings::first_octets;
 use bac_tag::{TagHead, Why};
 
 /// What a piece is.
@@ -103,4 +107,14 @@ impl Piece {
         depth: 0,
         kind: Kind::Version,
     };
+
+    /// Returns its octets, of these. A piece of other octets may have none.
+    #[inline(always)]
+    pub fn own<'a>(&self, octets: &'a [u8]) -> &'a [u8]
+        ensures own { result.now ≡ octets_of octets.now self.now }
+        ensures place { self.now.place + length result.now < 2 ^ 64 }
+    {
+        let rest = octets.get(self.place..).unwrap_or(&[]);
+        first_octets(rest, self.length)
+    }
 }

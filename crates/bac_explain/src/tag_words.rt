@@ -157,6 +157,7 @@ fn write_opening(out: &mut Vec<u8>, at: usize, number: u8) -> Result<usize, OutO
 }
 
 /// Writes what a tag head and its contents say. Returns where that ends. If memory is refused, `out` may hold some of it.
+#[inline(always)]
 pub(crate) fn write_tag(
     out: &mut Vec<u8>,
     at: usize,

@@ -5,11 +5,11 @@ ghost use Rattle.std.specs.Fmt.{decimal};
 ghost use Rattle.bac_tag.specs.Octets.{Extends};
 ghost use Rattle.bac_explain.specs.Words.{IsSaid, accepted_words, control_words, first_in, has_number, number_in, numbered_words, word_of};
 
-use crate::appending::{ROOM, write_octets};
+use crate::appending::ROOM;
 use crate::piece::{Kind, Piece};
 use crate::reasons::write_reason;
 use crate::tag_words::{write_tag, write_unjudged};
-use bac_record::layers::{make_room, put_decimal, put_word};
+use bac_record::layers::{make_room, put_decimal, put_octets, put_word};
 use bac_tag::OutOfMemory;
 
 impl Kind {
@@ -113,12 +113,13 @@ pub(crate) fn write_kind(
     ensures end { IfOk result (λ end. end ≤ length out.new.items) }
     ensures err { OnErr result (Extends (take at out.old.items) out.new.items) }
 {
-    let end = write_octets(out, at, kind.word().as_bytes())?;
+    let word = kind.word().as_bytes();
+    make_room(out, at, word.len() + ROOM)?;
+    let room = out.as_mut_slice();
+    let end = put_octets(room, at, word);
     if !kind.has_number() {
         return Ok(end);
     }
-    make_room(out, end, ROOM)?;
-    let room = out.as_mut_slice();
     let start = put_word(room, end, b" ");
     Ok(put_decimal(room, start, number_of(own)))
 }
@@ -202,6 +203,7 @@ pub(crate) fn contents_of(own: &[u8], head: usize) -> &[u8]
 }
 
 /// Writes the words of a piece. Returns where they end. If memory is refused, `out` may hold some of them.
+#[inline(always)]
 pub(crate) fn write_said(
     out: &mut Vec<u8>,
     at: usize,

@@ -11,6 +11,6 @@ pub loop-piece-preserved : goal.loop-piece-preserved
 loop-piece-preserved c =
     let so_far = c.loop-piece.invariant.1 in (
       c.in_ok-end.ensures.end,
-      lines_step c.args.octets.now c.args.pieces.now c.loop-piece.piece-index _ c.own_octets.result.now (take c.args.at c.args.out.now.items) (take c.loop-piece.end c.loop-piece.out.items) (take c.in_ok-end.end c.write_piece.new.out.items) so_far.0 (omega (arith, c.loop-piece-test.true)) c.own_octets.ensures.own so_far.1 so_far.2
+      lines_step c.args.octets.now c.args.pieces.now c.loop-piece.piece-index _ c.own.result.now (take c.args.at c.args.out.now.items) (take c.loop-piece.end c.loop-piece.out.items) (take c.in_ok-end.end c.write_piece.new.out.items) so_far.0 (omega (arith, c.loop-piece-test.true)) c.own.ensures.own so_far.1 so_far.2
           c.in_ok-end.ensures.text,
     )

@@ -9,5 +9,5 @@ returns-in-len1-up-clause-text c =
 
 pub returns-in-empty-clause-text : goal.returns-in-empty-clause-text
 returns-in-empty-clause-text c =
-    beside_none c.write_alone.result c.args.octets.now c.args.canonical.now c.args.fields.now c.args.hint.now c.args.piece.now c.args.others.now c.own_octets.result.now (take c.args.at c.args.out.now.items) c.write_alone.new.out.items (omega (arith, c.in-empty.len_below)) c.own_octets.ensures.own
+    beside_none c.write_alone.result c.args.octets.now c.args.canonical.now c.args.fields.now c.args.hint.now c.args.piece.now c.args.others.now c.own.result.now (take c.args.at c.args.out.now.items) c.write_alone.new.out.items (omega (arith, c.in-empty.len_below)) c.own.ensures.own
     c.write_alone.ensures.text
