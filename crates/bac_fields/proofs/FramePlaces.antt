@@ -33,7 +33,7 @@ use Rattle.bac_field_parts.specs.PrimitiveFields.{truth}
 use Rattle.bac_fields.specs.ServiceFields.{service_steps}
 use Rattle.bac_fields.specs.ApduFields.{part_steps, apdu_steps}
 use Rattle.bac_fields.specs.MessageFields.{listed_network_steps, port_steps, ports_steps, message_steps}
-use Rattle.bac_fields.specs.FrameFields.{source_size, source_steps, addresses_steps, body_steps, control_steps, frame_steps, placed_fields, FrameFits}
+use Rattle.bac_fields.specs.FrameFields.{source_size, source_steps, addresses_steps, body_steps, control_steps, frame_steps, placed_fields, FrameFits, StepsFit}
 use Rattle.bac_field_parts.specs.Names.{number_of}
 use Rattle.bac_fields.specs.Places.{HoldsNumber, AreAt}
 use Rattle.bac_field_parts.specs.Symbols.{has_contents}
@@ -319,7 +319,14 @@ addresses_few None (Some s) = omega arith
 addresses_few (Some d) None = omega (arith, length-append d.address (d.hops ∷ []))
 addresses_few (Some d) (Some s) = omega (arith, length-append d.address (source_octets (Some s) ++ d.hops ∷ []), length-append s.address (d.hops ∷ []))
 
-frame_laid : (f : FrameValue) (b : List ℕ) → SpellsFrame f b → Placed (SpellsFrame f) (frame_steps f)
+-- The octets of a frame, laid out, with at most two fields for each of them.
+record LaysFrame (f : FrameValue) : Type 0 where
+  octets : List ℕ
+  is_least : IsLeast (SpellsFrame f) octets
+  lays : Lays (frame_steps f) octets
+  few : count (frame_steps f) ≤ 2 * length octets
+
+frame_laid : (f : FrameValue) (b : List ℕ) → SpellsFrame f b → LaysFrame f
 frame_laid f b h =
     let small : f.priority < 4 = omega (arith, h.is_control.priority) in
     let body = body_laid f.body h.body h.is_body in
@@ -337,14 +344,26 @@ frame_places f c h =
     are_at (frame_steps f) c (lays_same (IsLeast-one (SpellsFrame f) p.octets c p.is_least h) p.lays)
 
 -- and there are few of them
-pub frame_few : (f : FrameValue) (c : List ℕ) → IsLeast (SpellsFrame f) c → length (placed_fields f) ≤ 2 * length c + 2
-frame_few f c h =
+frame_two : (f : FrameValue) (c : List ℕ) → IsLeast (SpellsFrame f) c → length (placed_fields f) ≤ 2 * length c
+frame_two f c h =
     let p = frame_laid f c h.member in
     omega (arith, p.few, ap length (IsLeast-one (SpellsFrame f) p.octets c p.is_least h), count-placed (frame_steps f) 0)
 
--- so each number has room, where a number has room for so many
+pub frame_few : (f : FrameValue) (c : List ℕ) → IsLeast (SpellsFrame f) c → length (placed_fields f) ≤ 2 * length c + 2
+frame_few f c h = omega (arith, frame_two f c h)
+
+-- ---- frames that fit
+
+-- a frame with so many octets fits
+frame_held : (f : FrameValue) (c : List ℕ) → IsLeast (SpellsFrame f) c → 2 * length c < 2 ^ 64 → FrameFits f
+frame_held f c h small = record { few_fields = omega (arith, frame_two f c h, small); octets = c; is_least = h; few_octets = omega (arith, small) }
+
 pub frame_fits : (f : FrameValue) (c : List ℕ) → IsLeast (SpellsFrame f) c → 2 * length c + 2 < 2 ^ 64 → FrameFits f
-frame_fits f c h small =
-    let p = frame_laid f c h.member in
-    let same = ap length (IsLeast-one (SpellsFrame f) p.octets c p.is_least h) in
-    fits_all (frame_steps f) p.octets p.lays (omega (arith, p.few, same, small)) (omega (arith, same, small))
+frame_fits f c h small = frame_held f c h (omega (arith, small))
+
+-- each number of its steps has room
+pub steps_fit : (f : FrameValue) → FrameFits f → StepsFit f
+steps_fit f fits =
+    let p = frame_laid f fits.octets fits.is_least.member in
+    let same = ap length (IsLeast-one (SpellsFrame f) p.octets fits.octets p.is_least fits.is_least) in
+    fits_all (frame_steps f) p.octets p.lays (omega (arith, fits.few_fields, count-placed (frame_steps f) 0)) (omega (arith, same, fits.few_octets))

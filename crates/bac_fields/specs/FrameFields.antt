@@ -1,7 +1,8 @@
 -- The fields of a frame (clause 6.2).
-use Rattle.std.specs.Prelude.{ℕ, ◌+◌, Bool, Option, None, Some, List, [], ◌∷◌, ◌++◌, length}
+use Rattle.std.specs.Prelude.{ℕ, ◌+◌, ◌^◌, ◌<◌, Bool, Option, None, Some, List, [], ◌∷◌, ◌++◌, length}
+use Rattle.bac_tag.specs.Spelling.{IsLeast}
 use Rattle.bac_npdu_parts.specs.Addresses.{SourceValue, DestinationValue}
-use Rattle.bac_npdu_parts.specs.Frames.{FrameValue, BodyValue, apdu, message}
+use Rattle.bac_npdu_parts.specs.Frames.{FrameValue, BodyValue, apdu, message, SpellsFrame}
 use Rattle.bac_field_parts.specs.declared.names.Name.TheVariants as name
 use Rattle.bac_field_parts.specs.declared.field.Field.{Field}
 use Rattle.bac_field_parts.specs.Fields.{FieldValue, Step, next, aside, pass, address_field, fields_of, placed, Fits}
@@ -54,6 +55,14 @@ fields frame = fields_of (frame_steps frame)
 abbrev pub placed_fields : FrameValue → List Field
 placed_fields frame = placed 0 (frame_steps frame)
 
--- Each number of the placed fields fits in a usize, which is so of whatever is in memory.
-abbrev pub FrameFits : FrameValue → Type 0
-FrameFits frame = Fits (record { room = []; count = 0; place = 0 }) (frame_steps frame)
+-- The frame has fewer than 2^64 fields and fewer than 2^64 canonical octets. So each number of its placed fields fits in a
+-- usize.
+pub record FrameFits (frame : FrameValue) : Type 0 where
+  pub few_fields : length (placed_fields frame) < 2 ^ 64
+  pub octets : List ℕ
+  pub is_least : IsLeast (SpellsFrame frame) octets
+  pub few_octets : length octets < 2 ^ 64
+
+-- Each number of the steps of the frame fits in a usize. It is so where the frame fits (FrameFits).
+abbrev pub StepsFit : FrameValue → Type 0
+StepsFit frame = Fits (record { room = []; count = 0; place = 0 }) (frame_steps frame)

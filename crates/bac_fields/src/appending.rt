@@ -4,7 +4,7 @@ ghost use Rattle.std.specs.Prelude.{◌≡◌, ◌<◌, ◌≤◌, ◌++◌, IfN
 ghost use Rattle.bac_tag.specs.Spelling.{AppendsLeast};
 ghost use Rattle.bac_npdu_parts.specs.FrameHeads.{frame_with};
 ghost use Rattle.bac_npdu_parts.specs.Frames.{SpellsFrame, body_value, value_of};
-ghost use Rattle.bac_fields.specs.FrameFields.{placed_fields, FrameFits};
+ghost use Rattle.bac_fields.specs.FrameFields.{placed_fields, FrameFits, StepsFit};
 
 use crate::frames::tell_frame;
 use bac_field_parts::Field;
@@ -28,7 +28,7 @@ const BLANK: Field = Field {
 /// in a `usize`.
 fn count_fields(head: &FrameHead<'_>, body: &Body) -> Option<usize>
     ensures count { IfSome result (λ count. count ≡ length (placed_fields (frame_with head.now (body_value body.now)))) }
-    ensures fits { IsSome result → FrameFits (frame_with head.now (body_value body.now)) }
+    ensures fits { IsSome result → StepsFit (frame_with head.now (body_value body.now)) }
     ensures unfit { IfNone result (FrameFits (frame_with head.now (body_value body.now)) → ⊥) }
 {
     Some(tell_frame(head, body, START, &mut [])?.count)
@@ -37,7 +37,7 @@ fn count_fields(head: &FrameHead<'_>, body: &Body) -> Option<usize>
 /// Writes the fields of the frame with this head and this body at the front of `room`, which has capacity for them.
 fn fill(head: &FrameHead<'_>, body: &Body, room: &mut [Field])
     requires room { length (placed_fields (frame_with head.now (body_value body.now))) ≤ length room.old }
-    requires fits { FrameFits (frame_with head.now (body_value body.now)) }
+    requires fits { StepsFit (frame_with head.now (body_value body.now)) }
     ensures { room.new ≡ placed_fields (frame_with head.now (body_value body.now)) ++ drop (length (placed_fields (frame_with head.now (body_value body.now)))) room.old }
 {
     if tell_frame(head, body, START, room).is_none() {

@@ -2,6 +2,7 @@ use Rattle.std.proofs.Common.{◌≡◌, ◌++◌, length, drop, refl, sym, ap, 
 use Rattle.bac_npdu_parts.specs.FrameHeads.{frame_with}
 use Rattle.bac_npdu_parts.specs.Frames.{body_value}
 use Rattle.bac_fields.specs.FrameFields.{frame_steps, placed_fields}
+use Rattle.bac_fields.proofs.FramePlaces.{steps_fit}
 use Rattle.bac_fields.proofs.ToldLemmas.{count-told, writes_all, writes_where_it_fits, if_none}
 use Rattle.bac_fields.proofs.appending.write_fields_at_once.Goals as goal
 
@@ -15,4 +16,4 @@ returns-clause-written c = λ fit.
     writes_all c.in_ok-tell_frame.ensures refl (omega (arith, fit, count)) ∙ ap (λ n. fields ++ drop n c.args.room.now) (sym count)
 
 pub returns-in_err-tell_frame-clause-unfit : goal.returns-in_err-tell_frame-clause-unfit
-returns-in_err-tell_frame-clause-unfit c = if_none c.from_residual.result (writes_where_it_fits c.in_err-tell_frame.ensures refl)
+returns-in_err-tell_frame-clause-unfit c = if_none c.from_residual.result (λ fits. writes_where_it_fits c.in_err-tell_frame.ensures refl (steps_fit (frame_with c.args.head.now (body_value c.args.body.now)) fits))
