@@ -9,7 +9,7 @@ use Rattle.bac_tag.specs.Octets.{IsOctets}
 use Rattle.bac_tag.specs.Laws.Octets.{NoGreater-same}
 use Rattle.bac_tag.specs.HeadOctets.{typed, limits, octet, bit_of, least_part, least_head, AreParts}
 use Rattle.bac_tag.specs.Laws.Spelling.{IsLeast-one}
-use Rattle.bac_tag.specs.Spelling.{IsLeast}
+use Rattle.bac_tag.specs.Spelling.{IsLeast, AppendsLeast}
 use Rattle.bac_tag.proofs.HeadOctetLemmas.{parts_are, headed_least, headed_rest}
 use Rattle.bac_productions.specs.Laws.Least.{least_nothing}
 use Rattle.bac_service.specs.declared.kind.Kind.{Kind}
@@ -360,6 +360,10 @@ frame_held f c h small = record { few_fields = omega (arith, frame_two f c h, sm
 
 pub frame_fits : (f : FrameValue) (c : List ℕ) → IsLeast (SpellsFrame f) c → 2 * length c + 2 < 2 ^ 64 → FrameFits f
 frame_fits f c h small = frame_held f c h (omega (arith, small))
+
+-- so does one whose octets are in a vector
+pub appended_fits : (f : FrameValue) (old new : List ℕ) → AppendsLeast (SpellsFrame f) old new → length new < 2 ^ 63 → FrameFits f
+appended_fits f old new a small = frame_held f a.more a.is_least (omega (arith, small, ap length a.new_is, length-append old a.more))
 
 -- each number of its steps has room
 pub steps_fit : (f : FrameValue) → FrameFits f → StepsFit f

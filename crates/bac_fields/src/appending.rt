@@ -11,6 +11,7 @@ use bac_field_parts::Field;
 use bac_field_parts::cursor::Cursor;
 use bac_npdu::{Body, Frame, FrameHead, append_frame};
 use bac_tag::OutOfMemory;
+use bac_tag::layers::or_cut_back;
 
 /// The first octet of a frame, before any field.
 const START: Cursor = Cursor { count: 0, place: 0 };
@@ -73,20 +74,19 @@ pub fn write_fields_at_once(head: &FrameHead<'_>, body: &Body, room: &mut [Field
     Some(tell_frame(head, body, START, room)?.count)
 }
 
-/// Appends the fields of a frame. If memory is refused, `fields` stays as it was.
+/// Appends the fields of a frame that fits. If memory is refused, `fields` stays as it was.
 fn append_places(frame: &Frame, fields: &mut Vec<Field>) -> Result<(), OutOfMemory>
+    requires fits { FrameFits (value_of frame.now) }
     ensures ok { OnOk result (fields.new.items ≡ fields.old.items ++ placed_fields (value_of frame.now)) }
     ensures err { OnErr result (fields.new.items ≡ fields.old.items) }
 {
     let head = frame.head();
-    let start = fields.len();
     let Some(count) = count_fields(&head, &frame.body) else {
-        return Err(OutOfMemory);
+        unreachable!()
     };
-    let Some(end) = start.checked_add(count) else {
-        return Err(OutOfMemory);
-    };
-    fields.resize(end, BLANK)?;
+    let start = fields.len();
+    fields.reserve(count)?;
+    fields.resize(start + count, BLANK)?;
     fill(&head, &frame.body, &mut fields[start..]);
     Ok(())
 }
@@ -95,7 +95,8 @@ fn append_places(frame: &Frame, fields: &mut Vec<Field>) -> Result<(), OutOfMemo
 /// line, in their order. The place of each is counted from the first octet of the frame.
 ///
 /// # Errors
-/// `OutOfMemory` if memory is refused. `octets` and `fields` then stay as they were.
+/// `OutOfMemory` if memory is refused, and only then: of a frame whose canonical octets are in memory, each number of its
+/// fields fits in a `usize`. `octets` and `fields` then stay as they were.
 ///
 /// # Examples
 /// ```rust
@@ -124,11 +125,8 @@ pub fn append_fields(
     ensures unchanged_octets { OnErr result (octets.new.items ≡ octets.old.items) }
     ensures unchanged_fields { OnErr result (fields.new.items ≡ fields.old.items) }
 {
-    let start = fields.len();
-    append_places(frame, fields)?;
-    let written = append_frame(frame, octets);
-    if written.is_err() {
-        fields.truncate(start);
-    }
-    written
+    let start = octets.len();
+    append_frame(frame, octets)?;
+    let placed = append_places(frame, fields);
+    or_cut_back(placed, start, octets)
 }

@@ -21,7 +21,8 @@
 //! (`append_fields` and `write_fields` in `appending.rt`), and written once their number is known. If a number did not
 //! fit in a `usize`, a function would return None. Which numbers these are depends only on the steps (`Fits`), so the
 //! second pass succeeds if the first one did. A frame has at most two fields for each of its canonical octets, and two
-//! more. So `write_fields_at_once` needs no first pass where as many fit in the buffer.
+//! more. So `write_fields_at_once` needs no first pass where as many fit in the buffer, and `append_fields`, which appends
+//! the octets first, never meets None.
 //!
 //! The way back is next to the way out: in the file in which the fields of a message are listed, its parts are listed
 //! once more, as a type that implements `Message` of bac_field_parts. Its octets are made by the parts of that crate. The
