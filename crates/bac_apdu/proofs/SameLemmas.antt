@@ -1,88 +1,24 @@
--- APDUs are equal exactly where they are the same APDU.
-use Rattle.std.proofs.Common.{◌≡◌, ℕ, Bool, false, ◌&&◌, nat_eq, List, refl, sym, ap, subst}
+-- Two APDUs that are spelled are the same in each part exactly where they are the same APDU.
+use Rattle.std.proofs.Common.{◌≡◌, ℕ, Bool, ◌&&◌, nat_eq, List, refl, sym, ap, subst}
 use Rattle.std.specs.Bool.{Decides, beq}
 use Rattle.std.specs.Cmp.{unsigned_Decides, booleans_Decides}
-use Rattle.std.specs.Cmp.Lexicographic.{pointwise, bytes_decides}
+use Rattle.std.specs.Cmp.Lexicographic.{bytes_decides}
 use Rattle.bac_tag.proofs.HeadOctetLemmas.{headed_rest}
 use Rattle.bac_data.specs.OpenValue.{Elements, AreElements}
 use Rattle.bac_data.specs.Spells.{SpellsOpen}
 use Rattle.bac_service.specs.declared.kind.Kind.{Kind}
 use Rattle.bac_service.specs.declared.kind.Kind.TheVariants as kind
 use Rattle.bac_service.specs.declared.service.Service.{Service}
-use Rattle.bac_service.specs.contracts.service.ServicePartialEq.TheImpl as of_service
 use Rattle.bac_service.specs.Services.{ServiceValue, value_of as service_of}
-use Rattle.bac_service.proofs.SameLemmas.{Decided, by_parts, both, pairs, service_is, services_tell}
+use Rattle.bac_service.proofs.SameLemmas.{by_parts, both, pairs, service_is, services_tell}
 use Rattle.bac_apdu.specs.declared.confirmed_request.RequestHead.{RequestHead}
 use Rattle.bac_apdu.specs.declared.segment.SegHead.{SegHead}
-use Rattle.bac_apdu.specs.declared.segment.SegHead.TheVariants.{Request, Ack}
 use Rattle.bac_apdu.specs.declared.segment.Segment.{Segment}
 use Rattle.bac_apdu.specs.declared.apdu.Apdu.{Apdu}
 use Rattle.bac_apdu.specs.declared.apdu.Apdu.TheVariants as held
-use Rattle.bac_apdu.specs.contracts.segment.SegHeadPartialEq.TheImpl as of_head
-use Rattle.bac_apdu.specs.contracts.apdu.ApduPartialEq.TheImpl as derived
 use Rattle.bac_apdu.specs.Apdus.{ApduValue, confirmed_request, unconfirmed_request, simple_ack, complex_ack, segment_ack, error, reject, abort, segment, head_of, SpellsServiceOf, SpellsBody, SpellsApdu, value_of}
-
--- ---- what the derives answer
-
-abbrev same_service : Service → Service → Bool
-same_service = of_service.eq-value.it
-
-abbrev same_request : RequestHead → RequestHead → Bool
-same_request a b = nat_eq a.invoke b.invoke && (beq a.sa b.sa && (nat_eq a.segs b.segs && nat_eq a.resp b.resp))
-
-abbrev same_head : SegHead → SegHead → Bool
-same_head (Request a) (Request b) = same_request a b
-same_head (Ack i) (Ack j) = nat_eq i j
-same_head _ _ = false
-
-head_is : (a b : SegHead) → of_head.eq-value.it a b ≡ same_head a b
-head_is (Request a) (Request b) = refl
-head_is (Ack i) (Ack j) = refl
-head_is (Request a) (Ack j) = refl
-head_is (Ack i) (Request b) = refl
-
-abbrev same_segment : Segment → Segment → Bool
-same_segment a b =
-    pointwise nat_eq a.piece.items b.piece.items && (same_head a.head b.head && (nat_eq a.seq b.seq && (nat_eq a.window b.window && (beq a.more b.more && nat_eq a.choice b.choice))))
-
-abbrev pub same_apdu : Apdu → Apdu → Bool
-same_apdu (held.Confirmed a) (held.Confirmed b) = same_request a.head b.head && same_service a.service b.service
-same_apdu (held.Unconfirmed a) (held.Unconfirmed b) = same_service a b
-same_apdu (held.SimpleAck i c) (held.SimpleAck j d) = nat_eq i j && nat_eq c d
-same_apdu (held.ComplexAck a) (held.ComplexAck b) = nat_eq a.invoke b.invoke && same_service a.service b.service
-same_apdu (held.SegmentAck i n s q w) (held.SegmentAck j m t r v) = nat_eq i j && (beq n m && (beq s t && (nat_eq q r && nat_eq w v)))
-same_apdu (held.Error a) (held.Error b) = nat_eq a.invoke b.invoke && same_service a.service b.service
-same_apdu (held.Reject i r) (held.Reject j s) = nat_eq i j && nat_eq r s
-same_apdu (held.Abort i s r) (held.Abort j t q) = nat_eq i j && (beq s t && nat_eq r q)
-same_apdu (held.Segment a) (held.Segment b) = same_segment a b
-same_apdu _ _ = false
-
-pub apdu_is : (a b : Apdu) → derived.eq-value.it a b ≡ same_apdu a b
-apdu_is (held.Segment a) (held.Segment b) =
-    ap (λ (r : Bool). pointwise nat_eq a.piece.items b.piece.items && (r && (nat_eq a.seq b.seq && (nat_eq a.window b.window && (beq a.more b.more && nat_eq a.choice b.choice))))) (head_is a.head b.head)
-apdu_is (held.Confirmed a) (held.Confirmed b) = refl
-apdu_is (held.Unconfirmed a) (held.Unconfirmed b) = refl
-apdu_is (held.SimpleAck i c) (held.SimpleAck j d) = refl
-apdu_is (held.ComplexAck a) (held.ComplexAck b) = refl
-apdu_is (held.SegmentAck i n s q w) (held.SegmentAck j m t r v) = refl
-apdu_is (held.Error a) (held.Error b) = refl
-apdu_is (held.Reject i r) (held.Reject j s) = refl
-apdu_is (held.Abort i s r) (held.Abort j t q) = refl
-apdu_is _ _ = refl
-
--- ---- what they decide
-
-requests : Decided same_request
-requests v w =
-    by_parts (same_request v w) (pairs unsigned_Decides (pairs booleans_Decides (pairs unsigned_Decides unsigned_Decides)) (v.invoke, (v.sa, (v.segs, v.resp))) (w.invoke, (w.sa, (w.segs, w.resp))))
-    (λ e. λ i. record { invoke = (e i).0; sa = (e i).1.0; segs = (e i).1.1.0; resp = (e i).1.1.1 })
-    (λ e. λ i. ((e i).invoke, ((e i).sa, ((e i).segs, (e i).resp))))
-
-heads : Decided same_head
-heads (Request a) (Request b) = by_parts (same_request a b) (requests a b) (λ e. ap Request e) (λ e. cc)
-heads (Ack i) (Ack j) = by_parts (nat_eq i j) (unsigned_Decides i j) (λ e. ap Ack e) (λ e. cc)
-heads (Request a) (Ack j) = (λ h. absurd (cc h), λ e. absurd (cc e))
-heads (Ack i) (Request b) = (λ h. absurd (cc h), λ e. absurd (cc e))
+use Rattle.bac_apdu.specs.Same.{same_service, same_request, same_segment, same_apdu}
+use Rattle.bac_apdu.specs.Laws.Same.{requests, heads}
 
 -- what a segment says
 abbrev SegmentFields : Type 0

@@ -13,3 +13,5 @@ pub mod Apdus
 pub mod Cases
 pub mod Decoded
 pub mod FormerApdus
+pub mod Same
+pub mod Laws

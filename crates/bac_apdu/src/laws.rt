@@ -31,12 +31,12 @@ pub fn canonical_octets_tell_the_apdu()
     apdus_have_one_value();
 }
 
-/// Returns `a == b`: two APDUs that are spelled are equal exactly where they are the same APDU.
+/// Returns `a == b`: two APDUs that are spelled are equal exactly where they are the same APDU. All that a program holds
+/// are spelled, so the clause `same` of [`Apdu::eq`](crate::Apdu::eq) says it of any two.
 pub fn equal_apdus_are_the_same(a: &Apdu, b: &Apdu) -> bool
     ensures { (c d : List ℕ) → SpellsApdu (value_of a.now) c → SpellsApdu (value_of b.now) d → IsTrue result ↔ (value_of a.now ≡ value_of b.now) }
 {
-    bac_data::laws::only_open_values_are_spelled();
-    a == b
+    *a == *b
 }
 
 /// An octet is below 256.

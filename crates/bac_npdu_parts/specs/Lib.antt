@@ -11,4 +11,5 @@ pub mod HeadsRead
 pub mod Cases
 pub mod Refused
 pub mod FormerFrames
+pub mod Same
 pub mod Laws

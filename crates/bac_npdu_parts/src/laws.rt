@@ -53,12 +53,12 @@ pub fn octets_tell_small_frames()
     bac_apdu::laws::octets_tell_small_apdus();
 }
 
-/// Returns `a == b`: two frames that are spelled are equal exactly where they are the same frame.
+/// Returns `a == b`: two frames that are spelled are equal exactly where they are the same frame. All that a program
+/// holds are spelled, so the clause `same` of [`Frame::eq`](crate::Frame::eq) says it of any two.
 pub fn equal_frames_are_the_same(a: &Frame, b: &Frame) -> bool
     ensures { (c d : List ℕ) → SpellsFrame (value_of a.now) c → SpellsFrame (value_of b.now) d → IsTrue result ↔ (value_of a.now ≡ value_of b.now) }
 {
-    bac_data::laws::only_open_values_are_spelled();
-    a == b
+    *a == *b
 }
 
 /// A list begins a frame exactly where it begins a frame with an APDU or a frame with a network message.

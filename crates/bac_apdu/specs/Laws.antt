@@ -1,0 +1,2 @@
+-- What only proofs need: laws of the definitions, which no contract cites.
+pub mod Same
