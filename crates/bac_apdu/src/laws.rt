@@ -1,6 +1,6 @@
 //! Laws of the definitions.
 
-ghost use Rattle.std.specs.Prelude.{◌≡◌, ◌<◌, ◌↔◌, ◌⊎◌, ℕ, Bool, IsTrue, List, ◌∷◌, ◌++◌, length};
+ghost use Rattle.std.specs.Prelude.{◌≡◌, ◌<◌, ◌↔◌, ◌⊎◌, ℕ, Bool, List, ◌∷◌, ◌++◌, length};
 ghost use Rattle.bac_tag.specs.Octets.{IsOctets};
 ghost use Rattle.bac_tag.specs.Spelling.{IsLeast, IsViable, IsPartway};
 ghost use Rattle.bac_apdu.specs.declared.segment.SegHead.{SegHead};
@@ -29,14 +29,6 @@ pub fn canonical_octets_tell_the_apdu()
     ensures { (v w : ApduValue) (c d : List ℕ) → IsLeast (SpellsApdu v) c → IsLeast (SpellsApdu w) d → (v ≡ w) ↔ (c ≡ d) }
 {
     apdus_have_one_value();
-}
-
-/// Returns `a == b`: two APDUs that are spelled are equal exactly where they are the same APDU. All that a program holds
-/// are spelled, so the clause `same` of [`Apdu::eq`](crate::Apdu::eq) says it of any two.
-pub fn equal_apdus_are_the_same(a: &Apdu, b: &Apdu) -> bool
-    ensures { (c d : List ℕ) → SpellsApdu (value_of a.now) c → SpellsApdu (value_of b.now) d → IsTrue result ↔ (value_of a.now ≡ value_of b.now) }
-{
-    *a == *b
 }
 
 /// An octet is below 256.

@@ -34,7 +34,7 @@ at_none {X} f n o e h = subst (λ (p : Option X). unwrap_or (option_map f p) 0 �
 
 -- the line of no frame begins with a digit
 no_text : (line : List ℕ) (digit : ℕ) → digit < 10 → slice_index line 0 ≡ 48 + digit → IsNoLine line
-no_text line digit small is f octets least o e = omega (arith, small, is, ap (λ (l : List ℕ). slice_index l 0) e)
+no_text line digit small is f octets least e = omega (arith, small, is, ap (λ (l : List ℕ). slice_index l 0) e)
 
 -- no number comes before a line that begins with no digit
 pub only_alone : (line : List ℕ) → IsTrue (clear is_decimal line) → IsNoLine line → HasNoLine line
@@ -76,7 +76,7 @@ module _ (line : List ℕ) (digit : ℕ) (small : digit < 10) (is : slice_index 
 
 pub refused_line : (line stripped : List ℕ) (number : ℕ) (fault : PackFault) → stripped ≡ without_return line → IsRefused (IsUnread stripped) number fault → IsRefused (StandsForNone line) number fault
 refused_line line stripped number (Unreadable at column) same h =
-    (h.0, (subst (λ (l : List ℕ). IsColumn l column) same h.1.0, λ octets each_octet s. h.1.1 s.rest (subst (λ (l : List ℕ). IsNumbered l s.rest) (sym same) s.numbered) s.frame octets s.canonical each_octet s.is_line))
+    (h.0, (subst (λ (l : List ℕ). IsColumn l column) same h.1.0, λ octets s. h.1.1 s.rest (subst (λ (l : List ℕ). IsNumbered l s.rest) (sym same) s.numbered) s.frame octets s.canonical s.is_line))
 refused_line line stripped number (NotHex at) same h = absurd h.1
 refused_line line stripped number (RecordTooLong at) same h = absurd h.1
 refused_line line stripped number (Refused at) same h = absurd h.1

@@ -1,7 +1,6 @@
 -- What reading a line gives.
 use Rattle.std.specs.Prelude.{◌≡◌, ℕ, ◌+◌, ◌≤◌, List, ◌++◌, length, cond, nat_lt}
 use Rattle.bac_tag.specs.Spelling.{AppendsLeast, IsLeast}
-use Rattle.bac_tag.specs.Octets.{IsOctets}
 use Rattle.bac_npdu_parts.specs.Frames.{FrameValue, SpellsFrame}
 use Rattle.bac_text.specs.FrameText.{text}
 use Rattle.bac_field_parts.specs.declared.field.Field.{Field}
@@ -15,14 +14,14 @@ pub record IsRead (line old new : List ℕ) : Type 0 where
   pub is_line : line ≡ text frame
   pub appended : AppendsLeast (SpellsFrame frame) old new
 
--- The line is that of no other frame: of each frame whose text it is, and that has canonical octets, each of them an octet,
--- these are the octets that were appended.
+-- The line is that of no other frame: of each frame whose text it is, and that has canonical octets, these are the octets that
+-- were appended.
 abbrev pub IsOnlyLine : List ℕ → List ℕ → List ℕ → Type 0
-IsOnlyLine line old new = (frame : FrameValue) (octets : List ℕ) → IsLeast (SpellsFrame frame) octets → IsOctets octets → line ≡ text frame → new ≡ old ++ octets
+IsOnlyLine line old new = (frame : FrameValue) (octets : List ℕ) → IsLeast (SpellsFrame frame) octets → line ≡ text frame → new ≡ old ++ octets
 
--- Each frame whose text the line is, and that has canonical octets, each of them an octet, is this frame.
+-- Each frame whose text the line is, and that has canonical octets, is this frame.
 abbrev pub IsOnlyFrame : List ℕ → FrameValue → Type 0
-IsOnlyFrame line frame = (other : FrameValue) (octets : List ℕ) → IsLeast (SpellsFrame other) octets → IsOctets octets → line ≡ text other → other ≡ frame
+IsOnlyFrame line frame = (other : FrameValue) (octets : List ℕ) → IsLeast (SpellsFrame other) octets → line ≡ text other → other ≡ frame
 
 -- Some octets spell the frame.
 abbrev pub IsFrame : FrameValue → Type 0
@@ -35,9 +34,9 @@ pub record SaysFrame (line contents : List ℕ) (fields : List Field) : Type 0 w
   pub is_line : line ≡ text frame
   pub are_fields : AreFieldsOf contents fields frame
 
--- The line is the text of no frame that has canonical octets, each of them an octet.
+-- The line is the text of no frame that has canonical octets.
 abbrev pub IsNoLine : List ℕ → Type 0
-IsNoLine line = (frame : FrameValue) (octets : List ℕ) → IsLeast (SpellsFrame frame) octets → IsOctets octets → line ≡ text frame → ⊥
+IsNoLine line = (frame : FrameValue) (octets : List ℕ) → IsLeast (SpellsFrame frame) octets → line ≡ text frame → ⊥
 
 -- If the fault has a place, P holds of the place.
 abbrev pub IfStop : LineFault → (ℕ → Type 0) → Type 0

@@ -1,6 +1,5 @@
 -- Texts of the lines that bactool show writes.
 use Rattle.std.specs.Prelude.{◌≡◌, ◌⊎◌, ℕ, ◌+◌, ◌<◌, ◌≤◌, List, ◌∷◌, ◌++◌, length, codes}
-use Rattle.bac_tag.specs.Octets.{IsOctets}
 use Rattle.bac_tag.specs.Spelling.{IsLeast}
 use Rattle.bac_npdu_parts.specs.Frames.{FrameValue, SpellsFrame}
 use Rattle.bac_text.specs.FrameText.{text}
@@ -50,7 +49,7 @@ HasNoLine line = (rest : List ℕ) → IsNumbered line rest → IsNoLine rest
 
 -- The line is that of no frame by IsShownAs, whatever canonical octets the frame has.
 abbrev pub IsShownAsNone : List ℕ → Type 0
-IsShownAsNone line = (octets : List ℕ) → IsOctets octets → IsShownAs line octets → ⊥
+IsShownAsNone line = (octets : List ℕ) → IsShownAs line octets → ⊥
 
 -- The fault is Unreadable, for a line that lost its CR: it is that of no frame (HasNoLine), and the fault has a column of it.
 abbrev pub IsUnread : List ℕ → PackFault → Type 0

@@ -1,2 +1,4 @@
 mod StepLemmas
 mod MeaningLemmas
+mod ValueOctets
+pub mod FrameOctets

@@ -1,6 +1,6 @@
 //! Laws of the definitions.
 
-ghost use Rattle.std.specs.Prelude.{◌≡◌, ◌↔◌, ◌⊎◌, ℕ, ◌<◌, ◌≤◌, IsTrue, List, [], ◌∷◌, length};
+ghost use Rattle.std.specs.Prelude.{◌≡◌, ◌↔◌, ◌⊎◌, ℕ, ◌<◌, ◌≤◌, List, [], ◌∷◌, length};
 ghost use Rattle.bac_tag.specs.HeadOctets.{AreParts};
 ghost use Rattle.bac_tag.specs.Octets.{IsOctets};
 ghost use Rattle.bac_tag.specs.Spelling.{IsLeast, IsViable, IsPartway};
@@ -51,14 +51,6 @@ pub fn octets_tell_small_frames()
     ensures { (f : FrameValue) (b : List ℕ) → SpellsFrame f b → begins_small b ≡ is_small f }
 {
     bac_apdu::laws::octets_tell_small_apdus();
-}
-
-/// Returns `a == b`: two frames that are spelled are equal exactly where they are the same frame. All that a program
-/// holds are spelled, so the clause `same` of [`Frame::eq`](crate::Frame::eq) says it of any two.
-pub fn equal_frames_are_the_same(a: &Frame, b: &Frame) -> bool
-    ensures { (c d : List ℕ) → SpellsFrame (value_of a.now) c → SpellsFrame (value_of b.now) d → IsTrue result ↔ (value_of a.now ≡ value_of b.now) }
-{
-    *a == *b
 }
 
 /// A list begins a frame exactly where it begins a frame with an APDU or a frame with a network message.

@@ -10,12 +10,12 @@ returns-then-not-branch-clause-none c =
 pub returns-in-Ok-clause-read : goal.returns-in-Ok-clause-read
 returns-in-Ok-clause-read c =
     λ whole. read_of c.args.line.now c.deref-2.result.now c.args.out.now.items c.append_octets.new.out.items c.deref.result.now c.scan.new.said (c.in_ok-scan.ensures.sound c.if-not-branch.false) c.deref-2.ensures.value c.deref.ensures.value
-    c.the_line_is_the_fields.ensures c.type_inv.out c.in-Ok.ensures.made
+    c.the_line_is_the_fields.ensures c.in-Ok.ensures.made
 
 pub returns-in-Ok-clause-says : goal.returns-in-Ok-clause-says
 returns-in-Ok-clause-says c =
     λ whole. says_of c.args.line.now c.deref-2.result.now c.args.out.now.items c.append_octets.new.out.items c.deref.result.now c.scan.new.said (c.in_ok-scan.ensures.sound c.if-not-branch.false) c.deref-2.ensures.value c.deref.ensures.value
-    c.the_line_is_the_fields.ensures c.type_inv.out c.in-Ok.ensures.made
+    c.the_line_is_the_fields.ensures c.in-Ok.ensures.made
 
 pub returns-in-Err-2-clause-none : goal.returns-in-Err-2-clause-none
 returns-in-Err-2-clause-none c =
