@@ -4,29 +4,12 @@
 ghost use Rattle.std.specs.Prelude.{◌≡◌, ◌<◌, ◌≤◌, ◌+◌, ◌++◌, IfOk, OnErr, OnOk, length, replicate, take};
 ghost use Rattle.std.specs.Fmt.{decimal};
 ghost use Rattle.bac_tag.specs.Octets.{Extends};
-ghost use Rattle.bac_record.specs.Digits.{hexadecimal};
 
-use bac_record::layers::{make_room, put_decimal, put_hexadecimal, put_octets, put_word};
+use bac_record::layers::{make_room, put_decimal, put_octets, put_word};
 use bac_tag::OutOfMemory;
 
 /// Room for a few short words and numbers, which are written into it without asking for room again.
 pub(crate) const ROOM: usize = 128;
-
-/// Writes a word, and returns where it ends.
-#[inline(always)]
-pub(crate) fn write_word<const N: usize>(
-    out: &mut Vec<u8>,
-    at: usize,
-    word: &[u8; N],
-) -> Result<usize, OutOfMemory>
-    requires { at ≤ length out.old.items }
-    ensures text { IfOk result (λ end. take end out.new.items ≡ take at out.old.items ++ word.now) }
-    ensures end { IfOk result (λ end. end ≤ length out.new.items) }
-    ensures err { OnErr result (Extends (take at out.old.items) out.new.items) }
-{
-    make_room(out, at, N)?;
-    Ok(put_word(out.as_mut_slice(), at, word))
-}
 
 /// Writes the octets of a text, and returns where they end.
 #[inline(always)]
@@ -54,22 +37,6 @@ pub(crate) fn write_number(out: &mut Vec<u8>, at: usize, number: u64) -> Result<
 {
     make_room(out, at, ROOM)?;
     Ok(put_decimal(out.as_mut_slice(), at, number))
-}
-
-/// Writes two digits for each octet, and returns where they end.
-#[inline(always)]
-pub(crate) fn write_digits(
-    out: &mut Vec<u8>,
-    at: usize,
-    octets: &[u8],
-) -> Result<usize, OutOfMemory>
-    requires { at ≤ length out.old.items }
-    ensures text { IfOk result (λ end. take end out.new.items ≡ take at out.old.items ++ hexadecimal octets.now) }
-    ensures end { IfOk result (λ end. end ≤ length out.new.items) }
-    ensures err { OnErr result (Extends (take at out.old.items) out.new.items) }
-{
-    make_room(out, at, 2 * octets.len())?;
-    Ok(put_hexadecimal(out.as_mut_slice(), at, octets))
 }
 
 /// Appends a number in decimal digits.

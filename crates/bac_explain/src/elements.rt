@@ -77,6 +77,7 @@ fn front_head(octets: &[u8]) -> Option<(TagHead, usize)>
 
 /// Returns the piece that begins at a place, if `depth` groups are open there: a tag head and its contents, as far as
 /// the octets reach. If they end within the head, or it is none, the piece is all octets that are left.
+#[inline(always)]
 pub(crate) fn element_at(octets: &[u8], typed: bool, place: usize, depth: usize) -> Piece
     requires { place < length octets.now }
     ensures { IsElement typed octets.now depth place result }

@@ -5,11 +5,11 @@ ghost use Rattle.bac_tag.specs.Octets.{Extends};
 ghost use Rattle.bac_explain.specs.Lines.{AreLines, further_line, further_lines, piece_lines};
 ghost use Rattle.bac_explain.specs.Words.{IsSaid};
 
-use crate::appending::{write_digits, write_word};
 use crate::beginnings::{WIDTH, first_octets, write_beginning, write_place};
 use crate::piece::Piece;
 use crate::words::write_said;
 use bac_tag::OutOfMemory;
+use bac_text::layers::{write_digits, write_word};
 
 /// Writes a line of the octets of a piece after its first line. Returns where it ends.
 fn write_further(

@@ -5,7 +5,7 @@ ghost use Rattle.bac_tag.specs.Octets.{Extends};
 ghost use Rattle.bac_explain.specs.Lines.{piece_lines};
 ghost use Rattle.bac_explain.specs.NamedLines.{AreDataLines, AreLinesBeside, AreLinesOf, AreNamedLines, ArePieceLines, IsNote, IsSaidBeside, IsSaidWith, begins_between, data_part, hint_for, is_data, left_for};
 
-use crate::appending::{write_octets, write_word};
+use crate::appending::write_octets;
 use crate::beginnings::{write_beginning, write_front};
 use crate::label::{fields_ahead, label_of};
 use crate::lines::write_end;
@@ -14,6 +14,7 @@ use crate::piece::{Kind, Piece};
 use crate::words::write_said;
 use bac_field_parts::Field;
 use bac_tag::OutOfMemory;
+use bac_text::layers::write_word;
 
 /// Writes the first canonical octets of a piece, if they are not its own.
 fn write_note(

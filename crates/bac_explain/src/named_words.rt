@@ -7,13 +7,14 @@ ghost use Rattle.bac_explain.specs.declared.piece.Kind.TheVariants.{Choice};
 ghost use Rattle.bac_explain.specs.Labels.{IsNamed, IsNamedOf, IsSaidOfNamed, data_words, object_words, part_words};
 ghost use Rattle.bac_explain.specs.Words.{bracketed, numbered_words};
 
-use crate::appending::{ROOM, write_number, write_octets, write_word};
+use crate::appending::{ROOM, write_number, write_octets};
 use crate::label::Label;
 use crate::piece::{Kind, Piece};
 use crate::tag_words::{put_bracketed, write_tag};
 use crate::words::{contents_of, write_kind, write_said};
 use bac_record::layers::{make_room, put_decimal, put_octets, put_word};
 use bac_tag::{OutOfMemory, TagHead};
+use bac_text::layers::write_word;
 
 /// Writes an object identifier with these bits, as type and instance, at a place with capacity for 41 octets. Returns where
 /// it ends.
@@ -57,6 +58,7 @@ fn put_context_number(room: &mut [u8], at: usize, number: u8) -> usize
 }
 
 /// Writes the word of a part, and its number. Returns where they end.
+#[inline(always)]
 fn write_part(out: &mut Vec<u8>, at: usize, label: Label) -> Result<usize, OutOfMemory>
     requires { at ≤ length out.old.items }
     ensures text { IfOk result (λ end. take end out.new.items ≡ take at out.old.items ++ part_words label) }
@@ -68,6 +70,7 @@ fn write_part(out: &mut Vec<u8>, at: usize, label: Label) -> Result<usize, OutOf
 }
 
 /// Writes the number of a context tag, and the word of a part with its number. Returns where they end.
+#[inline(always)]
 fn write_numbered_part(
     out: &mut Vec<u8>,
     at: usize,
@@ -86,6 +89,7 @@ fn write_numbered_part(
 }
 
 /// Writes the beginning of a group with a word. Returns where it ends.
+#[inline(always)]
 fn write_named_opening(
     out: &mut Vec<u8>,
     at: usize,

@@ -4,8 +4,9 @@ ghost use Rattle.std.specs.Prelude.{◌≡◌, ◌≤◌, ◌++◌, IfOk, OnErr,
 ghost use Rattle.bac_tag.specs.Octets.{Extends};
 ghost use Rattle.bac_explain.specs.Words.{refused_words, sentence_of};
 
-use crate::appending::{write_octets, write_word};
+use crate::appending::write_octets;
 use bac_tag::{OutOfMemory, Why};
+use bac_text::layers::write_word;
 
 /// Returns what a reason means, after a colon.
 fn sentence_of(why: Why) -> &'static str

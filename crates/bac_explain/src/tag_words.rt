@@ -5,10 +5,10 @@ ghost use Rattle.std.specs.Fmt.{decimal};
 ghost use Rattle.bac_tag.specs.Octets.{Extends};
 ghost use Rattle.bac_explain.specs.Words.{IsSaidOfTag, IsSaidOfValue, IsSaidUnjudged, IsValue, bracketed, contents_words, digit_words};
 
-use crate::appending::{ROOM, write_digits, write_number, write_word};
+use crate::appending::{ROOM, write_number};
 use bac_record::layers::{make_room, put_decimal, put_word};
 use bac_tag::{OutOfMemory, TagHead};
-use bac_text::layers::write_primitive;
+use bac_text::layers::{write_digits, write_primitive, write_word};
 use bac_value::PrimRef;
 use bac_value::layers::are_written;
 

@@ -216,6 +216,7 @@ impl Name {
     }
 
     /// Returns the name with this number, or None.
+    #[inline(always)]
     pub fn of_number(number: u32) -> Option<Name>
         ensures some { (name : Name) → number ≡ number_of name → result ≡ Some name }
         ensures number { IfSome result (λ name. number_of name ≡ number) }
@@ -331,6 +332,7 @@ impl Name {
 }
 
 /// Returns the name of the frame, or of the head of an APDU with this number, which is below 40, or None.
+#[inline(always)]
 fn head_of_number(number: u32) -> Option<Name>
     ensures some { number < 40 → (name : Name) → number ≡ number_of name → result ≡ Some name }
     ensures number { IfSome result (λ name. number_of name ≡ number) }
@@ -368,6 +370,7 @@ fn head_of_number(number: u32) -> Option<Name>
 }
 
 /// Returns the name of a network message with this number, which is 40 to 59, or None.
+#[inline(always)]
 fn message_of_number(number: u32) -> Option<Name>
     ensures some { (40 ≤ number) × (number < 60) → (name : Name) → number ≡ number_of name → result ≡ Some name }
     ensures number { IfSome result (λ name. number_of name ≡ number) }
@@ -390,6 +393,7 @@ fn message_of_number(number: u32) -> Option<Name>
 }
 
 /// Returns the name of a service or of one of its parts with this number, which is 60 to 109, or None.
+#[inline(always)]
 fn service_of_number(number: u32) -> Option<Name>
     ensures some { (60 ≤ number) × (number < 110) → (name : Name) → number ≡ number_of name → result ≡ Some name }
     ensures number { IfSome result (λ name. number_of name ≡ number) }
@@ -425,6 +429,7 @@ fn service_of_number(number: u32) -> Option<Name>
 }
 
 /// Returns the name of structure, or of an element of an open value with this number, which is 110 and above, or None.
+#[inline(always)]
 fn value_of_number(number: u32) -> Option<Name>
     ensures some { 110 ≤ number → (name : Name) → number ≡ number_of name → result ≡ Some name }
     ensures number { IfSome result (λ name. number_of name ≡ number) }

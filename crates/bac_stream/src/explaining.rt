@@ -74,6 +74,7 @@ impl Explain {
     ///
     /// # Errors
     /// The refusal of [`decode_marked`]. In mode Strict also `NotCanonical` at the mark.
+    #[inline(always)]
     fn accepted(self, octets: &[u8]) -> Result<(Frame, Option<usize>), Refusal>
         ensures accepted { IfOk result (λ found. IsFrameOf self.mode octets.now (value_of found.0) found.1) }
         ensures refused { IfErr result (λ refusal. refusal.why ≢ why.OutOfMemory → IsRefusedBy self.mode octets.now refusal) }

@@ -9,13 +9,10 @@ use bac_record::layers::{make_room, put_decimal, put_hexadecimal, put_word};
 use bac_tag::OutOfMemory;
 use bac_value::{Enumerated, Instance, ObjectId, Priority};
 
-/// Writes two digits for each octet.
+/// Writes two digits for each octet at a place of a vector, and returns where they end. If memory is refused, what was
+/// before the place is still there.
 #[inline]
-pub(crate) fn write_digits(
-    out: &mut Vec<u8>,
-    at: usize,
-    octets: &[u8],
-) -> Result<usize, OutOfMemory>
+pub fn write_digits(out: &mut Vec<u8>, at: usize, octets: &[u8]) -> Result<usize, OutOfMemory>
     requires { at ≤ length out.old.items }
     ensures text { IfOk result (λ end. take end out.new.items ≡ take at out.old.items ++ hexadecimal octets.now) }
     ensures end { IfOk result (λ end. end ≤ length out.new.items) }

@@ -111,9 +111,10 @@ pub(crate) fn write_named<T: HasShortText, const N: usize>(
     Ok(put_field(out.as_mut_slice(), at, name, part))
 }
 
-/// Writes a word.
+/// Writes a word at a place of a vector, and returns where it ends. If memory is refused, what was before the place is
+/// still there.
 #[inline(always)]
-pub(crate) fn write_word<const N: usize>(
+pub fn write_word<const N: usize>(
     out: &mut Vec<u8>,
     at: usize,
     word: &[u8; N],
