@@ -513,7 +513,7 @@ static void try_without_memory(const struct frame *frame)
     EXPECT(most_held == 0);
 }
 
-/* bactool_explain and bactool_explain_text say what bactool_check said. The first piece has words, and there are lines. */
+/* bactool_explain and bactool_explain_text say what bactool_check said. The first pieces have words, and there are lines. */
 static void try_explained(const struct frame *frame, uint32_t code, struct bactool_outcome checked)
 {
     struct bactool_outcome told = UNTOLD;
@@ -521,6 +521,9 @@ static void try_explained(const struct frame *frame, uint32_t code, struct bacto
     EXPECT(bactool_explain(frame->octets, frame->length, pieces, 16, &told) == code);
     EXPECT(tells(told, checked.why, checked.place, 0, told.fields));
     EXPECT(0 < told.fields && told.fields <= frame->length + 1);
+    size_t known = told.fields < 16 ? told.fields : 16;
+    for (size_t k = 0; k < known; k++)
+        EXPECT(bactool_piece_text(pieces + k, frame->octets, frame->length, NULL, 0, &told) == BACTOOL_NO_ROOM);
     EXPECT(bactool_piece_text(pieces, frame->octets, frame->length, (char *)out, sizeof out, &told) == BACTOOL_OK);
     EXPECT(granted(EXPLAIN_TEXT, bactool_explain_text(frame->octets, frame->length, NULL, 0, &told), &told) == code);
     EXPECT(tells(told, checked.why, checked.place, told.count, 0) && told.count > frame->length);

@@ -1,9 +1,8 @@
 //! What a test expects. Each is a function, which is proved once for all tests; what they compare by is proved in bac_tables.
 
-use bac_tables::{holds, mixed, same, same_of};
+use bac_tables::{holds, same, same_of};
 use std::alloc::Global;
 use std::fmt::{Debug, Display};
-use std::io;
 use std::process::Abort;
 
 /// Stops the test unless what it found is what it wanted.
@@ -30,19 +29,4 @@ pub fn assert_holds<C: Debug + Drop>(rt: &impl Abort, is_so: bool, case: C) {
 pub fn assert_shown<D: Display + Drop>(rt: &impl Abort, alloc: Global, value: D, text: &str) {
     let shown = value.to_string(alloc).expect(rt, "memory");
     assert_same(rt, shown.as_str(), text);
-}
-
-/// The word after the name of the test, if there is one: scripts/try-memory draws it.
-pub fn word(rt: &HostRuntime) -> io::Result<Option<String>> {
-    Ok(std::env::args(rt)?.skip(2).next())
-}
-
-/// Octets from the place on that the word says, in no order that repeats: so many, the same ones for the same word.
-pub fn drawn(rt: &impl Abort, alloc: Global, word: Option<String>, count: usize) -> Vec<u8> {
-    let seed = match word {
-        Some(digits) => usize::from(u16::from_str_radix(&digits, 10).expect(rt, "a number")),
-        None => 0,
-    };
-    let octets = mixed(alloc, seed.saturating_add(count)).expect(rt, "memory");
-    Vec::from_slice(alloc, octets.get(seed..).expect(rt, "octets")).expect(rt, "memory")
 }

@@ -1,8 +1,6 @@
 //! Frames with segments, joined to services: worked examples of docs/EXAMPLES.md, and long messages.
 
-ghost use Rattle.std.specs.Prelude.{◌<◌};
-
-use crate::expectations::{assert_holds, assert_same, assert_same_of, drawn, word};
+use crate::expectations::{assert_holds, assert_same, assert_same_of};
 use bac_npdu::{Frame, decode_frame};
 use bac_segment::{Desk, Key, TakeFault};
 use bac_service::encode_service;
@@ -198,65 +196,6 @@ fn long_messages_are_joined(rt: HostRuntime) {
     let contents = mixed(alloc, 59_987).expect(&rt, "memory");
     let answer = enclosed(alloc, &front, &contents, &[0x3F], &[]).expect(&rt, "memory");
     is_joined(&rt, alloc, 12, &answer);
-}
-
-/// How many messages are drawn.
-const MESSAGES: usize = 100;
-
-/// The frame of a segment with this number, of an opaque answer, and of these octets. More are to come unless it is the
-/// last.
-fn opaque_segment(
-    rt: &impl Abort,
-    alloc: Global,
-    number: usize,
-    more: bool,
-    piece: &[u8],
-) -> Frame {
-    let kind = if more { 0x3C } else { 0x38 };
-    let number = u8::try_from(number).ok().expect(rt, "a number");
-    let head = [1, 0, kind, 1, number, 4, 6];
-    let octets = enclosed(alloc, &head, piece, &[], &[]).expect(rt, "memory");
-    decode_frame(alloc, &octets).expect(rt, "a frame")
-}
-
-/// The octets of an opaque answer are joined of pieces of this size.
-fn is_joined_of(rt: &impl Abort, alloc: Global, octets: &[u8], size: usize)
-    requires { 0 < size }
-{
-    let mut desk = Desk::new(alloc).expect(rt, "memory");
-    let mut rest = octets.len();
-    for (number, piece) in octets.chunks(size).enumerate() {
-        rest = rest.saturating_sub(piece.len());
-        let frame = opaque_segment(rt, alloc, number, rest > 0, piece);
-        let answer = join(alloc, &mut desk, 1, &frame).expect(rt, "an answer");
-        let is_whole = matches!(answer, Joined::Message(_));
-        assert_same_of(rt, is_whole, rest == 0, (octets.len(), size, number));
-    }
-    let key = Key { choice: 6, ..KEY };
-    assert_holds(rt, desk.octets(key) == Some(octets), octets.len());
-}
-
-/// The message that is drawn is joined: so many of the octets, of so many pieces at most.
-fn draw_is_joined(rt: &impl Abort, alloc: Global, octets: &[u8], draw: &[u8]) {
-    let [high, low, digits, pieces] = *draw else {
-        panic!(rt; "{draw:?}")
-    };
-    let length = usize::from((u16::from_be_bytes([high, low]) >> (digits % 16)) | 1);
-    let message = octets.get(..length).expect(rt, "so many octets");
-    let size = length.div_ceil(usize::from(pieces) + 1).max(1);
-    is_joined_of(rt, alloc, message, size);
-}
-
-// Of each message its length and the most pieces that it is cut into are drawn, by the word after the name of the test, if
-// there is one. Each number of binary digits of a length is as frequent as another.
-#[test]
-fn drawn_messages_are_joined(rt: HostRuntime) {
-    let alloc = rt.alloc();
-    let octets = mixed(alloc, 65_535).expect(&rt, "memory");
-    let word = word(&rt).expect(&rt, "the words");
-    for draw in drawn(&rt, alloc, word, 4 * MESSAGES).chunks_exact(4) {
-        draw_is_joined(&rt, alloc, &octets, draw);
-    }
 }
 
 /// Joins the frame. If the desk is refused memory, it has no whole message, and the frame is joined a second time.

@@ -1,9 +1,9 @@
 //! APDUs (clause 20.1).
 
-use crate::octets::{FIRST, is_appended};
 use crate::told::Told;
 use bac_apdu::layers::check_apdu;
 use bac_apdu::{Apdu, append_apdu, decode_apdu, decode_apdu_marked, encode_apdu};
+use bac_tables::is_joined;
 use bac_tag::{OutOfMemory, Refusal};
 use std::alloc::Global;
 
@@ -57,7 +57,7 @@ fn written(alloc: Global, apdu: &Apdu, mark: Option<usize>) -> Result<Told, OutO
 }
 
 /// Returns the name of a call that reports something else than that these octets are those of an equal APDU, and are
-/// appended after another octet.
+/// appended after as many others.
 fn dissenting(
     alloc: Global,
     apdu: &Apdu,
@@ -66,7 +66,7 @@ fn dissenting(
     if !is_like(alloc, written, apdu)? {
         return Ok(Some("encode_apdu"));
     }
-    let mut out = Vec::from_slice(alloc, &[FIRST])?;
+    let mut out = Vec::from_slice(alloc, written)?;
     append_apdu(apdu, &mut out)?;
-    Ok((!is_appended(&out, written)).then_some("append_apdu"))
+    Ok((!is_joined(&out, written, written)).then_some("append_apdu"))
 }

@@ -3,9 +3,9 @@
 use crate::changes::mistake;
 use crate::faults::RowFault;
 use crate::field_names::word_of;
-use crate::octets::{FIRST, is_appended};
-use bac_fields::{Field, append_fields};
+use bac_fields::{Field, append_fields, append_octets};
 use bac_npdu::{Frame, decode_frame, encode_frame};
+use bac_tables::is_joined;
 use bac_tag::OutOfMemory;
 use std::alloc::{AllocError, Global};
 
@@ -29,17 +29,27 @@ pub fn found(alloc: Global, octets: &[u8]) -> Result<String, RowFault> {
 /// Returns the fields of a frame that are appended after another one, or what is wrong with what is appended, or with what
 /// its fields come to.
 fn appended(alloc: Global, frame: &Frame) -> Result<String, OutOfMemory> {
-    let mut octets = Vec::from_slice(alloc, &[FIRST])?;
+    let written = encode_frame(alloc, frame)?;
+    let mut octets = Vec::from_slice(alloc, &written)?;
     let mut fields = Vec::from_slice(alloc, &[FIRST_FIELD])?;
     append_fields(frame, &mut octets, &mut fields)?;
-    let written = encode_frame(alloc, frame)?;
-    if let (true, Some((_, own))) = (is_appended(&octets, &written), fields.split_first()) {
+    let is_written = is_joined(&octets, &written, &written);
+    if let (true, Some((_, own))) = (is_written, fields.split_first()) {
         if let Some(words) = mistake(alloc, own, &written)? {
             return Ok(words);
         }
+        if !is_made_behind(alloc, own, &written)? {
+            return Ok(String::from_str(alloc, "append_octets says something else")?);
+        }
     }
-    let is_written = is_appended(&octets, &written);
     Ok(words_after(alloc, is_written, &fields)?)
+}
+
+/// Returns true if the octets of a frame with these fields are appended after as many others.
+fn is_made_behind(alloc: Global, fields: &[Field], written: &[u8]) -> Result<bool, OutOfMemory> {
+    let mut out = Vec::from_slice(alloc, written)?;
+    let is_made = append_octets(fields, written, &mut out).is_ok();
+    Ok(is_made && is_joined(&out, written, written))
 }
 
 /// Returns the fields after the first one in the words of a row, or what is wrong.

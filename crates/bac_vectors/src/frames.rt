@@ -1,12 +1,14 @@
 //! Frames: one NPDU each (clause 6.2).
 
-use crate::octets::{FIRST, is_appended, record_of};
+use crate::octets::record_of;
 use crate::told::Told;
+use crate::{explanations, messages};
 use bac_npdu::{
     Frame, append_frame, check_frame, decode_frame, decode_marked, decode_strict, encode_frame,
     normalise_frame, same_meaning,
 };
-use bac_stream::{Counted, Mode, run_check, run_normalise};
+use bac_stream::{Counted, Mode, read_record, run_check, run_normalise};
+use bac_tables::is_joined;
 use bac_tag::{OutOfMemory, Refusal, Why};
 use std::alloc::{AllocError, Global};
 
@@ -62,17 +64,43 @@ fn dissenting(
     if !matches!(same_meaning(alloc, octets, written), Ok(true)) {
         return Ok(Some("same_meaning"));
     }
+    if let Some(call) = explanations::dissenting(alloc, octets, frame, mark)? {
+        return Ok(Some(call));
+    }
+    if let Some(call) = messages::dissenting(alloc, frame, written.len()) {
+        return Ok(Some(call));
+    }
+    Ok(records_dissenting(alloc, octets, mark, written)?)
+}
+
+/// Returns the name of a call on the record of the octets, if they have one, that reports something else than that they
+/// first differ at `mark` from these canonical ones.
+fn records_dissenting(
+    alloc: Global,
+    octets: &[u8],
+    mark: Option<usize>,
+    written: &[u8],
+) -> Result<Option<&'static str>, AllocError> {
     match record_of(alloc, octets)? {
-        Some(record) => Ok(runs_dissenting(alloc, &record, mark, written)?),
+        Some(record) if !is_read(alloc, &record, octets) => Ok(Some("read_record")),
+        Some(record) => runs_dissenting(alloc, &record, mark, written),
         None => Ok(None),
     }
 }
 
-/// Returns true if these octets of the frame are appended after another octet.
+/// Returns true if this record is read as these octets.
+fn is_read(alloc: Global, record: &[u8], octets: &[u8]) -> bool {
+    match read_record(alloc, &mut Counted::new(record)) {
+        Ok(Some(read)) => read.as_slice() == octets,
+        _ => false,
+    }
+}
+
+/// Returns true if these octets of the frame are appended after as many others.
 fn is_written_after(alloc: Global, frame: &Frame, written: &[u8]) -> Result<bool, OutOfMemory> {
-    let mut out = Vec::from_slice(alloc, &[FIRST])?;
+    let mut out = Vec::from_slice(alloc, written)?;
     append_frame(frame, &mut out)?;
-    Ok(is_appended(&out, written))
+    Ok(is_joined(&out, written, written))
 }
 
 /// Returns true if the octets, decoded without their mark, are this frame, and it has these canonical octets.

@@ -1,12 +1,11 @@
 //! Lines of frames, read back into the octets of the frame.
 
 use crate::faults::RowFault;
-use crate::octets::{FIRST, is_appended};
 use crate::told::digits;
 use bac_fields::{FieldWhy, frame_of};
 use bac_lines::{LineFault, append_octets_of_line, fields_of_line, frame_of_line};
 use bac_npdu::{Frame, encode_frame};
-use bac_tables::octet_of;
+use bac_tables::{is_joined, octet_of};
 use bac_tag::OutOfMemory;
 use bac_text::append_text;
 use std::alloc::{AllocError, Global};
@@ -60,22 +59,22 @@ fn line_of(alloc: Global, text: &str) -> Result<Vec<u8>, RowFault> {
     Ok(line)
 }
 
-/// Returns what a line comes to.
+/// Returns what a line comes to. Its octets are appended after as many as it has itself.
 fn read(alloc: Global, line: &[u8]) -> Result<Answer, OutOfMemory> {
-    let mut out = Vec::from_slice(alloc, &[FIRST])?;
+    let mut out = Vec::from_slice(alloc, line)?;
     match append_octets_of_line(alloc, line, &mut out) {
         Ok(()) => accepted(alloc, line, &out),
         Err(LineFault::OutOfMemory) => Err(OutOfMemory),
-        Err(_) if !is_appended(&out, &[]) => {
+        Err(_) if !is_joined(&out, line, &[]) => {
             Ok(Answer::Differs("append_octets_of_line leaves octets"))
         }
         Err(LineFault::Stop(place)) => stopped(alloc, line, place),
     }
 }
 
-/// Returns what a line comes to of which octets were appended after the first one.
+/// Returns what a line comes to of which octets were appended after it.
 fn accepted(alloc: Global, line: &[u8], out: &[u8]) -> Result<Answer, OutOfMemory> {
-    let [FIRST, written @ ..] = out else {
+    let Some(written) = out.strip_prefix(line) else {
         return Ok(Answer::Differs("append_octets_of_line takes octets away"));
     };
     let frame = match frame_of_line(alloc, line) {

@@ -1,12 +1,15 @@
 //! Frames made of fields: what every call that makes one reports of the same fields.
 
 use crate::field_names::has_contents;
-use crate::octets::{FIRST, is_appended};
 use crate::told::digits;
 use bac_fields::{Field, FieldRefusal, FieldWhy, append_fields, append_octets, frame_of};
 use bac_npdu::{Frame, decode_frame};
+use bac_tables::is_joined;
 use bac_tag::OutOfMemory;
 use std::alloc::{AllocError, Global};
+
+/// What is before the octets that are appended.
+const FRONT: [u8; 1] = [0xAA];
 
 /// What fields come to, if every call reports the same of them.
 #[derive(Drop)]
@@ -32,11 +35,11 @@ impl Made {
 
 /// Returns what fields come to.
 pub fn make(alloc: Global, fields: &[Field], octets: &[u8]) -> Result<Made, OutOfMemory> {
-    let mut out = Vec::from_slice(alloc, &[FIRST])?;
+    let mut out = Vec::from_slice(alloc, &FRONT)?;
     match append_octets(fields, octets, &mut out) {
         Ok(()) => accepted(alloc, fields, octets, &out),
         Err(refusal) if refusal.why == FieldWhy::OutOfMemory => Err(OutOfMemory),
-        Err(_) if !is_appended(&out, &[]) => Ok(Made::Differs("append_octets leaves octets")),
+        Err(_) if !is_joined(&out, &FRONT, &[]) => Ok(Made::Differs("append_octets leaves octets")),
         Err(refusal) => match dissenting(alloc, fields, octets, refusal)? {
             Some(call) => Ok(Made::Differs(call)),
             None => Ok(Made::Refused(refusal)),

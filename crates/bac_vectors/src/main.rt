@@ -7,13 +7,15 @@
 //! # How it works
 //!
 //! The files in `data` have a row for each case, and the program makes the calls that are about a row: plain, marked
-//! and strict decoding, encoding, appending, fields, lines, copies and `==`, the fast ways of the layers, and the runs.
-//! Values of 1,497, 65,535 and 1,048,576 octets and lists of 10,000 items are rows too. `rt ci` runs the program, and
+//! and strict decoding, encoding, appending after as many octets, fields, lines, copies and `==`, constructors, a builder,
+//! segments, explanations, the fast ways of the layers, and the runs. Values of 1,497, 65,535 and 1,048,576 octets and
+//! lists of 10,000 items are rows too, and scripts/try-memory runs rows of drawn sizes. `rt ci` runs the program, and
 //! compares its last line, which counts the rows. A row costs the gate no proof.
 #![tactic(auto)]
 
 mod apdus;
 mod changes;
+mod explanations;
 mod faults;
 mod field_names;
 mod fields;
@@ -24,8 +26,10 @@ mod heads;
 mod lines;
 mod made;
 mod meanings;
+mod messages;
 mod octets;
 mod open_values;
+mod parts;
 mod sections;
 mod services;
 mod streams;

@@ -1,4 +1,4 @@
-//! Octets as texts, of any number, as records, and after another octet.
+//! Octets as texts, of any number, and as records.
 
 use crate::faults::RowFault;
 use bac_tables::{octet_of, place_of};
@@ -106,12 +106,4 @@ pub fn record_of(alloc: Global, octets: &[u8]) -> Result<Option<Vec<u8>>, AllocE
     let mut record = Vec::from_slice(alloc, &length.to_be_bytes())?;
     record.extend_from_slice(octets)?;
     Ok(Some(record))
-}
-
-/// The octet that is in a vector before a call appends others.
-pub const FIRST: u8 = 0xAA;
-
-/// Returns true if octets are the first one, and after it these.
-pub fn is_appended(octets: &[u8], written: &[u8]) -> bool {
-    matches!(octets, [FIRST, rest @ ..] if rest == written)
 }

@@ -3,9 +3,11 @@
 ghost use Rattle.std.specs.Prelude.{◌≤◌};
 
 use crate::faults::RowFault;
+use crate::parts::is_built;
 use crate::told::Told;
 use bac_data::layers::check_any;
 use bac_data::{Any, read_any, read_any_marked, write_any};
+use bac_tables::is_joined;
 use bac_tag::OutOfMemory;
 use std::alloc::Global;
 
@@ -34,7 +36,8 @@ pub fn told(alloc: Global, number: u8, octets: &[u8]) -> Result<Told, RowFault> 
     }
 }
 
-/// Returns the canonical octets of the value that all these octets are, unless a call reports something else.
+/// Returns the canonical octets of the value that all these octets are, unless a call reports something else, or does not
+/// append them after as many others, or a builder does not make the value again.
 fn written(
     alloc: Global,
     number: u8,
@@ -46,7 +49,15 @@ fn written(
 {
     let mut out = Vec::new(alloc);
     write_any(value, number, &mut out)?;
-    let call = dissenting(alloc, number, octets, value)?;
+    let mut behind = Vec::from_slice(alloc, &out)?;
+    write_any(value, number, &mut behind)?;
+    let call = if !is_joined(&behind, &out, &out) {
+        Some("write_any")
+    } else if !is_built(alloc, value, octets) {
+        Some("a builder")
+    } else {
+        dissenting(alloc, number, octets, value)?
+    };
     Ok(Told::unless(call, out, mark))
 }
 

@@ -1,11 +1,11 @@
 //! Services (clause 21).
 
-use crate::octets::{FIRST, is_appended};
 use crate::told::Told;
 use bac_service::layers::check_service;
 use bac_service::{
     Kind, Service, append_service, decode_service, decode_service_marked, encode_service,
 };
+use bac_tables::is_joined;
 use bac_tag::{OutOfMemory, Refusal};
 use std::alloc::Global;
 
@@ -64,7 +64,7 @@ fn written(alloc: Global, service: &Service, mark: Option<usize>) -> Result<Told
 }
 
 /// Returns the name of a call that reports something else than that these octets are those of an equal service, and are
-/// appended after another octet.
+/// appended after as many others.
 fn dissenting(
     alloc: Global,
     service: &Service,
@@ -73,7 +73,7 @@ fn dissenting(
     if !is_like(alloc, written, service)? {
         return Ok(Some("encode_service"));
     }
-    let mut out = Vec::from_slice(alloc, &[FIRST])?;
+    let mut out = Vec::from_slice(alloc, written)?;
     append_service(service, &mut out)?;
-    Ok((!is_appended(&out, written)).then_some("append_service"))
+    Ok((!is_joined(&out, written, written)).then_some("append_service"))
 }

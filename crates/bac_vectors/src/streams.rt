@@ -3,7 +3,8 @@
 use crate::faults::RowFault;
 use bac_npdu::{Frame, append_frame};
 use bac_stream::{
-    Counted, Intake, Mode, RunFault, StreamFault, Summary, run_check, run_normalise, run_show,
+    Counted, Intake, Mode, RunFault, StreamFault, Summary, run_check, run_explain, run_normalise,
+    run_show,
 };
 use bac_tag::Refusal;
 use std::alloc::{AllocError, Global};
@@ -209,7 +210,10 @@ fn is_run(alloc: Global, mode: Mode, stream: &[u8], given: &Given) -> bool {
     let checked = run_check(alloc, mode, &mut Counted::new(stream), &mut output);
     let mut output = Counted::new(Vec::new(alloc));
     let shown = run_show(alloc, mode, &mut Counted::new(stream), &mut output);
-    agrees(given, checked) && agrees(given, shown) && is_normalised(alloc, mode, stream, given)
+    let mut output = Counted::new(Vec::new(alloc));
+    let explained = run_explain(alloc, mode, &mut Counted::new(stream), &mut output);
+    let agree = agrees(given, checked) && agrees(given, shown) && agrees(given, explained);
+    agree && is_normalised(alloc, mode, stream, given)
 }
 
 /// Returns true if a run that continues after refused records has this answer.

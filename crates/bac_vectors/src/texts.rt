@@ -4,6 +4,7 @@ use crate::faults::RowFault;
 use crate::octets::record_of;
 use bac_npdu::{Frame, decode_frame};
 use bac_stream::{Counted, Mode, run_show};
+use bac_tables::is_joined;
 use bac_tag::OutOfMemory;
 use bac_text::append_text;
 use std::alloc::{AllocError, Global};
@@ -13,6 +14,9 @@ pub fn found(alloc: Global, octets: &[u8]) -> Result<String, RowFault> {
     match decode_frame(alloc, octets) {
         Ok(frame) => {
             let line = line_of(alloc, &frame)?;
+            if !is_written_behind(alloc, &frame, &line)? {
+                return Ok(String::from_str(alloc, "append_text says something else")?);
+            }
             Ok(words_of(alloc, octets, &line)?)
         }
         Err(refusal) => Ok(format!(in alloc; "{refusal}")?),
@@ -24,6 +28,13 @@ fn line_of(alloc: Global, frame: &Frame) -> Result<Vec<u8>, OutOfMemory> {
     let mut line = Vec::from_slice(alloc, b"1 ")?;
     push_line(frame, &mut line)?;
     Ok(line)
+}
+
+/// Returns true if this line of the frame, without its number, is appended after as many octets.
+fn is_written_behind(alloc: Global, frame: &Frame, line: &[u8]) -> Result<bool, OutOfMemory> {
+    let mut out = Vec::from_slice(alloc, line)?;
+    push_line(frame, &mut out)?;
+    Ok(is_joined(&out, line, line.get(2..).unwrap_or(&[])))
 }
 
 /// Appends the text of the frame and the end of its line.

@@ -3,7 +3,9 @@
 ghost use Rattle.std.specs.Prelude.{◌≤◌, length};
 
 use crate::faults::RowFault;
+use crate::parts::owned;
 use crate::told::Told;
+use bac_tables::is_joined;
 use bac_tag::OutOfMemory;
 use bac_value::layers::{Unsigned16, Unsigned32};
 use bac_value::{
@@ -45,7 +47,7 @@ pub fn told(alloc: Global, name: &str, octets: &[u8]) -> Result<Told, RowFault> 
 fn told_of_prim<T: Primitive>(alloc: Global, octets: &[u8]) -> Result<Told, OutOfMemory> {
     let told = told_of::<T>(alloc, octets)?;
     if T::APP > 12 || !is_prim(alloc, T::APP, octets, &told)? {
-        return Ok(Told::Differs("Prim"));
+        return Ok(Told::Differs("Prim, or a constructor"));
     }
     Ok(told)
 }
@@ -63,7 +65,7 @@ fn is_prim(alloc: Global, number: u8, octets: &[u8], told: &Told) -> Result<bool
     }
 }
 
-/// Returns true if this is what is written of a value, and it is the value, borrowed.
+/// Returns true if this is what is written of a value, and it is the value, borrowed, and the value is made again.
 fn is_written(
     alloc: Global,
     prim: &Prim,
@@ -75,7 +77,17 @@ fn is_written(
     let is_counted = prim.written_len() == out.len()
         && prim.as_prim_ref().number() == prim.number();
     let is_borrowed = is_borrowed_again(alloc, prim)?;
-    Ok(is_counted && is_borrowed && told.is_written(&out, mark))
+    let is_made = matches!(owned(alloc, &prim.as_prim_ref()), Some(made) if made == *prim);
+    let is_behind = is_written_behind(alloc, prim, &out)?;
+    let is_whole = is_counted && is_borrowed && is_made && is_behind;
+    Ok(is_whole && told.is_written(&out, mark))
+}
+
+/// Returns true if these contents of a value are written after as many octets.
+fn is_written_behind(alloc: Global, prim: &Prim, written: &[u8]) -> Result<bool, OutOfMemory> {
+    let mut out = Vec::from_slice(alloc, written)?;
+    prim.write(&mut out)?;
+    Ok(is_joined(&out, written, written))
 }
 
 /// Returns true if what is written of a value is the value, borrowed.

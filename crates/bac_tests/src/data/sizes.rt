@@ -1,10 +1,9 @@
 //! Open values of many octets and of many elements are built and written whole: no clause says that memory is there.
 
-use super::{alone, finished, gives, is_written};
-use crate::expectations::{assert_same, drawn_sizes, word};
-use bac_data::{AnyBuilder, Event};
+use super::{alone, finished, is_written};
+use bac_data::AnyBuilder;
 use bac_tables::{enclosed, mixed, numbered};
-use bac_value::{Octets, Prim, PrimRef, Unsigned};
+use bac_value::{Octets, Prim, Unsigned};
 use std::alloc::Global;
 use std::process::Abort;
 
@@ -68,42 +67,4 @@ fn ten_thousand_groups_are_built(rt: HostRuntime) {
         inner.extend_from_slice(&[0x4E, 0x4F]).expect(&rt, "memory");
     }
     is_written(&rt, rt.alloc(), &finished(&rt, builder), &inner);
-}
-
-/// Contents in a group, and an octet string of them, are built.
-fn are_given(rt: &impl Abort, alloc: Global, contents: &[u8]) {
-    let mut builder = AnyBuilder::new(alloc).expect(rt, "memory");
-    builder.open(2).expect(rt, "memory");
-    builder.push_ctx(254, contents).expect(rt, "memory");
-    builder.close().expect(rt, "a group");
-    let octets = Octets::new(alloc, contents).expect(rt, "octets");
-    builder.push(Prim::Octets(octets)).expect(rt, "memory");
-    let events = [
-        Event::Open(2),
-        Event::Ctx(254, contents),
-        Event::Close(2),
-        Event::App(PrimRef::Octets(contents)),
-    ];
-    gives(rt, &finished(rt, builder), &events);
-}
-
-/// So many context primitives are built.
-fn are_counted(rt: &impl Abort, alloc: Global, count: usize) {
-    let mut builder = AnyBuilder::new(alloc).expect(rt, "memory");
-    for _ in 0..count {
-        builder.push_ctx(1, &[0x55]).expect(rt, "memory");
-    }
-    assert_same(rt, finished(rt, builder).count(), count);
-}
-
-// Of sizes that are drawn by the word after the name of the test, if there is one.
-#[test]
-fn values_of_drawn_sizes_are_built(rt: HostRuntime) {
-    let alloc = rt.alloc();
-    let word = word(&rt).expect(&rt, "the words");
-    for size in &drawn_sizes(&rt, alloc, word) {
-        let contents = mixed(alloc, *size).expect(&rt, "memory");
-        are_given(&rt, alloc, &contents);
-        are_counted(&rt, alloc, *size / 4);
-    }
 }

@@ -2,7 +2,7 @@
 
 ghost use Rattle.std.specs.Prelude.{◌≤◌};
 
-use crate::expectations::{assert_holds, assert_joined, assert_same, drawn_sizes, word};
+use crate::expectations::{assert_holds, assert_joined, assert_same};
 use bac_tables::{enclosed, mixed, octets_of};
 use bac_value::layers::{append_written, are_written, mark_contents, write_number, written_len_of};
 use bac_value::{Bits, Octets, Prim, Primitive, Text, ValueFault};
@@ -101,17 +101,6 @@ fn bits_are_made(rt: &impl Abort, alloc: Global, size: usize) {
 fn bits_of_every_size_are_made(rt: HostRuntime) {
     for size in &SIZES {
         bits_are_made(&rt, rt.alloc(), size.saturating_sub(1));
-    }
-}
-
-// Of sizes that are drawn by the word after the name of the test, if there is one.
-#[test]
-fn values_of_drawn_sizes_are_made(rt: HostRuntime) {
-    let alloc = rt.alloc();
-    let word = word(&rt).expect(&rt, "the words");
-    for size in &drawn_sizes(&rt, alloc, word) {
-        octets_are_made(&rt, alloc, *size);
-        bits_are_made(&rt, alloc, *size);
     }
 }
 
