@@ -26,10 +26,17 @@
 //! (`places.rt`); so what comes before it is the front of a frame's line. bac_fields is then asked which fields can come in
 //! its place, and the line continues as long as it does in the text of one of them (`shared.rt`, `texts.rt`). That the place
 //! is right is tested: by the rows of `lines.txt` in bac_vectors.
+//!
+//! # How long a line is
+//!
+//! No line of a record is too long to be read back ([`laws`]). Each octet of a record pays for fifteen octets of its line,
+//! and a few words that are there once come to at most two hundred (`ValueLengths.antt`, `FieldLengths.antt`,
+//! `PropertyLengths.antt`, `ServiceLengths.antt`, `ApduLengths.antt`, `FrameLengths.antt` and `LineLengths.antt`).
 #![tactic(auto)]
 
 mod closing;
 mod fault;
+pub mod laws;
 mod line_fields;
 mod numbers;
 mod places;

@@ -17,7 +17,7 @@ use bac_record::layers::append_record;
 use bac_tag::OutOfMemory;
 use std::alloc::Global;
 
-/// How many octets a line has at most, before its LF. No line of a record has as many.
+/// How many octets a line has at most, before its LF. No line of a record has as many (`laws::lines_are_short`).
 const LONGEST: usize = 1_048_576;
 
 /// The longest line with its LF.
