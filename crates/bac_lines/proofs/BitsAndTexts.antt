@@ -42,7 +42,7 @@ prefix_of_bits [] more e = no_bit_ends more e
 prefix_of_bits (true ∷ bits) more e = omega (arith, prefix_of_bits bits more e)
 prefix_of_bits (false ∷ bits) more e = omega (arith, prefix_of_bits bits more e)
 
-bits_again : (bits : List Bool) → map is_one (map bit_digit bits) ≡ bits
+pub bits_again : (bits : List Bool) → map is_one (map bit_digit bits) ≡ bits
 bits_again [] = refl
 bits_again (true ∷ bits) = ap (λ (l : List Bool). true ∷ l) (bits_again bits)
 bits_again (false ∷ bits) = ap (λ (l : List Bool). false ∷ l) (bits_again bits)
@@ -136,7 +136,7 @@ octets_known (x ∷ line) each = (each 0, octets_known line (λ i. each (suc i))
 -- ---- texts in quotation marks
 
 -- the text as `text_tail` has it, by whether it is plain
-abbrev if_plain : TextValue → Bool → List ℕ
+abbrev pub if_plain : TextValue → Bool → List ℕ
 if_plain text plain = if plain then codes ":\"" ++ (text.octets ++ codes "\"") else number text.set ++ (codes ":" ++ hexadecimal text.octets)
 
 pub record IsQuoted (text : TextValue) (rest more : List ℕ) : Type 0 where

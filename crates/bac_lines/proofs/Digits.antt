@@ -167,13 +167,13 @@ first_is_digit v x more line small is = by (decimal v) (decimal_digits v small) 
         let first : x ≡ y = cc in
         subst (λ (z : ℕ). IsTrue (is_decimal z)) (sym first) (and_parts (is_decimal y) (each is_decimal ds) run).0
 
-no_minus : (v : ℕ) (more line : List ℕ) → v < 2 ^ 64 → 45 ∷ line ≡ decimal v ++ more → ⊥
+pub no_minus : (v : ℕ) (more line : List ℕ) → v < 2 ^ 64 → 45 ∷ line ≡ decimal v ++ more → ⊥
 no_minus v more line small is =
     let minus : false ≡ true = first_is_digit v 45 more line small is in
     absurd (cc)
 
 -- the text of 64 bits of two's complement
-record IsNegative (bits : ℕ) : Type 0 where
+pub record IsNegative (bits : ℕ) : Type 0 where
   pub magnitude : ℕ
   pub low : 2 ^ 63 ≤ bits
   pub sum : bits + magnitude ≡ 2 ^ 64
@@ -182,7 +182,7 @@ record IsNegative (bits : ℕ) : Type 0 where
 pub positive_text : (bits : ℕ) → bits < 2 ^ 63 → signed_decimal (cast_signed w64 bits) ≡ decimal bits
 positive_text bits low = ap signed_decimal (to_z_pos w64 bits low)
 
-is_negative : (bits : ℕ) → bits < 2 ^ 64 → 2 ^ 63 ≤ bits → IsNegative bits
+pub is_negative : (bits : ℕ) → bits < 2 ^ 64 → 2 ^ 63 ≤ bits → IsNegative bits
 is_negative bits small high =
     let k = 2 ^ 64 - suc bits in
     let back : bits ≡ 2 ^ 64 - suc k = omega (arith, small, high) in

@@ -81,7 +81,7 @@ hex_join [] b = refl
 hex_join (x ∷ a) b = ap (λ (l : List ℕ). digit (x / 16) ∷ digit (x % 16) ∷ l) (hex_join a b)
 
 -- octets are told by their digits
-hex_tells : (a b : List ℕ) → IsOctets a → IsOctets b → hexadecimal a ≡ hexadecimal b → a ≡ b
+pub hex_tells : (a b : List ℕ) → IsOctets a → IsOctets b → hexadecimal a ≡ hexadecimal b → a ≡ b
 hex_tells [] [] o p e = refl
 hex_tells [] (y ∷ b) o p e = absurd (cc)
 hex_tells (x ∷ a) [] o p e = absurd (cc)

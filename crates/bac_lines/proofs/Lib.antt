@@ -16,6 +16,7 @@ mod PrintedLemmas
 mod PropertyLengths
 mod ReadingLemmas
 mod RecordNumbers
+mod SaidLemmas
 mod ScanLemmas
 mod ServiceLengths
 mod ServiceTokens
@@ -24,5 +25,7 @@ mod StartLemmas
 mod SymbolRuns
 mod TokenLemmas
 mod ValueLengths
+mod ValueSaidLemmas
 mod ValueTokens
 mod WordLemmas
+mod WordSaidLemmas

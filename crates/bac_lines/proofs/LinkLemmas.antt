@@ -60,7 +60,7 @@ filled_among (one ∷ names) n b (inr m) = filled_among names n (and_parts (has_
 abbrev pub held_names : List Name
 held_names = objects ++ (octets ++ addresses)
 
-equals_form : (F : Form) (n : Name) → Named F n → link_of F ≡ by_equals → (F ≡ as_number) ⊎ Among held_names n
+pub equals_form : (F : Form) (n : Name) → Named F n → link_of F ≡ by_equals → (F ≡ as_number) ⊎ Among held_names n
 equals_form as_number n m e = inl refl
 equals_form as_object n m e = inr (among_left objects (octets ++ addresses) n m)
 equals_form as_octets n m e = inr (among_right objects (octets ++ addresses) n (among_left octets addresses n m))
@@ -76,7 +76,7 @@ number_bare n form = either (subst (λ (F : Form). Named F n) form (named n))
     either (inr m) = bare_among numbers n refl m
 
 -- where a word is that of a number, it is that of no other field with an equals sign
-number_alone : (m n : Name) → form_of m ≡ as_number → Among held_names n → word_of m ≡ word_of n → ⊥
+pub number_alone : (m n : Name) → form_of m ≡ as_number → Among held_names n → word_of m ≡ word_of n → ⊥
 number_alone m n form among e = either (subst (λ (F : Form). Named F m) form (named m))
   where
     either : (m ≡ name.PortId) ⊎ Among numbers m → ⊥
@@ -126,7 +126,7 @@ is_string n m = among_right counts (reals ++ (strings ++ lone_names)) n (among_r
 pub is_lone : (n : Name) → Among lone_names n → Among element_names n
 is_lone n m = among_right counts (reals ++ (strings ++ lone_names)) n (among_right reals (strings ++ lone_names) n (among_right strings lone_names n m))
 
-colon_form : (F : Form) (n : Name) → Named F n → link_of F ≡ by_colon → Among element_names n
+pub colon_form : (F : Form) (n : Name) → Named F n → link_of F ≡ by_colon → Among element_names n
 colon_form as_element n m e = is_count n m
 colon_form as_signed n m e = is_lone n (inl m)
 colon_form as_contents n (inl m) e = is_real n m

@@ -141,14 +141,14 @@ same_octets m n (x ∷ xs) (y ∷ ys) o p e f =
     (omega (arith, h.0, o.0, p.0), rw (first, h.1) refl)
 
 -- a field, by its parts
-abbrev field : Name → ℕ → List ℕ → List ℕ → FieldValue
+abbrev pub field : Name → ℕ → List ℕ → List ℕ → FieldValue
 field name number head contents = record { name = name; number = number; head = head; contents = contents }
 
-abbrev contents_said : Name → List ℕ → List ℕ
+abbrev pub contents_said : Name → List ℕ → List ℕ
 contents_said name contents = if has_contents (number_of name) then contents else []
 
 -- The contents are the same, if they are in the line.
-abbrev Alike : Form → List ℕ → List ℕ → Type 0
+abbrev pub Alike : Form → List ℕ → List ℕ → Type 0
 Alike as_octets xs ys = xs ≡ ys
 Alike as_address xs ys = xs ≡ ys
 Alike as_contents xs ys = xs ≡ ys
@@ -186,7 +186,7 @@ shown_alike _ name number h k xs ys e = refl
 
 -- ---- what is open after a token is determined
 
-open_after : (form : Form) (name : Name) (number : ℕ) (h k xs ys : List ℕ) (ends after later : List Closing) → TokenIn form ends (field name number h xs) after → TokenIn form ends (field name number k ys) later → after ≡ later
+pub open_after : (form : Form) (name : Name) (number : ℕ) (h k xs ys : List ℕ) (ends after later : List Closing) → TokenIn form ends (field name number h xs) after → TokenIn form ends (field name number k ys) later → after ≡ later
 open_after as_word name number h k xs ys ends after later t u = t.1 ∙ sym u.1
 open_after as_number name number h k xs ys ends after later t u = t.1.1 ∙ sym u.1.1
 open_after as_object name number h k xs ys ends after later t u = t.1 ∙ sym u.1

@@ -1,7 +1,7 @@
 -- What a line is read as is the frame whose line it is, and the line of each frame is read.
 use Rattle.std.specs.Prelude.{◌≡◌, ◌≢◌, ℕ, Bool, true, false, List, [], ◌∷◌, ◌++◌, refl}
 use Rattle.std.proofs.Common.{◌∙◌, sym, ap, subst}
-use Rattle.std.proofs.lemmas.List.{append-nil, append_cancel_right}
+use Rattle.std.proofs.lemmas.List.{append_cancel_right}
 use Rattle.bac_tag.specs.Spelling.{IsLeast}
 use Rattle.bac_tag.specs.Laws.Spelling.{IsLeast-one}
 use Rattle.bac_npdu_parts.specs.Frames.{FrameValue, SpellsFrame}
@@ -41,7 +41,7 @@ frame_only line old new slice frame one empty only same s other octets least is_
 
 -- ---- what is made
 
-told : (steps : List Step) → fields_said (fields_of steps) ≡ steps_said steps
+pub told : (steps : List Step) → fields_said (fields_of steps) ≡ steps_said steps
 told [] = refl
 told (next v ∷ steps) = ap (λ (l : List Symbol). field_said v ++ l) (told steps)
 told (aside n name number ∷ steps) = ap (λ (l : List Symbol). field_said (held_field name number) ++ l) (told steps)

@@ -20,6 +20,8 @@
 //! scanned is the line that is printed of fields of that kind (`AreScanned` in `specs/Found.antt`), and fields that say the
 //! same have the same line (`PrintedLemmas.antt`).
 //!
+//! No two frames have the same line (`laws.rt`): the line of fields of that kind tells what they say (`SaidLemmas.antt`).
+//!
 //! # Where a line is refused
 //!
 //! No grammar says which text may come where. bac_fields reports the first field with which no frame's fields continue
