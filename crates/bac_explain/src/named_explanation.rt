@@ -1,6 +1,6 @@
 //! The lines of all pieces of a frame, with the names of its fields.
 
-ghost use Rattle.std.specs.Prelude.{◌≡◌, ◌++◌, List, ℕ, IfSome, None, OnErr, OnOk};
+ghost use Rattle.std.specs.Prelude.{◌≡◌, ◌++◌, List, ℕ, IfOk, None, OnErr, OnOk};
 ghost use Rattle.bac_tag.specs.Spelling.{HasMark, IsLeast};
 ghost use Rattle.bac_npdu_parts.specs.FrameHeads.{frame_with};
 ghost use Rattle.bac_npdu_parts.specs.Frames.{SpellsFrame, body_value, value_of};
@@ -51,12 +51,43 @@ const BLANK: Field = Field {
     length: 0,
 };
 
-/// Returns the fields of a frame, written into `room`, if they are few enough.
-fn few_fields<'a>(head: &FrameHead<'_>, body: &Body, room: &'a mut [Field]) -> Option<&'a [Field]>
-    ensures { IfSome result (λ fields. fields.now ≡ placed_fields (frame_with head.now (body_value body.now))) }
+/// Returns the fields of a frame, written into `room`, or how many they are if they do not fit: 0 if a number does not fit in a
+/// `usize`, which no frame in memory comes to.
+fn fields_in<'a>(
+    head: &FrameHead<'_>,
+    body: &Body,
+    room: &'a mut [Field],
+) -> Result<&'a [Field], usize>
+    ensures { IfOk result (λ fields. fields.now ≡ placed_fields (frame_with head.now (body_value body.now))) }
 {
-    let count = write_fields_at_once(head, body, room)?;
-    room.get(..count)
+    let Some(count) = write_fields_at_once(head, body, room) else {
+        return Err(0);
+    };
+    room.get(..count).ok_or(count)
+}
+
+/// Appends the lines of the pieces of the canonical octets of a frame, of which so many fields are written into a vector. If
+/// memory is refused, `out` stays as it was.
+fn append_canonical_with(
+    alloc: Global,
+    octets: &[u8],
+    frame: &Frame,
+    count: usize,
+    out: &mut Vec<u8>,
+) -> Result<(), OutOfMemory>
+    requires { IsLeast (SpellsFrame (value_of frame.now)) octets.now }
+    ensures ok { OnOk result ((lines : List ℕ) × (out.new.items ≡ out.old.items ++ lines) × IsFrameExplanation octets.now (value_of frame.now) None lines) }
+    ensures err { OnErr result (out.new.items ≡ out.old.items) }
+{
+    let mut room = Vec::new(alloc);
+    room.resize(count, BLANK)?;
+    match fields_in(&frame.head(), &frame.body, room.as_mut_slice()) {
+        Ok(fields) => {
+            let typed = is_typed_body(&frame.body);
+            append_canonical_pieces(alloc, octets, typed, fields, out)
+        }
+        Err(_) => append_frame_explanation(alloc, octets, frame, None, out),
+    }
 }
 
 /// Appends the lines of the pieces of the canonical octets of a frame. If memory is refused, `out` stays as it was.
@@ -71,12 +102,12 @@ fn append_canonical_explanation(
     ensures err { OnErr result (out.new.items ≡ out.old.items) }
 {
     let mut room = [BLANK; FEW];
-    match few_fields(&frame.head(), &frame.body, &mut room) {
-        Some(fields) => {
+    match fields_in(&frame.head(), &frame.body, &mut room) {
+        Ok(fields) => {
             let typed = is_typed_body(&frame.body);
             append_canonical_pieces(alloc, octets, typed, fields, out)
         }
-        None => append_frame_explanation(alloc, octets, frame, None, out),
+        Err(count) => append_canonical_with(alloc, octets, frame, count, out),
     }
 }
 

@@ -4,7 +4,7 @@ use Rattle.bac_fields.specs.FrameFields.{placed_fields}
 use Rattle.bac_explain.proofs.CompletionLemmas.{canonical_told}
 use Rattle.bac_explain.proofs.named_explanation.append_canonical_explanation.Goals as goal
 
-pub returns-in-Some-clause-ok : goal.returns-in-Some-clause-ok
-returns-in-Some-clause-ok c =
-    canonical_told c.append_canonical_pieces.result c.args.octets.now (value_of c.args.frame.now) c.is_typed_body-typed.result c.in-Some.fields.now c.args.out.now.items c.append_canonical_pieces.new.out.items c.requires c.is_typed_body-typed.ensures (c.in-Some.ensures ∙ ap placed_fields c.head.ensures)
+pub returns-in-Ok-clause-ok : goal.returns-in-Ok-clause-ok
+returns-in-Ok-clause-ok c =
+    canonical_told c.append_canonical_pieces.result c.args.octets.now (value_of c.args.frame.now) c.is_typed_body-typed.result c.in-Ok.fields.now c.args.out.now.items c.append_canonical_pieces.new.out.items c.requires c.is_typed_body-typed.ensures (c.in-Ok.ensures ∙ ap placed_fields c.head.ensures)
     c.append_canonical_pieces.ensures.ok
