@@ -32,6 +32,8 @@ pub enum Figure {
     Megabytes(Work),
     /// Messages a second.
     Messages(Work),
+    /// Messages a second of what a row is compared with.
+    MessagesBeside(Work),
     /// How often the time of what a row is compared with.
     Times(Work),
     /// The nanoseconds that a message is read beyond those.
@@ -95,6 +97,7 @@ impl Measured {
             Figure::Beside => size / beside / 1e6,
             Figure::Megabytes(work) => size / self.of(work).0.as_secs_f64() / 1e6,
             Figure::Messages(work) => count / self.of(work).0.as_secs_f64(),
+            Figure::MessagesBeside(work) => count / self.of(work).1.as_secs_f64(),
             Figure::Times(work) => {
                 let (took, beside) = self.of(work);
                 took.div_duration_f64(beside)

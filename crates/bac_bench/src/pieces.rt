@@ -36,6 +36,8 @@ pub enum Calls {
     Copy,
     /// `normalise_frame`.
     Normalise,
+    /// `check_frame`, for each frame of a batch.
+    Check,
     /// Cutting a message into segments.
     Cut,
     /// Joining the segments of a message, from the first to the last or from the last to the first.
@@ -136,6 +138,79 @@ const RESULTS: [Run; 3] = [
     Run::Again(1, &[0x1F]),
 ];
 
+/// ReadProperty and ReadProperty-ACK, WriteProperty with a group in its value, three services that hold numbers and
+/// identifiers only, and two with lists: the second is a COV notification of one object with four values, a Real each.
+/// They are encoded, beside the same ones appended.
+const SERVICES: [Piece; 8] = [
+    Piece {
+        name: "ReadProperty",
+        calls: Calls::Each(Message::Encoded(Kind::Confirmed, 12)),
+        below: Some((0, Calls::Each(Message::Service(Kind::Confirmed, 12)))),
+        front: &READ_PROPERTY,
+        runs: &[],
+    },
+    Piece {
+        name: "ReadProperty-ACK",
+        calls: Calls::Each(Message::Encoded(Kind::ComplexAck, 12)),
+        below: Some((0, Calls::Each(Message::Service(Kind::ComplexAck, 12)))),
+        front: &[
+            0x0C, 0, 0, 0, 5, 0x19, 0x55, 0x3E, 0x44, 0x42, 0xC8, 0, 0, 0x3F,
+        ],
+        runs: &[],
+    },
+    Piece {
+        name: "WriteProperty",
+        calls: Calls::Each(Message::Encoded(Kind::Confirmed, 15)),
+        below: Some((0, Calls::Each(Message::Service(Kind::Confirmed, 15)))),
+        front: &[
+            0x0C, 0, 0x80, 0, 1, 0x19, 0x55, 0x3E, 0x0E, 0x21, 5, 0x91, 3, 0x0F, 0x1E, 0x44, 0x42,
+            0xC8, 0, 0, 0x2E, 0xC4, 0, 0, 0, 5, 0x19, 0x55, 0x2F, 0x1F, 0x75, 6, 0, 0x41, 0x42,
+            0x43, 0x44, 0x45, 0xA4, 0x7C, 1, 0x0F, 1, 0xB4, 0x0C, 0, 0, 0, 0x3F, 0x49, 8,
+        ],
+        runs: &[],
+    },
+    Piece {
+        name: "I-Am",
+        calls: Calls::Each(Message::Encoded(Kind::Unconfirmed, 0)),
+        below: Some((0, Calls::Each(Message::Service(Kind::Unconfirmed, 0)))),
+        front: &[0xC4, 2, 0, 0, 5, 0x22, 5, 0xC4, 0x91, 3, 0x21, 0x0F],
+        runs: &[],
+    },
+    Piece {
+        name: "Who-Is",
+        calls: Calls::Each(Message::Encoded(Kind::Unconfirmed, 8)),
+        below: Some((0, Calls::Each(Message::Service(Kind::Unconfirmed, 8)))),
+        front: &[0x0A, 3, 0xE8, 0x1A, 7, 0xD0],
+        runs: &[],
+    },
+    Piece {
+        name: "SubscribeCOV",
+        calls: Calls::Each(Message::Encoded(Kind::Confirmed, 5)),
+        below: Some((0, Calls::Each(Message::Service(Kind::Confirmed, 5)))),
+        front: &[0x09, 0x12, 0x1C, 0, 0, 0, 0x0A, 0x29, 1, 0x3A, 1, 0x2C],
+        runs: &[],
+    },
+    Piece {
+        name: "ReadPropertyMultiple-ACK",
+        calls: Calls::Each(Message::Encoded(Kind::ComplexAck, 14)),
+        below: Some((0, Calls::Each(Message::Service(Kind::ComplexAck, 14)))),
+        front: &[],
+        runs: &RESULTS,
+    },
+    Piece {
+        name: "COVNotification",
+        calls: Calls::Each(Message::Encoded(Kind::Unconfirmed, 2)),
+        below: Some((0, Calls::Each(Message::Service(Kind::Unconfirmed, 2)))),
+        front: &[
+            0x09, 0x12, 0x1C, 2, 0, 4, 0xD2, 0x2C, 0, 0, 0, 10, 0x39, 0, 0x4E,
+        ],
+        runs: &[
+            Run::Again(4, &[0x09, 0x55, 0x2E, 0x44, 0x42, 0xC8, 0, 0, 0x2F]),
+            Run::Again(1, &[0x4F]),
+        ],
+    },
+];
+
 /// The columns of a layer beside the one below.
 const LAYERS: [Column; 8] = [
     Column("octets", 8, 0, Figure::Octets),
@@ -147,6 +222,12 @@ const LAYERS: [Column; 8] = [
     Column("x", 8, 2, Figure::Times(Work::Write)),
     Column("head ns", 8, 1, Figure::Beyond),
 ];
+
+/// The octets of a frame before a ReadProperty.
+const REQUEST_FRONT: [u8; 6] = [1, 4, 0, 5, 1, 12];
+
+/// The octets of a frame from another network before a ReadPropertyMultiple-ACK.
+const ANSWER_FRONT: [u8; 9] = [1, 8, 0, 7, 1, 9, 0x30, 1, 14];
 
 /// The octets of a frame before its open value: the head, the service choice, an object and a property.
 const LARGE_FRONT: [u8; 13] = [1, 4, 0, 5, 1, 15, 0x0C, 0, 0, 0, 5, 0x19, 0x55];
@@ -166,7 +247,7 @@ pub fn tables() -> &'static [Table] {
 }
 
 /// The tables. A function that names them carries all of them through its proof, so [`tables`] alone does.
-static TABLES: [Table; 8] = [
+static TABLES: [Table; 10] = [
     // Values, beside a plain copy.
     Table {
         layout: Layout {
@@ -231,8 +312,7 @@ static TABLES: [Table; 8] = [
             },
         ],
     },
-    // ReadProperty and ReadProperty-ACK, WriteProperty with a group in its value, three services that hold numbers and
-    // identifiers only, and two with lists: the second is a COV notification of one object with four values, a Real each.
+    // Services that are encoded, to a new vector each time.
     Table {
         layout: Layout {
             title: "services; the best of 200 repetitions of 1000 messages each",
@@ -247,76 +327,22 @@ static TABLES: [Table; 8] = [
         },
         rounds: 1,
         count: 1_000,
-        pieces: &[
-            Piece {
-                name: "ReadProperty",
-                calls: Calls::Each(Message::Encoded(Kind::Confirmed, 12)),
-                below: None,
-                front: &READ_PROPERTY,
-                runs: &[],
-            },
-            Piece {
-                name: "ReadProperty-ACK",
-                calls: Calls::Each(Message::Encoded(Kind::ComplexAck, 12)),
-                below: None,
-                front: &[
-                    0x0C, 0, 0, 0, 5, 0x19, 0x55, 0x3E, 0x44, 0x42, 0xC8, 0, 0, 0x3F,
-                ],
-                runs: &[],
-            },
-            Piece {
-                name: "WriteProperty",
-                calls: Calls::Each(Message::Encoded(Kind::Confirmed, 15)),
-                below: None,
-                front: &[
-                    0x0C, 0, 0x80, 0, 1, 0x19, 0x55, 0x3E, 0x0E, 0x21, 5, 0x91, 3, 0x0F, 0x1E,
-                    0x44, 0x42, 0xC8, 0, 0, 0x2E, 0xC4, 0, 0, 0, 5, 0x19, 0x55, 0x2F, 0x1F, 0x75,
-                    6, 0, 0x41, 0x42, 0x43, 0x44, 0x45, 0xA4, 0x7C, 1, 0x0F, 1, 0xB4, 0x0C, 0, 0,
-                    0, 0x3F, 0x49, 8,
-                ],
-                runs: &[],
-            },
-            Piece {
-                name: "I-Am",
-                calls: Calls::Each(Message::Encoded(Kind::Unconfirmed, 0)),
-                below: None,
-                front: &[0xC4, 2, 0, 0, 5, 0x22, 5, 0xC4, 0x91, 3, 0x21, 0x0F],
-                runs: &[],
-            },
-            Piece {
-                name: "Who-Is",
-                calls: Calls::Each(Message::Encoded(Kind::Unconfirmed, 8)),
-                below: None,
-                front: &[0x0A, 3, 0xE8, 0x1A, 7, 0xD0],
-                runs: &[],
-            },
-            Piece {
-                name: "SubscribeCOV",
-                calls: Calls::Each(Message::Encoded(Kind::Confirmed, 5)),
-                below: None,
-                front: &[0x09, 0x12, 0x1C, 0, 0, 0, 0x0A, 0x29, 1, 0x3A, 1, 0x2C],
-                runs: &[],
-            },
-            Piece {
-                name: "ReadPropertyMultiple-ACK",
-                calls: Calls::Each(Message::Encoded(Kind::ComplexAck, 14)),
-                below: None,
-                front: &[],
-                runs: &RESULTS,
-            },
-            Piece {
-                name: "COVNotification",
-                calls: Calls::Each(Message::Encoded(Kind::Unconfirmed, 2)),
-                below: None,
-                front: &[
-                    0x09, 0x12, 0x1C, 2, 0, 4, 0xD2, 0x2C, 0, 0, 0, 10, 0x39, 0, 0x4E,
-                ],
-                runs: &[
-                    Run::Again(4, &[0x09, 0x55, 0x2E, 0x44, 0x42, 0xC8, 0, 0, 0x2F]),
-                    Run::Again(1, &[0x4F]),
-                ],
-            },
-        ],
+        pieces: &SERVICES,
+    },
+    // The same services, appended to a vector that is kept.
+    Table {
+        layout: Layout {
+            title: "services in a kept vector; the best of 200 repetitions of 1000 messages each",
+            of: "kept",
+            width: 26,
+            columns: &[
+                Column("octets", 8, 0, Figure::Octets),
+                Column("append/s", 12, 0, Figure::MessagesBeside(Work::Write)),
+            ],
+        },
+        rounds: 1,
+        count: 1_000,
+        pieces: &SERVICES,
     },
     // APDUs, beside their services alone: a request to read a property, an answer with twenty results, and a segment of a
     // request.
@@ -369,14 +395,45 @@ static TABLES: [Table; 8] = [
                 name: "ReadProperty",
                 calls: Calls::Each(Message::Frame),
                 below: Some((2, Calls::Each(Message::Apdu))),
-                front: &[1, 4, 0, 5, 1, 12],
+                front: &REQUEST_FRONT,
                 runs: &[Run::Again(1, &READ_PROPERTY)],
             },
             Piece {
                 name: "ReadPropertyMultiple-ACK",
                 calls: Calls::Each(Message::Frame),
                 below: Some((6, Calls::Each(Message::Apdu))),
-                front: &[1, 8, 0, 7, 1, 9, 0x30, 1, 14],
+                front: &ANSWER_FRONT,
+                runs: &RESULTS,
+            },
+        ],
+    },
+    // The same frames checked, beside decoding them.
+    Table {
+        layout: Layout {
+            title: "frames checked; the best of 200 repetitions of 1000 messages each; x: times as long as decoding",
+            of: "check",
+            width: 26,
+            columns: &[
+                Column("octets", 8, 0, Figure::Octets),
+                Column("check/s", 12, 0, Figure::Messages(Work::Read)),
+                Column("x", 8, 2, Figure::Times(Work::Read)),
+            ],
+        },
+        rounds: 1,
+        count: 1_000,
+        pieces: &[
+            Piece {
+                name: "ReadProperty",
+                calls: Calls::Check,
+                below: Some((0, Calls::Each(Message::Frame))),
+                front: &REQUEST_FRONT,
+                runs: &[Run::Again(1, &READ_PROPERTY)],
+            },
+            Piece {
+                name: "ReadPropertyMultiple-ACK",
+                calls: Calls::Check,
+                below: Some((0, Calls::Each(Message::Frame))),
+                front: &ANSWER_FRONT,
                 runs: &RESULTS,
             },
         ],

@@ -75,7 +75,7 @@ pub fn expect_same(made: Vec<u8>, octets: &[u8]) -> Result<(), BenchFault> {
 }
 
 /// Checks that no octet differs: those of a piece are canonical.
-fn expect_canonical(mark: Option<usize>) -> Result<(), BenchFault> {
+pub fn expect_canonical(mark: Option<usize>) -> Result<(), BenchFault> {
     match mark {
         None => Ok(()),
         Some(_) => Err(BenchFault::Differs),

@@ -6,11 +6,11 @@ use crate::layers::{Apdus, Contents, Frames, OpenValues, Services};
 use crate::lines::Measured;
 use crate::modes::Mode;
 use crate::pieces::{Calls, Message, Piece, Table, tables};
-use crate::rounds::{Times, copying, expect_same, timed, work};
+use crate::rounds::{Times, copying, expect_canonical, expect_same, timed, work};
 use crate::segments::{cutting, joining};
 use crate::services::Encoded;
 use crate::streams::feeding;
-use bac_npdu::normalise_frame;
+use bac_npdu::{check_frame, normalise_frame};
 use bac_value::{Bits, Octets, Text};
 use std::alloc::Global;
 use std::marker::PhantomData;
@@ -85,6 +85,7 @@ fn times_of(
     let took = match calls {
         Calls::Copy => copying(rt, mode, octets)?,
         Calls::Normalise => normalising(rt, mode, octets)?,
+        Calls::Check => checking(rt, mode, count, octets)?,
         Calls::Cut => cutting(rt, mode, octets)?,
         Calls::Join(order) => joining(rt, mode, octets, order)?,
         Calls::Feed(size) => feeding(rt, mode, octets, size)?,
@@ -143,4 +144,32 @@ fn normalising(rt: &HostRuntime, mode: Mode, octets: &[u8]) -> Result<Duration, 
     )?;
     expect_same(normal, octets)?;
     Ok(took)
+}
+
+/// Returns the time of `check_frame` for each of so many frames with these octets.
+fn checking(
+    rt: &HostRuntime,
+    mode: Mode,
+    count: usize,
+    octets: &[u8],
+) -> Result<Duration, BenchFault> {
+    let alloc = rt.alloc();
+    let frames = repeated(alloc, octets, count)?;
+    let (found, took) = timed(
+        rt,
+        mode.repetitions(),
+        || first_mark(alloc, octets.len(), &frames),
+    )?;
+    expect_canonical(found)?;
+    Ok(took)
+}
+
+/// Checks frames of so many octets, and finds the first octet that is not canonical in a frame that has one.
+fn first_mark(alloc: Global, size: usize, frames: &[u8]) -> Result<Option<usize>, BenchFault> {
+    let mut found = None;
+    for octets in frames.chunks_exact(size.max(1)) {
+        let mark = check_frame(alloc, octets)?;
+        found = found.or(mark);
+    }
+    Ok(found)
 }
