@@ -172,7 +172,7 @@ static void try_lines(void)
 {
     static const uint8_t octets[] = {0x01, 0x00, 0x10, 0x08, 0x09, 0x05};
     static const char wanted[] = "   0  01           version 1\n"
-                                 "   1  00           control: reply 0, priority 0\n"
+                                 "   1  00           control: no reply expected, priority 0\n"
                                  "   2  10           Unconfirmed-Request\n"
                                  "   3  08           service choice 8 Who-Is\n"
                                  "   4  09 05        [0] low 5\n"

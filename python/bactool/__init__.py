@@ -137,7 +137,7 @@ def explain_text(octets: Octets) -> str:
 
     >>> print(explain_text(bytes.fromhex("0100 1008 0905")), end="")
        0  01           version 1
-       1  00           control: reply 0, priority 0
+       1  00           control: no reply expected, priority 0
        2  10           Unconfirmed-Request
        3  08           service choice 8 Who-Is
        4  09 05        [0] low 5

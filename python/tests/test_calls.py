@@ -105,7 +105,7 @@ class Calls(unittest.TestCase):
     def test_explain_text(self) -> None:
         lines = bactool.explain_text(F2).splitlines()
         self.assertEqual([int(line[:4]) for line in lines], [piece.place for piece in bactool.explain(F2)])
-        self.assertEqual(lines[1], "   1  54           control: reply 1, priority 0  ~ 04")
+        self.assertEqual(lines[1], "   1  54           control: reply expected, priority 0  ~ 04")
         self.assertEqual(lines[-1], "  11  1A 0055      [1] property 85  ~ 19 55")
         # What is refused has the names of a frame that begins so, and of what is possible at the place.
         lines = bactool.explain_text(bytearray(PRIORITY_17)).splitlines()

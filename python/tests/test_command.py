@@ -60,7 +60,7 @@ class Command(unittest.TestCase):
     def test_explain_has_the_canonical_octets(self) -> None:
         lines = run("explain", record(F2))[1].decode().splitlines()
         self.assertEqual((lines[2], lines[-1]), (
-            "   1  54           control: reply 1, priority 0  ~ 04", "  11  1A 0055      [1] property 85  ~ 19 55"
+            "   1  54           control: reply expected, priority 0  ~ 04", "  11  1A 0055      [1] property 85  ~ 19 55"
         ))
 
     def test_show_writes_utf_8(self) -> None:

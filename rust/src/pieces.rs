@@ -234,7 +234,7 @@ pub struct ExplainedText {
 /// let told = explain_text(&[0x01, 0x00, 0x10, 0x08, 0x09, 0x05]);
 /// assert_eq!(told.verdict.unwrap_err().to_string(), "Short at 6");
 /// let lines = "   0  01           version 1
-///    1  00           control: reply 0, priority 0
+///    1  00           control: no reply expected, priority 0
 ///    2  10           Unconfirmed-Request
 ///    3  08           service choice 8 Who-Is
 ///    4  09 05        [0] low 5

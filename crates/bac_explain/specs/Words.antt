@@ -1,5 +1,5 @@
 -- The words of a piece.
-use Rattle.std.specs.Prelude.{◌≡◌, ◌⊎◌, ◌≤◌, ℕ, ◌+◌, ◌*◌, ◌/◌, ◌%◌, nat_eq, Bool, true, false, if◌then◌else◌, List, [], ◌∷◌, ◌++◌, drop, length, codes}
+use Rattle.std.specs.Prelude.{◌≡◌, ◌⊎◌, ◌≤◌, ℕ, ◌+◌, ◌*◌, ◌/◌, ◌%◌, nat_eq, nat_lt, Bool, true, false, if◌then◌else◌, List, [], ◌∷◌, ◌++◌, drop, length, codes}
 use Rattle.std.specs.Fmt.{decimal}
 use Rattle.bac_tag.specs.declared.heads.TagHead.{TagHead}
 use Rattle.bac_tag.specs.declared.heads.TagHead.TheVariants.{App, AppBool, Ctx, Open, Close}
@@ -84,13 +84,36 @@ first_in (a ∷ rest) = a
 abbrev pub numbered_words : Kind → List ℕ → List ℕ
 numbered_words k own = word_of k ++ (if has_number k then codes " " ++ decimal (number_in own) else [])
 
+-- Whether a reply is expected, by bit 2 of a control octet (clause 6.2.2).
+abbrev pub reply_words : ℕ → List ℕ
+reply_words octet = if nat_eq (octet / 4 % 2) 0 then codes "no reply expected" else codes "reply expected"
+
 -- What a control octet says: whether a reply is expected, and the priority (clause 6.2.2).
 abbrev pub control_words : ℕ → List ℕ
-control_words octet = (codes "control: reply " ++ decimal (octet / 4 % 2)) ++ (codes ", priority " ++ decimal (octet % 4))
+control_words octet = (codes "control: " ++ reply_words octet) ++ (codes ", priority " ++ decimal (octet % 4))
 
--- Which answers are accepted: how many segments, and how long an APDU, as the numbers that encode it (clause 20.1.2).
+-- How many segments of an answer are accepted, by the number that encodes it (clause 20.1.2.4).
+abbrev pub segments_words : ℕ → List ℕ
+segments_words n =
+    if nat_eq n 0 then codes "unspecified" else
+    if nat_eq n 1 then codes "2" else
+    if nat_eq n 2 then codes "4" else
+    if nat_eq n 3 then codes "8" else
+    if nat_eq n 4 then codes "16" else
+    if nat_eq n 5 then codes "32" else
+    if nat_eq n 6 then codes "64" else codes "more than 64"
+
+-- The octets of the longest APDU that is accepted, by the number that encodes it; those above 5 are reserved (clause 20.1.2.5).
+abbrev pub longest_apdu : ℕ → ℕ
+longest_apdu n = if nat_eq n 0 then 50 else if nat_eq n 1 then 128 else if nat_eq n 2 then 206 else if nat_eq n 3 then 480 else if nat_eq n 4 then 1024 else 1476
+
+-- How long an APDU is accepted, by the number that encodes it.
+abbrev pub apdu_words : ℕ → List ℕ
+apdu_words n = if nat_lt n 6 then codes ", APDU up to " ++ decimal (longest_apdu n) else codes ", APDU of reserved length " ++ decimal n
+
+-- Which answers are accepted: how many segments, and how long an APDU.
 abbrev pub accepted_words : ℕ → List ℕ
-accepted_words octet = (codes "accepted answers: segs=" ++ decimal (octet / 16 % 8)) ++ (codes " resp=" ++ decimal (octet % 16))
+accepted_words octet = (codes "segments accepted: " ++ segments_words (octet / 16 % 8)) ++ apdu_words (octet % 16)
 
 -- A number in brackets.
 abbrev pub bracketed : ℕ → List ℕ

@@ -3,7 +3,7 @@
 ghost use Rattle.std.specs.Prelude.{◌≡◌, ◌≤◌, ◌+◌, ◌++◌, List, ℕ, IfOk, OnErr, OnOk, drop, length, take};
 ghost use Rattle.std.specs.Fmt.{decimal};
 ghost use Rattle.bac_tag.specs.Octets.{Extends};
-ghost use Rattle.bac_explain.specs.Words.{IsSaid, accepted_words, control_words, first_in, has_number, number_in, numbered_words, word_of};
+ghost use Rattle.bac_explain.specs.Words.{IsSaid, accepted_words, apdu_words, control_words, first_in, longest_apdu, reply_words, segments_words, has_number, number_in, numbered_words, word_of};
 
 use crate::appending::ROOM;
 use crate::piece::{Kind, Piece};
@@ -136,27 +136,17 @@ fn put_counted<const N: usize>(room: &mut [u8], at: usize, word: &[u8; N], numbe
     put_decimal(room, start, u64::from(number))
 }
 
-/// Writes a word of at most 32 octets and a number, and another such word and a number. Returns where they end.
+/// Returns whether a reply is expected, in words.
 #[inline(always)]
-fn write_two<const N: usize, const M: usize>(
-    out: &mut Vec<u8>,
-    at: usize,
-    first: &[u8; N],
-    one: u8,
-    second: &[u8; M],
-    two: u8,
-) -> Result<usize, OutOfMemory>
-    requires place { at ≤ length out.old.items }
-    requires first { N ≤ 32 }
-    requires second { M ≤ 32 }
-    ensures text { IfOk result (λ end. take end out.new.items ≡ take at out.old.items ++ ((first.now ++ decimal one) ++ (second.now ++ decimal two))) }
-    ensures end { IfOk result (λ end. end ≤ length out.new.items) }
-    ensures err { OnErr result (Extends (take at out.old.items) out.new.items) }
+fn reply_words(octet: u8) -> &'static [u8]
+    ensures words { result.now ≡ reply_words octet }
+    ensures few { length result.now ≤ 32 }
 {
-    make_room(out, at, ROOM)?;
-    let room = out.as_mut_slice();
-    let end = put_counted(room, at, first, one);
-    Ok(put_counted(room, end, second, two))
+    if octet / 4 % 2 == 0 {
+        b"no reply expected"
+    } else {
+        b"reply expected"
+    }
 }
 
 /// Writes what a control octet says (clause 6.2.2). Returns where that ends.
@@ -166,33 +156,81 @@ fn write_control(out: &mut Vec<u8>, at: usize, octet: u8) -> Result<usize, OutOf
     ensures end { IfOk result (λ end. end ≤ length out.new.items) }
     ensures err { OnErr result (Extends (take at out.old.items) out.new.items) }
 {
-    write_two(
-        out,
-        at,
-        b"control: reply ",
-        octet / 4 % 2,
-        b", priority ",
-        octet % 4,
-    )
+    make_room(out, at, ROOM)?;
+    let room = out.as_mut_slice();
+    let end = put_word(room, at, b"control: ");
+    let end = put_octets(room, end, reply_words(octet));
+    Ok(put_counted(room, end, b", priority ", octet % 4))
 }
 
-/// Writes which answers are accepted: how many segments, and how long an APDU, as the numbers that encode it (clauses
-/// 20.1.2.4 and 20.1.2.5). Returns where that ends.
+/// Returns how many segments of an answer are accepted, in words (clause 20.1.2.4).
+fn segments_words(number: u8) -> &'static [u8]
+    ensures words { result.now ≡ segments_words number }
+    ensures few { length result.now ≤ 32 }
+{
+    match number {
+        0 => b"unspecified",
+        1 => b"2",
+        2 => b"4",
+        3 => b"8",
+        4 => b"16",
+        5 => b"32",
+        6 => b"64",
+        _ => b"more than 64",
+    }
+}
+
+/// Returns how many octets the longest APDU has that is accepted (clause 20.1.2.5).
+fn longest_apdu(number: u8) -> u16
+    ensures { result ≡ longest_apdu number }
+{
+    match number {
+        0 => 50,
+        1 => 128,
+        2 => 206,
+        3 => 480,
+        4 => 1_024,
+        _ => 1_476,
+    }
+}
+
+/// Writes how long an APDU is accepted, at a place with capacity for 64 octets. Returns where that ends.
+#[inline(always)]
+fn put_longest(room: &mut [u8], at: usize, number: u8) -> usize
+    requires { at + 64 ≤ length room.old }
+    ensures text { take result room.new ≡ take at room.old ++ apdu_words number }
+    ensures most { result ≤ at + 64 }
+{
+    if number < 6 {
+        let end = put_word(room, at, b", APDU up to ");
+        return put_decimal(room, end, u64::from(longest_apdu(number)));
+    }
+    put_counted(room, at, b", APDU of reserved length ", number)
+}
+
+/// Writes how many segments and how long an APDU are accepted, at a place with capacity for 128 octets. Returns where that
+/// ends.
+#[inline(always)]
+fn put_accepted(room: &mut [u8], at: usize, octet: u8) -> usize
+    requires { at + 128 ≤ length room.old }
+    ensures text { take result room.new ≡ take at room.old ++ accepted_words octet }
+    ensures most { result ≤ at + 128 }
+{
+    let end = put_word(room, at, b"segments accepted: ");
+    let end = put_octets(room, end, segments_words(octet / 16 % 8));
+    put_longest(room, end, octet % 16)
+}
+
+/// Writes which answers are accepted: how many segments, and how long an APDU (clauses 20.1.2.4 and 20.1.2.5). Returns
+/// where that ends.
 fn write_accepted(out: &mut Vec<u8>, at: usize, octet: u8) -> Result<usize, OutOfMemory>
     requires { at ≤ length out.old.items }
     ensures text { IfOk result (λ end. take end out.new.items ≡ take at out.old.items ++ accepted_words octet) }
     ensures end { IfOk result (λ end. end ≤ length out.new.items) }
     ensures err { OnErr result (Extends (take at out.old.items) out.new.items) }
 {
-    let segments = octet / 16 % 8;
-    write_two(
-        out,
-        at,
-        b"accepted answers: segs=",
-        segments,
-        b" resp=",
-        octet % 16,
-    )
+    make_room(out, at, ROOM)?;
+    Ok(put_accepted(out.as_mut_slice(), at, octet))
 }
 
 /// Returns the octets after a tag head of so many octets.

@@ -21,9 +21,9 @@ fn has_lines(rt: &impl Abort, alloc: Global, octets: &str, lines: &str) {
 const PRIORITY: &str = "01 04 00 05 02 0F 0C 00 40 00 01 19 55 3E 44 42 C8 00 00 3F 49 11";
 
 const PRIORITY_LINES: &str = "   0  01           version 1
-   1  04           control: reply 1, priority 0
+   1  04           control: reply expected, priority 0
    2  00           Confirmed-Request
-   3  05           accepted answers: segs=0 resp=5
+   3  05           segments accepted: unspecified, APDU up to 1476
    4  02           invoke id 2
    5  0F           service choice 15
    6  0C 00400001  [0] 00400001
@@ -39,7 +39,7 @@ const PRIORITY_LINES: &str = "   0  01           version 1
 const DATA: &str = "01 80 81 00 10 00 01 02 03 04 05 06 07 08 09 0A 0B 0C 0D 0E 0F 10";
 
 const DATA_LINES: &str = "   0  01           version 1
-   1  80           control: reply 0, priority 0
+   1  80           control: no reply expected, priority 0
    2  81           network message 129
    3  0010         vendor 16
    5  0001020304050607  data
@@ -52,7 +52,7 @@ const VALUES: &str =
     "01 00 30 02 0C 0C 00 00 00 05 19 55 3E 21 05 75 03 00 41 49 91 02 43 42 90 99 9A 3F";
 
 const VALUES_LINES: &str = "   0  01           version 1
-   1  00           control: reply 0, priority 0
+   1  00           control: no reply expected, priority 0
    2  30           ComplexACK
    3  02           invoke id 2
    4  0C           service choice 12

@@ -6,7 +6,7 @@ use crate::named_lines::has_lines;
 const NETWORKS: &str = "01 80 01 00 02 00 03";
 
 const NETWORKS_LINES: &str = "   0  01           version 1
-   1  80           control: reply 0, priority 0
+   1  80           control: no reply expected, priority 0
    2  01           network message 1
    3  0002         network 2
    5  0003         network 3
@@ -16,7 +16,7 @@ const NETWORKS_LINES: &str = "   0  01           version 1
 const REJECT: &str = "01 80 03 01 00 05";
 
 const REJECT_LINES: &str = "   0  01           version 1
-   1  80           control: reply 0, priority 0
+   1  80           control: no reply expected, priority 0
    2  03           network message 3
    3  01           reason 1
    4  0005         network 5
@@ -26,7 +26,7 @@ const REJECT_LINES: &str = "   0  01           version 1
 const TABLE: &str = "01 80 06 02 00 05 1E 02 AA BB 00 06 00 00";
 
 const TABLE_LINES: &str = "   0  01           version 1
-   1  80           control: reply 0, priority 0
+   1  80           control: no reply expected, priority 0
    2  06           network message 6
    3  02           ports
    4  0005         network 5
@@ -41,7 +41,7 @@ const TABLE_LINES: &str = "   0  01           version 1
 const ESTABLISH: &str = "01 80 08 00 05 1E";
 
 const ESTABLISH_LINES: &str = "   0  01           version 1
-   1  80           control: reply 0, priority 0
+   1  80           control: no reply expected, priority 0
    2  08           network message 8
    3  0005         network 5
    5  1E           time 30
@@ -51,7 +51,7 @@ const ESTABLISH_LINES: &str = "   0  01           version 1
 const OPAQUE: &str = "01 80 81 00 10 AA BB";
 
 const OPAQUE_LINES: &str = "   0  01           version 1
-   1  80           control: reply 0, priority 0
+   1  80           control: no reply expected, priority 0
    2  81           network message 129
    3  0010         vendor 16
    5  AABB         data

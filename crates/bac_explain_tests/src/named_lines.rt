@@ -20,9 +20,9 @@ pub(crate) fn has_lines(rt: &impl Abort, alloc: Global, octets: &str, lines: &st
 const WRITE: &str = "01 04 00 05 02 0F 0C 00 40 00 01 19 55 29 01 3E 44 42 C8 00 00 3F 49 08";
 
 const WRITE_LINES: &str = "   0  01           version 1
-   1  04           control: reply 1, priority 0
+   1  04           control: reply expected, priority 0
    2  00           Confirmed-Request
-   3  05           accepted answers: segs=0 resp=5
+   3  05           segments accepted: unspecified, APDU up to 1476
    4  02           invoke id 2
    5  0F           service choice 15 WriteProperty
    6  0C 00400001  [0] object 1:1
@@ -38,9 +38,9 @@ const WRITE_LINES: &str = "   0  01           version 1
 const TOLERATED: &str = "01 44 00 05 02 0C 0C 00 00 00 05 1A 00 55";
 
 const TOLERATED_LINES: &str = "   0  01           version 1
-   1  44           control: reply 1, priority 0  ~ 04
+   1  44           control: reply expected, priority 0  ~ 04
    2  00           Confirmed-Request
-   3  05           accepted answers: segs=0 resp=5
+   3  05           segments accepted: unspecified, APDU up to 1476
    4  02           invoke id 2
    5  0C           service choice 12 ReadProperty
    6  0C 00000005  [0] object 0:5
@@ -51,7 +51,7 @@ const TOLERATED_LINES: &str = "   0  01           version 1
 const I_AM: &str = "01 00 10 00 C4 02 00 00 05 22 05 C4 91 00 21 0F";
 
 const I_AM_LINES: &str = "   0  01           version 1
-   1  00           control: reply 0, priority 0
+   1  00           control: no reply expected, priority 0
    2  10           Unconfirmed-Request
    3  00           service choice 0 I-Am
    4  C4 02000005  object 8:5
@@ -65,7 +65,7 @@ const RESULTS: &str =
     "01 00 30 02 0E 0C 00 00 00 05 1E 29 55 4E 91 02 4F 29 0B 5E 91 02 91 20 5F 1F";
 
 const RESULTS_LINES: &str = "   0  01           version 1
-   1  00           control: reply 0, priority 0
+   1  00           control: no reply expected, priority 0
    2  30           ComplexACK
    3  02           invoke id 2
    4  0E           service choice 14 ReadPropertyMultiple
@@ -87,9 +87,9 @@ const RESULTS_LINES: &str = "   0  01           version 1
 const OPAQUE: &str = "01 04 00 05 02 1A 0C 02 00 00 05 1E 21 05 1F";
 
 const OPAQUE_LINES: &str = "   0  01           version 1
-   1  04           control: reply 1, priority 0
+   1  04           control: reply expected, priority 0
    2  00           Confirmed-Request
-   3  05           accepted answers: segs=0 resp=5
+   3  05           segments accepted: unspecified, APDU up to 1476
    4  02           invoke id 2
    5  1A           service choice 26
    6  0C 02000005  [0] 02000005 (not judged)

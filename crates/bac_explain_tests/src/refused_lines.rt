@@ -23,9 +23,9 @@ fn has_lines(rt: &impl Abort, alloc: Global, octets: &str, lines: &str) {
 const PRIORITY: &str = "01 04 00 05 02 0F 0C 00 40 00 01 19 55 3E 44 42 C8 00 00 3F 49 11";
 
 const PRIORITY_LINES: &str = "   0  01           version 1
-   1  04           control: reply 1, priority 0
+   1  04           control: reply expected, priority 0
    2  00           Confirmed-Request
-   3  05           accepted answers: segs=0 resp=5
+   3  05           segments accepted: unspecified, APDU up to 1476
    4  02           invoke id 2
    5  0F           service choice 15 WriteProperty
    6  0C 00400001  [0] object 1:1
@@ -41,9 +41,9 @@ const PRIORITY_LINES: &str = "   0  01           version 1
 const NO_VALUE: &str = "01 04 00 05 02 0F 0C 00 40 00 01 1A 00 55";
 
 const NO_VALUE_LINES: &str = "   0  01           version 1
-   1  04           control: reply 1, priority 0
+   1  04           control: reply expected, priority 0
    2  00           Confirmed-Request
-   3  05           accepted answers: segs=0 resp=5
+   3  05           segments accepted: unspecified, APDU up to 1476
    4  02           invoke id 2
    5  0F           service choice 15 WriteProperty
    6  0C 00400001  [0] object 1:1
@@ -55,9 +55,9 @@ const NO_VALUE_LINES: &str = "   0  01           version 1
 const OTHER_TAG: &str = "01 04 00 05 02 0C 0C 00 00 00 05 29 55";
 
 const OTHER_TAG_LINES: &str = "   0  01           version 1
-   1  04           control: reply 1, priority 0
+   1  04           control: reply expected, priority 0
    2  00           Confirmed-Request
-   3  05           accepted answers: segs=0 resp=5
+   3  05           segments accepted: unspecified, APDU up to 1476
    4  02           invoke id 2
    5  0C           service choice 12 ReadProperty
    6  0C 00000005  [0] object 0:5
@@ -69,7 +69,7 @@ const OTHER_TAG_LINES: &str = "   0  01           version 1
 const VALUE: &str = "01 00 30 02 0C 0C 00 00 00 05 19 55 3E 43 42 90 99 9A 3F";
 
 const VALUE_LINES: &str = "   0  01           version 1
-   1  00           control: reply 0, priority 0
+   1  00           control: no reply expected, priority 0
    2  30           ComplexACK
    3  02           invoke id 2
    4  0C           service choice 12 ReadProperty
@@ -84,7 +84,7 @@ const VALUE_LINES: &str = "   0  01           version 1
 const I_AM: &str = "01 00 10 00 C4 02 00 00 05";
 
 const I_AM_LINES: &str = "   0  01           version 1
-   1  00           control: reply 0, priority 0
+   1  00           control: no reply expected, priority 0
    2  10           Unconfirmed-Request
    3  00           service choice 0 I-Am
    4  C4 02000005  object 8:5
@@ -95,7 +95,7 @@ const I_AM_LINES: &str = "   0  01           version 1
 const TRAILING: &str = "01 00 20 03 0F 00";
 
 const TRAILING_LINES: &str = "   0  01           version 1
-   1  00           control: reply 0, priority 0
+   1  00           control: no reply expected, priority 0
    2  20           SimpleACK
    3  03           invoke id 3
    4  0F           service choice 15

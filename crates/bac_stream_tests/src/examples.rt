@@ -33,7 +33,7 @@ fn a_file_is_explained(rt: HostRuntime) -> Result<(), Fail> {
     assert_eq!(rt; (summary.records, summary.refused), (1, 1));
     let lines = "1 refused Short at 4
    0  01           version 1
-   1  00           control: reply 0, priority 0
+   1  00           control: no reply expected, priority 0
    2  602A         a head that is not whole
    4               <- Short: the octets end, and more must come
 ";

@@ -44,7 +44,7 @@ const RESERVED: &str = "01 40 10 08";
 
 const TOLERATED_LINES: &str = "1 tolerated at 1
    0  01           version 1
-   1  40           control: reply 0, priority 0  ~ 00
+   1  40           control: no reply expected, priority 0  ~ 00
    2  10           Unconfirmed-Request
    3  08           service choice 8 Who-Is
 ";
@@ -76,14 +76,14 @@ const THREE: &str = "00 04 01 00 10 08 00 00 00 04 01 00 10 08";
 
 const THREE_LINES: &str = "1 ok
    0  01           version 1
-   1  00           control: reply 0, priority 0
+   1  00           control: no reply expected, priority 0
    2  10           Unconfirmed-Request
    3  08           service choice 8 Who-Is
 2 refused Short at 0
    0               <- Short: the octets end, and more must come
 3 ok
    0  01           version 1
-   1  00           control: reply 0, priority 0
+   1  00           control: no reply expected, priority 0
    2  10           Unconfirmed-Request
    3  08           service choice 8 Who-Is
 ";
@@ -102,7 +102,7 @@ fn records_are_explained_in_turn(rt: HostRuntime) {
 /// The lines of the head of an Unconfirmed-Request of choice 9, which has no production.
 const HEAD_LINES: &str = "1 ok
    0  01           version 1
-   1  00           control: reply 0, priority 0
+   1  00           control: no reply expected, priority 0
    2  10           Unconfirmed-Request
    3  09           service choice 9
 ";
